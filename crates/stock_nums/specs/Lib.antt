@@ -1,0 +1,4 @@
+pub mod Calendar
+pub mod Causes
+pub mod Quantities
+pub mod Places

@@ -1,0 +1,12 @@
+//! The numbers, moments, places and movements that every crate of the stock ledger speaks of.
+#![tactic(auto)]
+
+pub mod cause;
+pub mod code;
+pub mod entry;
+pub mod head;
+pub mod lines;
+pub mod memory;
+pub mod moment;
+pub mod numbers;
+pub mod place;
