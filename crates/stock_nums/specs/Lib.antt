@@ -1,4 +1,5 @@
 pub mod Calendar
 pub mod Causes
-pub mod Quantities
+pub mod MomentText
 pub mod Places
+pub mod Quantities
