@@ -1,5 +1,6 @@
 pub mod Calendar
 pub mod Causes
+pub mod Codes
 pub mod MomentText
 pub mod Places
 pub mod Quantities
