@@ -1,6 +1,7 @@
-ghost use Rattle.std.specs.Prelude.{◌≡◌, ◌+◌, ◌*◌, ◌<◌, ◌↔◌, length, pos, IsTrue, IfOk, IsErrOf};
+ghost use Rattle.std.specs.Prelude.{◌≡◌, ◌+◌, ◌*◌, ◌<◌, ◌↔◌, ℕ, List, length, pos, IsTrue, IfOk, IsErrOf};
 ghost use Rattle.jiff.specs.Words.{IsDate};
 ghost use Rattle.stock_nums.specs.MomentText.{IsTwoDigits, two_digits, HasMomentShape, IsMomentInRange, SpellsMoment};
+ghost use Rattle.stock_nums.specs.declared.moment.Moment.{Moment};
 
 use crate::moment::Moment;
 use jiff::civil::Date;
@@ -38,6 +39,14 @@ pub fn read_moment(bytes: &[u8]) -> Result<Moment, MomentFault>
         second: 3600 * u32::from(hour) + 60 * u32::from(minute) + u32::from(second),
     })
 }
+
+/// Two texts that spell the same date and second are one text, and a text spells at most one moment.
+pub fn moments_have_one_spelling()
+    ensures one_spelling { (a b : List ℕ) (m n : Moment) → SpellsMoment a m → SpellsMoment b n →
+        m.date ≡ n.date → m.second ≡ n.second → a ≡ b }
+    ensures one_moment { (bytes : List ℕ) (m n : Moment) →
+        SpellsMoment bytes m → SpellsMoment bytes n → m ≡ n }
+{}
 
 /// Whether the bytes are `dddd-dd-ddTdd:dd:dd`, where each d is an ASCII digit.
 fn has_moment_shape(bytes: &[u8]) -> bool
