@@ -11,3 +11,4 @@ pub mod moment;
 pub mod moment_text;
 pub mod numbers;
 pub mod place;
+mod sending;
