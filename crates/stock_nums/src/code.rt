@@ -98,3 +98,37 @@ fn is_code_byte(byte: u8) -> bool
 {
     byte.is_ascii_alphanumeric() || matches!(byte, b'.' | b'_' | b'-')
 }
+
+#[cfg(test)]
+mod tests {
+    use super::*;
+    use std::test::Fail;
+
+    #[test]
+    fn keeps_its_spelling(rt: HostRuntime) -> Result<(), Fail> {
+        let code = Code::of(rt.alloc(), "TEE-1.kg")?;
+        let copy = code.copy(rt.alloc())?;
+        assert_eq!(rt; copy.text(), "TEE-1.kg");
+        assert!(rt; code == copy);
+        assert!(rt; code != Code::of(rt.alloc(), "tee-1.kg")?);
+        assert!(rt; code.is_well_formed());
+        Ok(())
+    }
+
+    #[test]
+    fn has_a_shape(rt: HostRuntime) {
+        let table = [
+            ("A", true),
+            ("az_AZ-09.", true),
+            ("123456789012345678901234", true),
+            ("1234567890123456789012345", false),
+            ("", false),
+            ("a b", false),
+            ("a/b", false),
+            ("Tür", false),
+        ];
+        for (text, want) in table {
+            assert_eq!(rt; has_code_shape(text), want, "{text}");
+        }
+    }
+}

@@ -94,3 +94,30 @@ fn is_date(year: u32, month: u8, day: u8) -> bool
 {
     year > 0 && Date::new(year as i16, month as i8, day as i8).is_ok()
 }
+
+#[cfg(test)]
+mod tests {
+    use super::*;
+
+    #[test]
+    fn reads_moments(rt: HostRuntime) {
+        let table = [
+            ("2024-02-29T23:59:59", Ok((20_240_229, 86_399))),
+            ("0001-01-01T00:00:00", Ok((10_101, 0))),
+            ("2026-01-03T07:08:09", Ok((20_260_103, 25_689))),
+            ("2026-02-29T00:00:00", Err(MomentFault::Range)),
+            ("0000-01-01T00:00:00", Err(MomentFault::Range)),
+            ("2026-01-01T24:00:00", Err(MomentFault::Range)),
+            ("2026-01-01T00:60:00", Err(MomentFault::Range)),
+            ("2026-01-01T00:00:60", Err(MomentFault::Range)),
+            ("2026-1-03T00:00:00", Err(MomentFault::Shape)),
+            ("2026-01-03 00:00:00", Err(MomentFault::Shape)),
+            ("2026-01-03T00:00:00Z", Err(MomentFault::Shape)),
+            ("+026-01-03T00:00:00", Err(MomentFault::Shape)),
+        ];
+        for (text, want) in table {
+            let read = read_moment(text.as_bytes()).map(|moment| (moment.date, moment.second));
+            assert_eq!(rt; read, want, "{text}");
+        }
+    }
+}
