@@ -1,7 +1,7 @@
 -- A moment has one spelling.
-use Rattle.std.proofs.Common.{◌≡◌, ℕ, suc, ◌+◌, ◌*◌, ◌<◌, ◌≤◌, List, [], ◌∷◌, length, get_or, drop, refl, sym, ap, ◌∙◌, arith, add-one, drop-cons}
+use Rattle.std.proofs.Common.{◌≡◌, ℕ, ◌+◌, ◌*◌, ◌<◌, List, length, get_or, drop, sym, ◌∙◌, arith, add-one, drop-cons}
 use Rattle.std.proofs.lemmas.List.{drop_all}
-use Rattle.stock_nums.specs.MomentText.{IsTwoDigits, two_digits, HasMomentShape, IsMomentInRange, SpellsMoment, year_digits}
+use Rattle.stock_nums.specs.MomentText.{IsTwoDigits, two_digits, HasMomentShape, SpellsMoment}
 use Rattle.stock_nums.specs.declared.moment.Moment.{Moment}
 use Rattle.stock_nums.proofs.PlaceOrder.{Moment-same}
 
