@@ -1,4 +1,4 @@
-ghost use Rattle.std.specs.Prelude.{◌≡◌, ◌==◌, [], ◌∷◌, ◌++◌, length, OnOk, OnErr};
+ghost use Rattle.std.specs.Prelude.{◌≡◌, ◌==◌, ◌≤◌, [], ◌∷◌, ◌++◌, length, OnOk, OnErr, insert};
 
 use crate::memory::NoMemory;
 use std::alloc::Global;
@@ -36,6 +36,18 @@ impl<T> Lines<T> {
         ensures unchanged { OnErr result (self.new ≡ self.old) }
     {
         self.items.push(item)?;
+        Ok(())
+    }
+
+    /// Puts an item at an index, before what stands there. For want of memory the item is dropped.
+    pub fn insert(&mut self, index: usize, item: T) -> Result<(), NoMemory>
+    where
+        T: Drop,
+        requires { index ≤ length self.old }
+        ensures put { OnOk result (self.new ≡ insert self.old index item) }
+        ensures unchanged { OnErr result (self.new ≡ self.old) }
+    {
+        self.items.insert(index, item)?;
         Ok(())
     }
 

@@ -1,0 +1,11 @@
+//! What a stock ledger means: the records, queries, faults and replies, and the definitions that the
+//! contracts of every crate above cite.
+#![tactic(auto)]
+
+pub mod deeds;
+pub mod faults;
+pub mod queries;
+pub mod records;
+pub mod replies;
+pub mod requests;
+pub mod vouchers;
