@@ -3,6 +3,10 @@ use Rattle.std.specs.Prelude.{ℕ, ◌+◌, List, [], ◌∷◌, ◌++◌, lengt
 use Rattle.std.specs.Option.{option_map}
 use Rattle.std.specs.List.{filter_map, enumerate_from}
 use Rattle.stock_nums.specs.declared.moment.Moment.{Moment}
+use Rattle.stock_nums.specs.declared.numbers.ItemNo.{ItemNo}
+use Rattle.stock_nums.specs.declared.numbers.StoreNo.{StoreNo}
+use Rattle.stock_nums.specs.declared.numbers.AccountNo.{AccountNo}
+use Rattle.stock_nums.specs.declared.cause.Method.{Method}
 use Rattle.stock_nums.specs.declared.cause.Cause.TheVariants as cause
 use Rattle.stock_nums.specs.declared.place.Side.TheVariants.{Enters}
 use Rattle.stock_nums.specs.declared.entry.Entry.{Entry}
@@ -10,17 +14,17 @@ use Rattle.stock_model.specs.declared.vouchers.What.{What}
 use Rattle.stock_model.specs.declared.vouchers.What.TheVariants.{Item, Store, Receipt}
 use Rattle.stock_model.specs.declared.vouchers.ReceiptLine.{ReceiptLine}
 use Rattle.stock_model.specs.declared.records.Record.{Record}
-use Rattle.stock_model.specs.Masters.{ItemHead, StoreHead, item_with, store_with}
+use Rattle.stock_model.specs.Masters.{item_with, store_with}
 
 -- what enters by a line of the receipt with this number and moment, its item and warehouse found
-abbrev pub received : ℕ → Moment → ℕ × ReceiptLine → ItemHead → StoreHead → Entry
+abbrev pub received : ℕ → Moment → ℕ × ReceiptLine → ItemNo × Method → StoreNo × AccountNo → Entry
 received n at line item store =
     record {
       place = record { moment = at; voucher = record { 0 = n }; line = line.0; side = Enters };
-      item = record { 0 = item.number };
-      store = record { 0 = store.number };
+      item = item.0;
+      store = store.0;
       qty = line.1.qty;
-      method = item.method;
+      method = item.1;
       cause = cause.Receipt line.1.amount;
       quantity = line.1.quantity;
       amounts = line.1.price;

@@ -4,8 +4,11 @@
 
 pub mod deeds;
 pub mod faults;
+pub mod masters;
+pub mod movements;
 pub mod queries;
 pub mod records;
+pub mod refusals;
 pub mod replies;
 pub mod requests;
 pub mod vouchers;
