@@ -1,7 +1,7 @@
 -- The movements of a record: one for one item and one warehouse each.
-use Rattle.std.specs.Prelude.{ℕ, ◌+◌, List, [], ◌∷◌, ◌++◌, length, Option, option_and_then}
-use Rattle.std.specs.Option.{option_map}
-use Rattle.std.specs.List.{filter_map, enumerate_from}
+use Rattle.std.specs.Prelude.{ℕ, ◌+◌, ◌-◌, List, [], ◌∷◌, ◌++◌, length, take, Option, option_and_then}
+use Rattle.std.specs.Option.{option_map, option_to_list}
+use Rattle.std.specs.List.{filter_map, enumerate_from, flat_map}
 use Rattle.stock_nums.specs.declared.moment.Moment.{Moment}
 use Rattle.stock_nums.specs.declared.numbers.ItemNo.{ItemNo}
 use Rattle.stock_nums.specs.declared.numbers.StoreNo.{StoreNo}
@@ -14,7 +14,7 @@ use Rattle.stock_model.specs.declared.vouchers.What.{What}
 use Rattle.stock_model.specs.declared.vouchers.What.TheVariants.{Item, Store, Receipt}
 use Rattle.stock_model.specs.declared.vouchers.ReceiptLine.{ReceiptLine}
 use Rattle.stock_model.specs.declared.records.Record.{Record}
-use Rattle.stock_model.specs.Masters.{item_with, store_with}
+use Rattle.stock_model.specs.Masters.{item_with, store_with, record_at}
 
 -- what enters by a line of the receipt with this number and moment, its item and warehouse found
 abbrev pub received : ℕ → Moment → ℕ × ReceiptLine → ItemNo × Method → StoreNo × AccountNo → Entry
@@ -53,3 +53,7 @@ entries_after journal (item ∷ rest) = entries journal item ++ entries_after (j
 -- the movements of all records of a journal, in the order of the records
 unfoldable pub all_entries : List Record → List Entry
 all_entries journal = entries_after [] journal
+
+-- the movements of the record with this number, from 1
+abbrev pub entries_of : List Record → ℕ → List Entry
+entries_of journal n = flat_map (entries (take (n - 1) journal)) (option_to_list (record_at journal n))

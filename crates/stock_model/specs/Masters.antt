@@ -1,5 +1,5 @@
 -- The items and warehouses of a journal. A record's number is its place in the journal, from 1.
-use Rattle.std.specs.Prelude.{ℕ, Bool, List, Option, Some, None, nat_eq}
+use Rattle.std.specs.Prelude.{ℕ, zero, suc, Bool, List, Option, Some, None, nat_eq, slice_get}
 use Rattle.std.specs.Option.{option_map}
 use Rattle.std.specs.List.{find, filter_map, enumerate_from}
 use Rattle.std.specs.Cmp.Lexicographic.{pointwise}
@@ -84,3 +84,8 @@ item_with journal code = option_map item_found (find (has_item_code code) (items
 -- the warehouse with this code. Items and warehouses may have the same codes
 abbrev pub store_with : List Record → List ℕ → Option (StoreNo × AccountNo)
 store_with journal code = option_map store_found (find (has_store_code code) (stores journal))
+
+-- the record with this number, from 1
+abbrev pub record_at : List Record → ℕ → Option Record
+record_at journal zero = None
+record_at journal (suc n) = slice_get journal n
