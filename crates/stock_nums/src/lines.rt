@@ -1,4 +1,4 @@
-ghost use Rattle.std.specs.Prelude.{◌≡◌, ◌==◌, [], ◌∷◌, ◌++◌, length, OnOk, OnErr};
+ghost use Rattle.std.specs.Prelude.{◌≡◌, ◌==◌, ◌≤◌, [], ◌∷◌, ◌++◌, length, OnOk, OnErr, insert};
 
 use crate::memory::NoMemory;
 use std::alloc::Global;
@@ -39,6 +39,18 @@ impl<T> Lines<T> {
         Ok(())
     }
 
+    /// Puts an item at an index, before what stands there. For want of memory the item is dropped.
+    pub fn insert(&mut self, index: usize, item: T) -> Result<(), NoMemory>
+    where
+        T: Drop,
+        requires { index ≤ length self.old }
+        ensures put { OnOk result (self.new ≡ insert self.old index item) }
+        ensures unchanged { OnErr result (self.new ≡ self.old) }
+    {
+        self.items.insert(index, item)?;
+        Ok(())
+    }
+
     /// The items in order.
     pub fn as_slice(&self) -> &[T]
         ensures { result.now ≡ self.now }
@@ -67,13 +79,14 @@ mod tests {
     use std::test::Fail;
 
     #[test]
-    fn grows_at_its_end(rt: HostRuntime) -> Result<(), Fail> {
+    fn grows(rt: HostRuntime) -> Result<(), Fail> {
         let mut lines = Lines::new(rt.alloc());
         assert!(rt; lines.is_empty());
         lines.push(3u32)?;
         lines.push(5)?;
-        assert_eq!(rt; lines.as_slice(), [3, 5].as_slice());
-        assert_eq!(rt; lines.len(), 2);
+        lines.insert(1, 4)?;
+        assert_eq!(rt; lines.as_slice(), [3, 4, 5].as_slice());
+        assert_eq!(rt; lines.len(), 3);
         Ok(())
     }
 }

@@ -1,0 +1,13 @@
+pub mod Limits
+pub mod Masters
+pub mod Entries
+pub mod PostingOrder
+pub mod Sums
+pub mod Values
+pub mod Replay
+pub mod Faults
+pub mod History
+pub mod Sheets
+pub mod Answers
+pub mod InputLines
+pub mod Run

@@ -1,0 +1,91 @@
+-- The items and warehouses of a journal. A record's number is its place in the journal, from 1.
+use Rattle.std.specs.Prelude.{ℕ, zero, suc, Bool, List, Option, Some, None, nat_eq, slice_get}
+use Rattle.std.specs.Option.{option_map}
+use Rattle.std.specs.List.{find, filter_map, enumerate_from}
+use Rattle.std.specs.Cmp.Lexicographic.{pointwise}
+use Rattle.stock_nums.specs.declared.cause.Method.{Method}
+use Rattle.stock_nums.specs.declared.head.Head.{Head}
+use Rattle.stock_nums.specs.declared.numbers.AccountNo.{AccountNo}
+use Rattle.stock_nums.specs.declared.numbers.ItemNo.{ItemNo}
+use Rattle.stock_nums.specs.declared.numbers.StoreNo.{StoreNo}
+use Rattle.stock_model.specs.declared.vouchers.What.{What}
+use Rattle.stock_model.specs.declared.vouchers.What.TheVariants.{Item, Store, Receipt}
+use Rattle.stock_model.specs.declared.records.Record.{Record}
+
+-- an item: the number of the record that made it, its code and its cost formula (IAS 2.25)
+pub record ItemHead : Type 0 where
+  pub number : ℕ
+  pub code : List ℕ
+  pub method : Method
+
+-- a warehouse: the number of the record that made it, its code and its ledger account
+pub record StoreHead : Type 0 where
+  pub number : ℕ
+  pub code : List ℕ
+  pub account : ℕ
+
+-- the item that the record with this number makes, if it makes one
+abbrev pub item_made : ℕ → What → Option ItemHead
+item_made n (Item code method) = Some (record { number = n; code = code; method = method })
+item_made n (Store code account) = None
+item_made n (Receipt at lines) = None
+
+-- the warehouse that the record with this number makes, if it makes one
+abbrev pub store_made : ℕ → What → Option StoreHead
+store_made n (Item code method) = None
+store_made n (Store code account) = Some (record { number = n; code = code; account = account.0 })
+store_made n (Receipt at lines) = None
+
+-- the head of what the record with this number makes, if it makes an item or a warehouse
+abbrev pub head_made : ℕ → What → Option Head
+head_made n (Item code method) = Some (record { number = record { 0 = n }; code = code; account = None })
+head_made n (Store code account) = Some (record { number = record { 0 = n }; code = code; account = Some account })
+head_made n (Receipt at lines) = None
+
+abbrev pub item_numbered : ℕ × Record → Option ItemHead
+item_numbered p = item_made p.0 p.1.what
+
+abbrev pub store_numbered : ℕ × Record → Option StoreHead
+store_numbered p = store_made p.0 p.1.what
+
+abbrev pub head_numbered : ℕ × Record → Option Head
+head_numbered p = head_made p.0 p.1.what
+
+-- the items of a journal, in the order of their numbers
+abbrev pub items : List Record → List ItemHead
+items journal = filter_map item_numbered (enumerate_from 1 journal)
+
+-- the warehouses of a journal, in the order of their numbers
+abbrev pub stores : List Record → List StoreHead
+stores journal = filter_map store_numbered (enumerate_from 1 journal)
+
+-- the items and warehouses of a journal, in the order of their numbers
+abbrev pub heads : List Record → List Head
+heads journal = filter_map head_numbered (enumerate_from 1 journal)
+
+abbrev pub has_item_code : List ℕ → ItemHead → Bool
+has_item_code code head = pointwise nat_eq head.code code
+
+abbrev pub has_store_code : List ℕ → StoreHead → Bool
+has_store_code code head = pointwise nat_eq head.code code
+
+-- an item as it is found: its number and its cost formula
+abbrev pub item_found : ItemHead → ItemNo × Method
+item_found head = (record { 0 = head.number }, head.method)
+
+-- a warehouse as it is found: its number and its account
+abbrev pub store_found : StoreHead → StoreNo × AccountNo
+store_found head = (record { 0 = head.number }, record { 0 = head.account })
+
+-- the item with this code
+abbrev pub item_with : List Record → List ℕ → Option (ItemNo × Method)
+item_with journal code = option_map item_found (find (has_item_code code) (items journal))
+
+-- the warehouse with this code. Items and warehouses may have the same codes
+abbrev pub store_with : List Record → List ℕ → Option (StoreNo × AccountNo)
+store_with journal code = option_map store_found (find (has_store_code code) (stores journal))
+
+-- the record with this number, from 1
+abbrev pub record_at : List Record → ℕ → Option Record
+record_at journal zero = None
+record_at journal (suc n) = slice_get journal n

@@ -1,0 +1,39 @@
+-- What entered and what left, of one item in one warehouse.
+use Rattle.std.specs.Prelude.{ℕ, Bool, true, false, ◌&&◌, ◌==◌, not, List, filter, sum_by, unsigned_abs}
+use Rattle.stock_nums.specs.declared.entry.Key.{Key}
+use Rattle.stock_nums.specs.declared.entry.Row.{Row}
+use Rattle.stock_nums.specs.declared.place.Side.{Side}
+use Rattle.stock_nums.specs.declared.place.Side.TheVariants.{Leaves, Enters}
+
+abbrev pub is_entering : Side → Bool
+is_entering Leaves = false
+is_entering Enters = true
+
+-- the row is of this item and this warehouse
+abbrev pub is_of : Key → Row → Bool
+is_of key row = (row.entry.item.0 == key.item.0) && (row.entry.store.0 == key.store.0)
+
+abbrev pub enters_at : Key → Row → Bool
+enters_at key row = is_of key row && is_entering row.entry.place.side
+
+abbrev pub leaves_at : Key → Row → Bool
+leaves_at key row = is_of key row && not (is_entering row.entry.place.side)
+
+abbrev pub units_of : Row → ℕ
+units_of row = row.entry.qty.0
+
+-- the value of a movement, which is never negative
+abbrev pub value_of : Row → ℕ
+value_of row = unsigned_abs row.worth.value.0
+
+abbrev pub quantity_in : List Row → Key → ℕ
+quantity_in rows key = sum_by units_of (filter (enters_at key) rows)
+
+abbrev pub quantity_out : List Row → Key → ℕ
+quantity_out rows key = sum_by units_of (filter (leaves_at key) rows)
+
+abbrev pub value_in : List Row → Key → ℕ
+value_in rows key = sum_by value_of (filter (enters_at key) rows)
+
+abbrev pub value_out : List Row → Key → ℕ
+value_out rows key = sum_by value_of (filter (leaves_at key) rows)

@@ -1,0 +1,14 @@
+//! What a stock ledger means: the records, queries, faults and replies, and the definitions that the
+//! contracts of every crate above cite.
+#![tactic(auto)]
+
+pub mod deeds;
+pub mod faults;
+pub mod masters;
+pub mod movements;
+pub mod queries;
+pub mod records;
+pub mod refusals;
+pub mod replies;
+pub mod requests;
+pub mod vouchers;

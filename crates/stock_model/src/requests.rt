@@ -1,0 +1,10 @@
+use crate::queries::Query;
+use crate::vouchers::What;
+
+/// What a line of input asks for.
+#[derive(Drop)]
+pub enum Request {
+    Post(What),
+    Settle,
+    Report(Query),
+}
