@@ -11,3 +11,4 @@ pub mod Sheets
 pub mod Answers
 pub mod InputLines
 pub mod Run
+pub mod Bounds

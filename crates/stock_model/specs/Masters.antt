@@ -4,7 +4,6 @@ use Rattle.std.specs.List.{find, filter_map, enumerate_from}
 use Rattle.std.specs.Cmp.Lexicographic.{pointwise}
 use Rattle.stock_nums.specs.declared.cause.Method.{Method}
 use Rattle.stock_nums.specs.declared.head.Head.{Head}
-use Rattle.stock_nums.specs.declared.numbers.AccountNo.{AccountNo}
 use Rattle.stock_model.specs.declared.vouchers.What.{What}
 use Rattle.stock_model.specs.declared.vouchers.What.TheVariants.{Item, Store, Receipt}
 use Rattle.stock_model.specs.declared.records.Record.{Record}

@@ -4,8 +4,12 @@
 
 pub mod deeds;
 pub mod faults;
+pub mod movements;
+pub mod posting;
 pub mod queries;
 pub mod records;
+pub mod replay;
 pub mod replies;
 pub mod requests;
+pub mod sheets;
 pub mod vouchers;
