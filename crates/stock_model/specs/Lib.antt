@@ -12,3 +12,4 @@ pub mod Answers
 pub mod InputLines
 pub mod Run
 pub mod Bounds
+pub mod Worked

@@ -13,3 +13,4 @@ pub mod replies;
 pub mod requests;
 pub mod sheets;
 pub mod vouchers;
+pub mod worked;
