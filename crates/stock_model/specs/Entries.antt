@@ -1,8 +1,12 @@
 -- The movements of a record: one for one item and one warehouse each.
-use Rattle.std.specs.Prelude.{ℕ, ◌+◌, List, [], ◌∷◌, ◌++◌, length, Option, option_and_then}
-use Rattle.std.specs.Option.{option_map}
-use Rattle.std.specs.List.{filter_map, enumerate_from}
+use Rattle.std.specs.Prelude.{ℕ, ◌+◌, ◌-◌, List, [], ◌∷◌, ◌++◌, length, take, Option, option_and_then}
+use Rattle.std.specs.Option.{option_map, option_to_list}
+use Rattle.std.specs.List.{filter_map, enumerate_from, flat_map}
 use Rattle.stock_nums.specs.declared.moment.Moment.{Moment}
+use Rattle.stock_nums.specs.declared.numbers.ItemNo.{ItemNo}
+use Rattle.stock_nums.specs.declared.numbers.StoreNo.{StoreNo}
+use Rattle.stock_nums.specs.declared.numbers.AccountNo.{AccountNo}
+use Rattle.stock_nums.specs.declared.cause.Method.{Method}
 use Rattle.stock_nums.specs.declared.cause.Cause.TheVariants as cause
 use Rattle.stock_nums.specs.declared.place.Side.TheVariants.{Enters}
 use Rattle.stock_nums.specs.declared.entry.Entry.{Entry}
@@ -10,17 +14,17 @@ use Rattle.stock_model.specs.declared.vouchers.What.{What}
 use Rattle.stock_model.specs.declared.vouchers.What.TheVariants.{Item, Store, Receipt}
 use Rattle.stock_model.specs.declared.vouchers.ReceiptLine.{ReceiptLine}
 use Rattle.stock_model.specs.declared.records.Record.{Record}
-use Rattle.stock_model.specs.Masters.{ItemHead, StoreHead, item_with, store_with}
+use Rattle.stock_model.specs.Masters.{item_with, store_with, record_at}
 
 -- what enters by a line of the receipt with this number and moment, its item and warehouse found
-abbrev pub received : ℕ → Moment → ℕ × ReceiptLine → ItemHead → StoreHead → Entry
+abbrev pub received : ℕ → Moment → ℕ × ReceiptLine → ItemNo × Method → StoreNo × AccountNo → Entry
 received n at line item store =
     record {
       place = record { moment = at; voucher = record { 0 = n }; line = line.0; side = Enters };
-      item = record { 0 = item.number };
-      store = record { 0 = store.number };
+      item = item.0;
+      store = store.0;
       qty = line.1.qty;
-      method = item.method;
+      method = item.1;
       cause = cause.Receipt line.1.amount;
       quantity = line.1.quantity;
       amounts = line.1.price;
@@ -49,3 +53,7 @@ entries_after journal (item ∷ rest) = entries journal item ++ entries_after (j
 -- the movements of all records of a journal, in the order of the records
 unfoldable pub all_entries : List Record → List Entry
 all_entries journal = entries_after [] journal
+
+-- the movements of the record with this number, from 1
+abbrev pub entries_of : List Record → ℕ → List Entry
+entries_of journal n = flat_map (entries (take (n - 1) journal)) (option_to_list (record_at journal n))

@@ -1,9 +1,13 @@
 -- The items and warehouses of a journal. A record's number is its place in the journal, from 1.
-use Rattle.std.specs.Prelude.{ℕ, Bool, List, Option, Some, None, nat_eq}
+use Rattle.std.specs.Prelude.{ℕ, zero, suc, Bool, List, Option, Some, None, nat_eq, slice_get}
+use Rattle.std.specs.Option.{option_map}
 use Rattle.std.specs.List.{find, filter_map, enumerate_from}
 use Rattle.std.specs.Cmp.Lexicographic.{pointwise}
 use Rattle.stock_nums.specs.declared.cause.Method.{Method}
 use Rattle.stock_nums.specs.declared.head.Head.{Head}
+use Rattle.stock_nums.specs.declared.numbers.AccountNo.{AccountNo}
+use Rattle.stock_nums.specs.declared.numbers.ItemNo.{ItemNo}
+use Rattle.stock_nums.specs.declared.numbers.StoreNo.{StoreNo}
 use Rattle.stock_model.specs.declared.vouchers.What.{What}
 use Rattle.stock_model.specs.declared.vouchers.What.TheVariants.{Item, Store, Receipt}
 use Rattle.stock_model.specs.declared.records.Record.{Record}
@@ -65,10 +69,23 @@ has_item_code code head = pointwise nat_eq head.code code
 abbrev pub has_store_code : List ℕ → StoreHead → Bool
 has_store_code code head = pointwise nat_eq head.code code
 
+-- an item as it is found: its number and its cost formula
+abbrev pub item_found : ItemHead → ItemNo × Method
+item_found head = (record { 0 = head.number }, head.method)
+
+-- a warehouse as it is found: its number and its account
+abbrev pub store_found : StoreHead → StoreNo × AccountNo
+store_found head = (record { 0 = head.number }, record { 0 = head.account })
+
 -- the item with this code
-abbrev pub item_with : List Record → List ℕ → Option ItemHead
-item_with journal code = find (has_item_code code) (items journal)
+abbrev pub item_with : List Record → List ℕ → Option (ItemNo × Method)
+item_with journal code = option_map item_found (find (has_item_code code) (items journal))
 
 -- the warehouse with this code. Items and warehouses may have the same codes
-abbrev pub store_with : List Record → List ℕ → Option StoreHead
-store_with journal code = find (has_store_code code) (stores journal)
+abbrev pub store_with : List Record → List ℕ → Option (StoreNo × AccountNo)
+store_with journal code = option_map store_found (find (has_store_code code) (stores journal))
+
+-- the record with this number, from 1
+abbrev pub record_at : List Record → ℕ → Option Record
+record_at journal zero = None
+record_at journal (suc n) = slice_get journal n

@@ -4,10 +4,12 @@
 
 pub mod deeds;
 pub mod faults;
+pub mod masters;
 pub mod movements;
 pub mod posting;
 pub mod queries;
 pub mod records;
+pub mod refusals;
 pub mod replay;
 pub mod replies;
 pub mod requests;

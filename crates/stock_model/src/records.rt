@@ -1,7 +1,9 @@
-ghost use Rattle.std.specs.Prelude.{◌≤◌, IsTrue};
+ghost use Rattle.std.specs.Prelude.{◌≡◌, ◌≤◌, IsTrue, IfOk};
 ghost use Rattle.stock_model.specs.Limits.{is_within_limits};
 
 use crate::vouchers::What;
+use std::alloc::Global;
+use stock_nums::memory::NoMemory;
 use stock_nums::numbers::DeskNo;
 
 /// What a desk posts. An accepted record is never changed.
@@ -12,4 +14,16 @@ pub struct Record {
     pub what: What,
     pub ghost desks: { desk.0 ≤ 16 },
     pub ghost limits: { IsTrue (is_within_limits what) },
+}
+
+impl Record {
+    /// An equal record.
+    pub fn copy(&self, alloc: Global) -> Result<Record, NoMemory>
+        ensures { IfOk result (λ copy. copy ≡ self.now) }
+    {
+        Ok(Record {
+            desk: self.desk,
+            what: self.what.copy(alloc)?,
+        })
+    }
 }

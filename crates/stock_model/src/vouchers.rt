@@ -1,9 +1,11 @@
-ghost use Rattle.std.specs.Prelude.{IsTrue};
+ghost use Rattle.std.specs.Prelude.{◌≡◌, IsTrue, IfOk};
 ghost use Rattle.stock_nums.specs.Quantities.{IsLineQuantity, is_line_amount};
 
+use std::alloc::Global;
 use stock_nums::cause::Method;
 use stock_nums::code::Code;
 use stock_nums::lines::Lines;
+use stock_nums::memory::NoMemory;
 use stock_nums::moment::Moment;
 use stock_nums::numbers::{AccountNo, Minor, Qty};
 
@@ -38,4 +40,50 @@ pub enum What {
         at: Moment,
         lines: Lines<ReceiptLine>,
     },
+}
+
+impl ReceiptLine {
+    /// An equal line.
+    pub fn copy(&self, alloc: Global) -> Result<ReceiptLine, NoMemory>
+        ensures { IfOk result (λ copy. copy ≡ self.now) }
+    {
+        Ok(ReceiptLine {
+            item: self.item.copy(alloc)?,
+            store: self.store.copy(alloc)?,
+            qty: self.qty,
+            amount: self.amount,
+        })
+    }
+}
+
+impl What {
+    /// An equal value.
+    pub fn copy(&self, alloc: Global) -> Result<What, NoMemory>
+        ensures { IfOk result (λ copy. copy ≡ self.now) }
+    {
+        match self {
+            What::Item { code, method } => Ok(What::Item {
+                code: code.copy(alloc)?,
+                method: *method,
+            }),
+            What::Store { code, account } => Ok(What::Store {
+                code: code.copy(alloc)?,
+                account: *account,
+            }),
+            What::Receipt { at, lines } => Ok(What::Receipt {
+                at: *at,
+                lines: copy_lines(alloc, lines.as_slice())?,
+            }),
+        }
+    }
+}
+
+fn copy_lines(alloc: Global, lines: &[ReceiptLine]) -> Result<Lines<ReceiptLine>, NoMemory>
+    ensures { IfOk result (λ copy. copy ≡ lines.now) }
+{
+    let mut copy = Lines::new(alloc);
+    for line in lines {
+        copy.push(line.copy(alloc)?)?;
+    }
+    Ok(copy)
 }

@@ -1,0 +1,62 @@
+//! Why a record is refused, whatever room there is.
+ghost use Rattle.std.specs.Prelude.{◌≡◌, ◌^◌, ◌<◌, ◌≤◌, length};
+ghost use Rattle.std.specs.Option.{option_map, option_or};
+ghost use Rattle.stock_model.specs.Faults.{first_line, lacks_item, lacks_store, voucher_fault};
+
+use crate::faults::PostFault;
+use crate::masters::{item_with, store_with};
+use crate::records::Record;
+use crate::vouchers::{ReceiptLine, What};
+
+/// The first fault of what a record says, read as the next one after these. It looks for a taken code,
+/// then for an unknown item, then for an unknown warehouse. None exactly where there is none.
+pub fn voucher_fault(records: &[Record], item: &Record) -> Option<PostFault>
+    requires { length records.now < 2 ^ 32 }
+    ensures { result ≡ voucher_fault records.now item.now.what }
+{
+    match &item.what {
+        What::Item { code, method: _ } => item_with(records, code).map(|_| PostFault::CodeTaken),
+        What::Store { code, account: _ } => store_with(records, code).map(|_| PostFault::CodeTaken),
+        What::Receipt { at: _, lines } => unknown_name(records, lines.as_slice()),
+    }
+}
+
+fn unknown_name(records: &[Record], lines: &[ReceiptLine]) -> Option<PostFault>
+    requires records { length records.now < 2 ^ 32 }
+    requires lines { length lines.now ≤ 100 }
+    ensures { result ≡ option_or (option_map PostFault.UnknownItem (first_line (lacks_item records.now) 1 lines.now)) (option_map PostFault.UnknownStore (first_line (lacks_store records.now) 1 lines.now)) }
+{
+    if let Some(line) = unknown_item(records, lines) {
+        return Some(PostFault::UnknownItem { line });
+    }
+    if let Some(line) = unknown_store(records, lines) {
+        return Some(PostFault::UnknownStore { line });
+    }
+    None
+}
+
+fn unknown_item(records: &[Record], lines: &[ReceiptLine]) -> Option<u32>
+    requires records { length records.now < 2 ^ 32 }
+    requires lines { length lines.now ≤ 100 }
+    ensures { result ≡ first_line (lacks_item records.now) 1 lines.now }
+{
+    for (i, line) in lines.iter().enumerate() {
+        if item_with(records, &line.item).is_none() {
+            return Some(i as u32 + 1);
+        }
+    }
+    None
+}
+
+fn unknown_store(records: &[Record], lines: &[ReceiptLine]) -> Option<u32>
+    requires records { length records.now < 2 ^ 32 }
+    requires lines { length lines.now ≤ 100 }
+    ensures { result ≡ first_line (lacks_store records.now) 1 lines.now }
+{
+    for (i, line) in lines.iter().enumerate() {
+        if store_with(records, &line.store).is_none() {
+            return Some(i as u32 + 1);
+        }
+    }
+    None
+}

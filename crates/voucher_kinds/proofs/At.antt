@@ -1,0 +1,19 @@
+-- The record with a number, as an index finds it.
+use Rattle.std.proofs.Common.{◌≡◌, ℕ, zero, suc, ◌-◌, ◌<◌, ◌≤◌, List, length, take, get_or, slice_get, Some, refl, ap, ◌∙◌, arith}
+use Rattle.std.proofs.lemmas.Option.{slice_get_read}
+use Rattle.std.proofs.lemmas.List.{append-nil}
+use Rattle.stock_model.specs.declared.records.Record.{Record}
+use Rattle.stock_model.specs.Masters.{record_at}
+use Rattle.stock_model.specs.Entries.{entries, entries_of}
+
+-- the record with a number is the one before which number - 1 stand
+pub record_at-index : (journal : List Record) (n : ℕ) (item : Record) → 0 < n → n ≤ length journal → item ≡ get_or journal (n - 1) item → record_at journal n ≡ Some item
+record_at-index journal zero item one held is = absurd (omega arith)
+record_at-index journal (suc n) item one held is =
+    let before : suc n - 1 ≡ n = omega arith in
+    slice_get_read journal (length journal) n item refl (omega arith) (is ∙ ap (λ (i : ℕ). get_or journal i item) before)
+
+-- its movements are read in the journal before it
+pub entries_of-index : (journal : List Record) (n : ℕ) (item : Record) → 0 < n → n ≤ length journal → item ≡ get_or journal (n - 1) item → entries_of journal n ≡ entries (take (n - 1) journal) item
+entries_of-index journal n item one held is =
+    rw (record_at-index journal n item one held is) (append-nil (entries (take (n - 1) journal) item))

@@ -1,0 +1,1 @@
+-- This crate cites the definitions of the crate of meaning alone.

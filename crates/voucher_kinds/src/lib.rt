@@ -1,0 +1,8 @@
+//! The records that desks post, and the journal that keeps them.
+#![tactic(auto)]
+
+pub use stock_model::faults::PostFault;
+pub use stock_model::records::Record;
+pub use stock_model::vouchers::{ReceiptLine, What};
+
+pub mod journal;
