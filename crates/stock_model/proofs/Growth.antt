@@ -3,9 +3,7 @@ use Rattle.std.proofs.Common.{◌≡◌, ℕ, zero, suc, ◌+◌, ◌≤◌, Boo
 use Rattle.std.specs.List.{list_all}
 use Rattle.std.proofs.lemmas.List.{append-nil}
 use Rattle.std.proofs.lemmas.List.Folds.{list_all-append}
-use Rattle.std.proofs.lemmas.List.Sums.{fold-append, fold_push}
-use Rattle.std.proofs.lemmas.Bool.Decides.{nat_tests}
-use Rattle.std.proofs.lemmas.Grind.{common_steps}
+use Rattle.std.proofs.lemmas.List.Sums.{fold-append}
 use Rattle.stock_nums.specs.Causes.{has_amounts_in_range}
 use Rattle.stock_nums.specs.Places.{is_before}
 use Rattle.stock_nums.specs.Quantities.{is_line_amount}
@@ -18,7 +16,7 @@ use Rattle.stock_model.specs.Bounds.{has_value_in_range, AreBounded}
 use Rattle.stock_model.specs.Entries.{entries, entries_after, all_entries}
 use Rattle.stock_model.specs.Faults.{max_entries}
 use Rattle.stock_model.specs.PostingOrder.{put, put_all, posting_line}
-use Rattle.stock_model.specs.Replay.{valued, value_next, rows_of, replay}
+use Rattle.stock_model.specs.Replay.{valued, value_next, replay}
 use Rattle.stock_model.specs.Values.{value_by}
 
 -- one more record at the end adds its movements at the end

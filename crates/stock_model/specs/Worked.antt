@@ -1,5 +1,5 @@
 -- A first run, as an example: one item, one warehouse, one receipt.
-use Rattle.std.specs.Prelude.{ℕ, pos, List, [], ◌∷◌, ◌++◌, refl}
+use Rattle.std.specs.Prelude.{ℕ, pos, List, [], ◌∷◌, refl}
 use Rattle.std.proofs.Common.{lit<, lit≤}
 use Rattle.stock_nums.specs.Calendar.{IsCalendarDate}
 use Rattle.stock_nums.specs.declared.cause.Method.TheVariants.{Average}
