@@ -13,3 +13,4 @@ pub mod InputLines
 pub mod Run
 pub mod Bounds
 pub mod Worked
+pub mod InOrder

@@ -4,6 +4,7 @@
 
 pub mod deeds;
 pub mod faults;
+pub mod laws;
 pub mod masters;
 pub mod movements;
 pub mod posting;
