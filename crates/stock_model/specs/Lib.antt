@@ -11,3 +11,6 @@ pub mod Sheets
 pub mod Answers
 pub mod InputLines
 pub mod Run
+pub mod Bounds
+pub mod Worked
+pub mod InOrder

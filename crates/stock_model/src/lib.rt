@@ -4,11 +4,16 @@
 
 pub mod deeds;
 pub mod faults;
+pub mod laws;
 pub mod masters;
 pub mod movements;
+pub mod posting;
 pub mod queries;
 pub mod records;
 pub mod refusals;
+pub mod replay;
 pub mod replies;
 pub mod requests;
+pub mod sheets;
 pub mod vouchers;
+pub mod worked;

@@ -1,0 +1,5 @@
+pub mod Bounds
+pub mod Growth
+pub mod Pairwise
+pub mod Distinct
+pub mod PostingLine
