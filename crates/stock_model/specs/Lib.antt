@@ -11,3 +11,5 @@ pub mod Sheets
 pub mod Answers
 pub mod InputLines
 pub mod Run
+pub mod Bounds
+pub mod Worked
