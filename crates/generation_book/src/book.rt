@@ -98,14 +98,15 @@ impl Book {
         ensures unchanged { OnErr result (self.new ≡ self.old) }
     {
         let accepted = RecordNo(self.journal.count());
-        if self.covered.0 < accepted.0 {
-            let rows = replay::replay(alloc, self.journal.records())?;
-            self.events.reserve(1)?;
-            self.events.push_reserved(Event::Published(accepted));
-            self.covered = accepted;
-            self.rows = rows;
+        if self.covered.0 >= accepted.0 {
+            return Ok(self.covered);
         }
-        Ok(self.covered)
+        let rows = replay::replay(alloc, self.journal.records())?;
+        self.events.reserve(1)?;
+        self.events.push_reserved(Event::Published(accepted));
+        self.covered = accepted;
+        self.rows = rows;
+        Ok(accepted)
     }
 
     /// What a report is made from.
