@@ -10,3 +10,5 @@ pub mod sink;
 pub mod source;
 pub mod standard;
 pub mod sure;
+#[cfg(test)]
+mod tests;

@@ -1,6 +1,6 @@
-ghost use Rattle.std.specs.Prelude.{◌≡◌, ℕ, ◌+◌, ◌-◌, ◌^◌, ◌<◌, ◌≤◌, length, take, IfOk, OnErr};
+ghost use Rattle.std.specs.Prelude.{◌≡◌, ◌+◌, ◌<◌, length, IfOk, OnOk, OnErr};
 ghost use Rattle.std.specs.Io.{ReadsAtMost, WritesAtMost};
-ghost use Rattle.stock_io.specs.Counts.{Rose, NeverFalls};
+ghost use Rattle.stock_io.specs.Counts.{NeverFalls, raised};
 
 use crate::failed::Failed;
 use crate::sink::Sink;
@@ -62,7 +62,13 @@ impl<R: Input> Source for StdSource<R> {
 
     // One read of the input, so that what is there comes at once. Where the buffer could take the
     // count of bytes past its end, the read fails.
-    fn read(&mut self, buf: &mut [u8]) -> Result<usize, Failed> {
+    fn read(&mut self, buf: &mut [u8]) -> Result<usize, Failed>
+        requires { 0 < length buf.old }
+        ensures bound { ReadsAtMost result buf.new }
+        ensures never_falls { NeverFalls self.old.faults self.new.faults }
+        ensures after_ok { IfOk result (λ n. self.new ≡ record { taken = self.old.taken + n; faults = self.old.faults }) }
+        ensures after_failed { OnErr result (self.new ≡ record { taken = self.old.taken; faults = raised self.old.faults }) }
+    {
         let room = u64::MAX - self.taken;
         if buf.len() as u64 <= room
             && let Ok(n) = self.reader.read(buf)
@@ -126,7 +132,14 @@ impl<P: Print> Sink for StdSink<P> {
     ghost faults = { λ count. count };
 
     // One write to the stream, which holds nothing back. A stream that takes nothing failed.
-    fn write(&mut self, bytes: &[u8]) -> Result<usize, Failed> {
+    fn write(&mut self, bytes: &[u8]) -> Result<usize, Failed>
+        requires { 0 < length bytes.now }
+        ensures some { IfOk result (λ n. 0 < n) }
+        ensures bound { WritesAtMost result bytes.now }
+        ensures never_falls { NeverFalls self.old self.new }
+        ensures after_ok { OnOk result (self.new ≡ self.old) }
+        ensures after_failed { OnErr result (self.new ≡ raised self.old) }
+    {
         match self.stream.write_some(bytes) {
             Ok(n) if n > 0 => Ok(n),
             _ => {
