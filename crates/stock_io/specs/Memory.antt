@@ -1,5 +1,5 @@
 -- What contracts see of the sources and sinks in memory.
-use Rattle.std.specs.Prelude.{ℕ, ◌+◌, ◌-◌, ◌≤◌, List, length, drop, min, Contains}
+use Rattle.std.specs.Prelude.{ℕ, ◌+◌, ◌-◌, ◌≤◌, List, [], ◌++◌, length, drop, min, Contains}
 use Rattle.stock_io.specs.Counts.{raised}
 
 -- which calls fail: the numbers of those that do, counted from 1, and how many calls there were and faults
@@ -51,16 +51,40 @@ pub record PlannedSupply : Type 0 where
   pub supply : Supply
   pub plan : Plan
 
+-- the source before the first read
+abbrev pub new_source : List ℕ → ℕ → List ℕ → PlannedSupply
+new_source bytes piece failing = record { supply = new_supply bytes piece; plan = new_plan failing }
+
+-- the source after a read that took so many bytes
+abbrev pub after_read : PlannedSupply → ℕ → PlannedSupply
+after_read source n = record { supply = after_taking source.supply n; plan = after_call source.plan }
+
+-- the source after a read that failed
+abbrev pub after_failed_read : PlannedSupply → PlannedSupply
+after_failed_read source = record { supply = source.supply; plan = after_failure source.plan }
+
 -- a sink in memory: the bytes that were written, how many it takes in all, and which writes fail
 pub record PlannedStore : Type 0 where
   pub written : List ℕ
   pub room : ℕ
   pub plan : Plan
 
+-- the sink before the first write
+abbrev pub new_sink : ℕ → List ℕ → PlannedStore
+new_sink room failing = record { written = []; room = room; plan = new_plan failing }
+
 -- the sink takes no more
 abbrev pub IsFull : PlannedStore → Type 0
-IsFull store = store.room ≤ length store.written
+IsFull sink = sink.room ≤ length sink.written
 
 -- how many of so many bytes a write takes
 abbrev pub write_len : PlannedStore → ℕ → ℕ
-write_len store given = min given (store.room - length store.written)
+write_len sink given = min given (sink.room - length sink.written)
+
+-- the sink after a write that took these bytes
+abbrev pub after_write : PlannedStore → List ℕ → PlannedStore
+after_write sink bytes = record { written = sink.written ++ bytes; room = sink.room; plan = after_call sink.plan }
+
+-- the sink after a write that failed
+abbrev pub after_failed_write : PlannedStore → PlannedStore
+after_failed_write sink = record { written = sink.written; room = sink.room; plan = after_failure sink.plan }

@@ -1,8 +1,7 @@
-ghost use Rattle.std.specs.Prelude.{◌≡◌, ℕ, ◌+◌, ◌-◌, ◌<◌, ◌≤◌, ◌↔◌, ◌⊎◌, [], ◌++◌, min, length, take, IfOk, OnErr, IsErr};
+ghost use Rattle.std.specs.Prelude.{◌≡◌, ◌<◌, ◌↔◌, ◌⊎◌, length, take, IfOk, OnErr, IsErr};
 ghost use Rattle.std.specs.Io.{WritesAtMost};
-ghost use Rattle.std.specs.Io.KnownBytes.{Appends};
-ghost use Rattle.stock_io.specs.Counts.{Rose, NeverFalls};
-ghost use Rattle.stock_io.specs.Memory.{new_plan, NextFails, after_call, after_failure, IsFull, write_len};
+ghost use Rattle.stock_io.specs.Counts.{NeverFalls};
+ghost use Rattle.stock_io.specs.Memory.{NextFails, IsFull, write_len, new_sink, after_write, after_failed_write};
 
 use crate::failed::Failed;
 use crate::plan::FailurePlan;
@@ -35,7 +34,7 @@ impl MemSink {
     /// A sink with room for so many bytes, which is taken now: a write takes no memory. The writes
     /// whose numbers, counted from 1, stand in `failing` fail.
     pub fn new(alloc: Global, room: usize, failing: Lines<u64>) -> Result<MemSink, NoMemory>
-        ensures { IfOk result (λ sink. sink ≡ record { written = []; room = room; plan = new_plan failing }) }
+        ensures { IfOk result (λ sink. sink ≡ new_sink room failing) }
     {
         Ok(MemSink {
             bytes: Vec::with_capacity(alloc, room)?,
@@ -70,15 +69,13 @@ impl Sink for MemSink {
         requires { 0 < length bytes.now }
         ensures some { IfOk result (λ n. 0 < n) }
         ensures bound { WritesAtMost result bytes.now }
-        ensures bytes { IfOk result (λ n. Appends (Some self.old.written) (Some self.new.written) (take n bytes.now)) }
         ensures never_falls { NeverFalls self.old.plan.faults self.new.plan.faults }
-        ensures cause { OnErr result (Rose self.old.plan.faults self.new.plan.faults) }
 
-        // Which writes fail, how many bytes the others take, and what is left as it was.
+        // Which writes fail, how many bytes the others take, and what each leaves.
         ensures planned { IsErr result ↔ (NextFails self.old.plan ⊎ IsFull self.old) }
         ensures amount { IfOk result (λ n. n ≡ write_len self.old (length bytes.now)) }
-        ensures after_ok { IfOk result (λ n. self.new ≡ record { written = self.old.written ++ take n bytes.now; room = self.old.room; plan = after_call self.old.plan }) }
-        ensures after_failed { OnErr result (self.new ≡ record { written = self.old.written; room = self.old.room; plan = after_failure self.old.plan }) }
+        ensures after_ok { IfOk result (λ n. self.new ≡ after_write self.old (take n bytes.now)) }
+        ensures after_failed { OnErr result (self.new ≡ after_failed_write self.old) }
     {
         if self.plan.next_fails() {
             return Err(Failed);

@@ -1,8 +1,7 @@
-ghost use Rattle.std.specs.Prelude.{◌≡◌, ℕ, ◌+◌, ◌<◌, ◌↔◌, [], length, take, IfOk, OnErr, IsErr};
+ghost use Rattle.std.specs.Prelude.{◌≡◌, ◌<◌, ◌↔◌, [], ◌++◌, length, take, IfOk, OnErr, IsErr};
 ghost use Rattle.std.specs.Io.{ReadsAtMost};
-ghost use Rattle.std.specs.Io.KnownBytes.{Consumes};
-ghost use Rattle.stock_io.specs.Counts.{Rose, NeverFalls};
-ghost use Rattle.stock_io.specs.Memory.{new_plan, NextFails, after_call, after_failure, new_supply, read_len, after_taking};
+ghost use Rattle.stock_io.specs.Counts.{NeverFalls};
+ghost use Rattle.stock_io.specs.Memory.{NextFails, read_len, new_source, after_read, after_failed_read};
 
 use crate::failed::Failed;
 use crate::plan::FailurePlan;
@@ -31,7 +30,7 @@ impl MemSource {
     /// counted from 1, stand in `failing` fail.
     pub fn new(bytes: Lines<u8>, piece: usize, failing: Lines<u64>) -> MemSource
         requires { 0 < piece }
-        ensures { result ≡ record { supply = new_supply bytes piece; plan = new_plan failing } }
+        ensures { result ≡ new_source bytes piece failing }
     {
         MemSource {
             source: SureSource::new(bytes, piece),
@@ -66,17 +65,15 @@ impl Source for MemSource {
     fn read(&mut self, buf: &mut [u8]) -> Result<usize, Failed>
         requires { 0 < length buf.old }
         ensures bound { ReadsAtMost result buf.new }
-        ensures bytes { IfOk result (λ n. Consumes (Some self.old.supply.left) (Some self.new.supply.left) (take n buf.new)) }
+        ensures bytes { IfOk result (λ n. self.old.supply.left ≡ take n buf.new ++ self.new.supply.left) }
         ensures end { IfOk result (λ n. n ≡ 0 → self.old.supply.left ≡ []) }
-        ensures count { IfOk result (λ n. self.new.supply.taken ≡ self.old.supply.taken + n) }
         ensures never_falls { NeverFalls self.old.plan.faults self.new.plan.faults }
-        ensures cause { OnErr result (Rose self.old.plan.faults self.new.plan.faults) }
 
-        // Which reads fail, how many bytes the others take, and what is left as it was.
+        // Which reads fail, how many bytes the others take, and what each leaves.
         ensures planned { IsErr result ↔ NextFails self.old.plan }
         ensures amount { IfOk result (λ n. n ≡ read_len self.old.supply (length buf.old)) }
-        ensures after_ok { IfOk result (λ n. self.new ≡ record { supply = after_taking self.old.supply n; plan = after_call self.old.plan }) }
-        ensures after_failed { OnErr result (self.new ≡ record { supply = self.old.supply; plan = after_failure self.old.plan }) }
+        ensures after_ok { IfOk result (λ n. self.new ≡ after_read self.old n) }
+        ensures after_failed { OnErr result (self.new ≡ after_failed_read self.old) }
     {
         if self.plan.next_fails() {
             return Err(Failed);

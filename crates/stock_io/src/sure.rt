@@ -1,6 +1,5 @@
-ghost use Rattle.std.specs.Prelude.{◌≡◌, ℕ, ◌+◌, ◌<◌, ◌≤◌, [], min, ◌++◌, length, take, drop, IfOk, OnErr};
-ghost use Rattle.std.specs.Io.{ReadsAtMost, WritesAtMost};
-ghost use Rattle.std.specs.Io.KnownBytes.{Consumes, IsAtEnd};
+ghost use Rattle.std.specs.Prelude.{◌≡◌, ◌<◌, [], min, ◌++◌, length, take, drop, IfOk};
+ghost use Rattle.std.specs.Io.{ReadsAtMost};
 ghost use Rattle.stock_io.specs.Memory.{new_supply, read_len, after_taking};
 
 use crate::failed::Failed;
@@ -61,9 +60,8 @@ impl Source for SureSource {
     fn read(&mut self, buf: &mut [u8]) -> Result<usize, Failed>
         requires { 0 < length buf.old }
         ensures bound { ReadsAtMost result buf.new }
-        ensures bytes { IfOk result (λ n. Consumes (Some self.old.left) (Some self.new.left) (take n buf.new)) }
+        ensures bytes { IfOk result (λ n. self.old.left ≡ take n buf.new ++ self.new.left) }
         ensures end { IfOk result (λ n. n ≡ 0 → self.old.left ≡ []) }
-        ensures count { IfOk result (λ n. self.new.taken ≡ self.old.taken + n) }
         ensures amount { result ≡ Ok (read_len self.old (length buf.old)) }
         ensures after { self.new ≡ after_taking self.old (read_len self.old (length buf.old)) }
     {
