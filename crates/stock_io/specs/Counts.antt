@@ -12,8 +12,3 @@ NeverFalls before now = before ≤ now
 -- the count after one more, which stays at its end
 abbrev pub raised : ℕ → ℕ
 raised count = min (count + 1) (2 ^ 64 - 1)
-
--- what contracts see of a source over an input of the system
-pub record Reading : Type 0 where
-  pub taken : ℕ
-  pub faults : ℕ

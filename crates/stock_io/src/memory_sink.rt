@@ -89,6 +89,7 @@ impl Sink for MemSink {
         let piece = &bytes[..n];
         match self.bytes.extend_from_slice(piece) {
             Ok(()) => Ok(n),
+            // The room was taken at the start.
             Err(_) => unreachable!(),
         }
     }

@@ -65,7 +65,8 @@ impl Source for MemSource {
     fn read(&mut self, buf: &mut [u8]) -> Result<usize, Failed>
         requires { 0 < length buf.old }
         ensures bound { ReadsAtMost result buf.new }
-        ensures bytes { IfOk result (λ n. self.old.supply.left ≡ take n buf.new ++ self.new.supply.left) }
+        ensures bytes { IfOk result (λ n.
+            self.old.supply.left ≡ take n buf.new ++ self.new.supply.left) }
         ensures end { IfOk result (λ n. n ≡ 0 → self.old.supply.left ≡ []) }
         ensures never_falls { NeverFalls self.old.plan.faults self.new.plan.faults }
 

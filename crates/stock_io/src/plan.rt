@@ -36,7 +36,8 @@ impl FailurePlan {
     /// Counts a call, and a fault where it is one of those that fail. Says whether it is.
     pub fn next_fails(&mut self) -> bool
         ensures planned { IsTrue result ↔ NextFails self.old }
-        ensures after { self.new ≡ (if result then after_failure self.old else after_call self.old) }
+        ensures after { self.new ≡
+            (if result then after_failure self.old else after_call self.old) }
         ensures never_falls { NeverFalls self.old.faults self.new.faults }
     {
         self.calls = self.calls.saturating_add(1);

@@ -26,7 +26,8 @@ pub trait Sink {
         requires { 0 < length bytes.now }
         ensures some { IfOk result (λ n. 0 < n) }
         ensures bound { WritesAtMost result bytes.now }
-        ensures bytes { IfOk result (λ n. Appends (written self.old) (written self.new) (take n bytes.now)) }
+        ensures bytes { IfOk result (λ n.
+            Appends (written self.old) (written self.new) (take n bytes.now)) }
         ensures written_kept { OnErr result (Keeps (written self.old) (written self.new)) }
         ensures never_falls { NeverFalls (faults self.old) (faults self.new) }
         ensures cause { OnErr result (Rose (faults self.old) (faults self.new)) }
@@ -40,7 +41,8 @@ pub trait Sink {
 /// `Failed` where a write failed: a front of the bytes was written, and a fault was counted.
 pub fn write_all<W: Sink>(sink: &mut W, bytes: &[u8]) -> Result<(), Failed>
     ensures all { OnOk result (Appends (W.written sink.old) (W.written sink.new) bytes.now) }
-    ensures front { OnErr result (AppendsFront (W.written sink.old) (W.written sink.new) bytes.now) }
+    ensures front { OnErr result
+        (AppendsFront (W.written sink.old) (W.written sink.new) bytes.now) }
     ensures never_falls { NeverFalls (W.faults sink.old) (W.faults sink.new) }
     ensures cause { OnErr result (Rose (W.faults sink.old) (W.faults sink.new)) }
     ensures frame { Chained W.write_leaves sink.old sink.new }

@@ -28,7 +28,8 @@ pub trait Source {
     fn read(&mut self, buf: &mut [u8]) -> Result<usize, Failed>
         requires { 0 < length buf.old }
         ensures bound { ReadsAtMost result buf.new }
-        ensures bytes { IfOk result (λ n. Consumes (left self.old) (left self.new) (take n buf.new)) }
+        ensures bytes { IfOk result (λ n.
+            Consumes (left self.old) (left self.new) (take n buf.new)) }
         ensures end { IfOk result (λ n. n ≡ 0 → IsAtEnd (left self.old)) }
         ensures count { IfOk result (λ n. taken self.new ≡ taken self.old + n) }
         ensures left_kept { OnErr result (Keeps (left self.old) (left self.new)) }

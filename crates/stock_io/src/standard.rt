@@ -1,6 +1,7 @@
-ghost use Rattle.std.specs.Prelude.{◌≡◌, ◌+◌, ◌<◌, length, IfOk, OnOk, OnErr};
+ghost use Rattle.std.specs.Prelude.{◌≡◌, ◌<◌, length, IfOk, OnOk, OnErr};
 ghost use Rattle.std.specs.Io.{ReadsAtMost, WritesAtMost};
 ghost use Rattle.stock_io.specs.Counts.{NeverFalls, raised};
+ghost use Rattle.stock_io.specs.Standard.{new_reading, after_bytes, after_failed_read};
 
 use crate::failed::Failed;
 use crate::sink::Sink;
@@ -17,7 +18,7 @@ pub struct StdSource<R: Input> {
 }
 
 impl<R: Input> Model for StdSource<R> {
-    ghost use Rattle.stock_io.specs.Counts.{Reading};
+    ghost use Rattle.stock_io.specs.Standard.{Reading};
 
     ghost Value = { Reading };
 
@@ -27,7 +28,7 @@ impl<R: Input> Model for StdSource<R> {
 impl<R: Input> StdSource<R> {
     /// Standard input, of which nothing was taken yet.
     pub fn new(rt: &R) -> StdSource<R>
-        ensures { result ≡ record { taken = 0; faults = 0 } }
+        ensures { result ≡ new_reading }
     {
         StdSource {
             reader: rt.reader(),
@@ -66,8 +67,8 @@ impl<R: Input> Source for StdSource<R> {
         requires { 0 < length buf.old }
         ensures bound { ReadsAtMost result buf.new }
         ensures never_falls { NeverFalls self.old.faults self.new.faults }
-        ensures after_ok { IfOk result (λ n. self.new ≡ record { taken = self.old.taken + n; faults = self.old.faults }) }
-        ensures after_failed { OnErr result (self.new ≡ record { taken = self.old.taken; faults = raised self.old.faults }) }
+        ensures after_ok { IfOk result (λ n. self.new ≡ after_bytes self.old n) }
+        ensures after_failed { OnErr result (self.new ≡ after_failed_read self.old) }
     {
         let room = u64::MAX - self.taken;
         if buf.len() as u64 <= room
