@@ -10,6 +10,7 @@ mod top;
 mod waiting;
 
 use std::env;
+use std::env::Env;
 use std::io;
 use std::process::ExitCode;
 use stock_io::standard::{StdSink, StdSource};

@@ -1,2 +1,0 @@
-pub mod FirstForm
-pub mod ReplyText

@@ -1,4 +1,0 @@
-#![tactic(auto)]
-
-pub mod reading;
-pub mod replying;
