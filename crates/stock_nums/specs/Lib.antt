@@ -1,5 +1,7 @@
 pub mod Calendar
 pub mod Causes
+pub mod Codes
 pub mod HalfUp
-pub mod Quantities
+pub mod MomentText
 pub mod Places
+pub mod Quantities

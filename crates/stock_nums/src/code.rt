@@ -1,4 +1,6 @@
 ghost use Rattle.std.specs.Prelude.{◌≡◌, IfOk};
+ghost use Rattle.std.specs.List.{list_all};
+ghost use Rattle.stock_nums.specs.Codes.{is_code_byte, is_code};
 
 use crate::memory::NoMemory;
 use std::alloc::Global;
@@ -36,6 +38,13 @@ impl Code {
         self.text.as_str()
     }
 
+    /// Whether the code has the shape that `has_code_shape` tells.
+    pub fn is_well_formed(&self) -> bool
+        ensures { result ≡ is_code self.now }
+    {
+        has_code_shape(self.text())
+    }
+
     /// An equal code.
     pub fn copy(&self, alloc: Global) -> Result<Code, NoMemory>
         ensures { IfOk result (λ code. code ≡ self.now) }
@@ -67,5 +76,59 @@ impl Eq for Code {
 impl fmt::Debug for Code {
     fn fmt<W: fmt::Write>(&self, f: &mut fmt::Formatter<W>) -> fmt::Result {
         fmt::Debug::fmt(self.text(), f)
+    }
+}
+
+/// Whether the text is from 1 to 24 of `A-Z a-z 0-9 . _ -`.
+pub fn has_code_shape(text: &str) -> bool
+    ensures { result ≡ is_code text.now }
+{
+    let len = text.len();
+    1 <= len && len <= 24 && are_code_bytes(text.as_bytes())
+}
+
+fn are_code_bytes(bytes: &[u8]) -> bool
+    ensures { result ≡ list_all is_code_byte bytes.now }
+{
+    bytes.iter().all(|byte| is_code_byte(*byte))
+}
+
+fn is_code_byte(byte: u8) -> bool
+    ensures { result ≡ is_code_byte byte }
+{
+    byte.is_ascii_alphanumeric() || matches!(byte, b'.' | b'_' | b'-')
+}
+
+#[cfg(test)]
+mod tests {
+    use super::*;
+    use std::test::Fail;
+
+    #[test]
+    fn keeps_its_spelling(rt: HostRuntime) -> Result<(), Fail> {
+        let code = Code::of(rt.alloc(), "TEE-1.kg")?;
+        let copy = code.copy(rt.alloc())?;
+        assert_eq!(rt; copy.text(), "TEE-1.kg");
+        assert!(rt; code == copy);
+        assert!(rt; code != Code::of(rt.alloc(), "tee-1.kg")?);
+        assert!(rt; code.is_well_formed());
+        Ok(())
+    }
+
+    #[test]
+    fn has_a_shape(rt: HostRuntime) {
+        let table = [
+            ("A", true),
+            ("az_AZ-09.", true),
+            ("123456789012345678901234", true),
+            ("1234567890123456789012345", false),
+            ("", false),
+            ("a b", false),
+            ("a/b", false),
+            ("Tür", false),
+        ];
+        for (text, want) in table {
+            assert_eq!(rt; has_code_shape(text), want, "{text}");
+        }
     }
 }

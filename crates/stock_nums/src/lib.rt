@@ -8,5 +8,7 @@ pub mod head;
 pub mod lines;
 pub mod memory;
 pub mod moment;
+pub mod moment_text;
 pub mod numbers;
 pub mod place;
+mod sending;

@@ -72,3 +72,20 @@ impl<T> Lines<T> {
         self.items.is_empty()
     }
 }
+
+#[cfg(test)]
+mod tests {
+    use super::*;
+    use std::test::Fail;
+
+    #[test]
+    fn grows_at_its_end(rt: HostRuntime) -> Result<(), Fail> {
+        let mut lines = Lines::new(rt.alloc());
+        assert!(rt; lines.is_empty());
+        lines.push(3u32)?;
+        lines.push(5)?;
+        assert_eq!(rt; lines.as_slice(), [3, 5].as_slice());
+        assert_eq!(rt; lines.len(), 2);
+        Ok(())
+    }
+}

@@ -1,5 +1,6 @@
-ghost use Rattle.std.specs.Prelude.{◌≡◌};
+ghost use Rattle.std.specs.Prelude.{◌≡◌, ◌⊎◌, IsTrue, false};
 ghost use Rattle.stock_nums.specs.Places.{is_before};
+ghost use Rattle.stock_nums.specs.declared.place.Place.{Place};
 
 use crate::moment::Moment;
 use crate::numbers::RecordNo;
@@ -36,5 +37,43 @@ impl Place {
         ensures { result ≡ is_before self.now other.now }
     {
         self < other
+    }
+}
+
+/// Posting order is a strict total order: of two places exactly one comes before the other, or they are one place.
+pub fn places_are_in_total_order()
+    ensures irreflexive { (p : Place) → is_before p p ≡ false }
+    ensures asymmetric { (p q : Place) → IsTrue (is_before p q) → is_before q p ≡ false }
+    ensures transitive { (p q r : Place) →
+        IsTrue (is_before p q) → IsTrue (is_before q r) → IsTrue (is_before p r) }
+    ensures total { (p q : Place) →
+        IsTrue (is_before p q) ⊎ IsTrue (is_before q p) ⊎ (p ≡ q) }
+{}
+
+#[cfg(test)]
+mod tests {
+    use super::*;
+
+    #[test]
+    fn leaves_before_it_enters(rt: HostRuntime) {
+        let moment = Moment {
+            date: 20_260_103,
+            second: 0,
+        };
+        let leaves = Place {
+            moment,
+            voucher: RecordNo(4),
+            line: 1,
+            side: Side::Leaves,
+        };
+        let enters = Place {
+            side: Side::Enters,
+            ..leaves
+        };
+        let later = Place { line: 2, ..leaves };
+        assert!(rt; leaves.is_before(&enters));
+        assert!(rt; !enters.is_before(&leaves));
+        assert!(rt; !leaves.is_before(&leaves));
+        assert!(rt; enters.is_before(&later));
     }
 }

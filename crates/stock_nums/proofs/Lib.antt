@@ -1,0 +1,2 @@
+pub mod MomentSpelling
+pub mod PlaceOrder
