@@ -1,0 +1,4 @@
+//! The lines of an input and the replies to them, as JSON texts.
+#![tactic(auto)]
+
+mod members;
