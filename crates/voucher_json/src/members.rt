@@ -19,7 +19,11 @@ fn next_value<'a>(members: &mut Iter<'a, String, Value>, key: &str) -> Option<&'
     ensures none { IfNone result ((value : Data) (rest : Members) → members_view members.old ≡ member key.now value rest → ⊥) }
 {
     let (name, value) = members.next()?;
-    if name.as_str() == key { Some(value) } else { None }
+    if name.as_str() == key {
+        Some(value)
+    } else {
+        None
+    }
 }
 
 /// Whether there is no further member.
@@ -47,17 +51,30 @@ pub fn next_code<'a>(members: &mut Iter<'a, String, Value>, key: &str) -> Option
     ensures none { IfNone result ((code : List ℕ) (rest : Members) → members_view members.old ≡ member key.now (string code) rest → IsTrue (is_code code) → ⊥) }
 {
     let code = next_value(members, key)?.as_str()?;
-    if has_code_shape(code) { Some(code) } else { None }
+    if has_code_shape(code) {
+        Some(code)
+    } else {
+        None
+    }
 }
 
 /// The next member's whole number, if the member has this key and the number is in this range.
-pub fn next_number(members: &mut Iter<'_, String, Value>, key: &str, least: u64, most: u64) -> Option<u64>
+pub fn next_number(
+    members: &mut Iter<'_, String, Value>,
+    key: &str,
+    least: u64,
+    most: u64,
+) -> Option<u64>
     ensures some { IfSome result (λ n. members_view members.old ≡ member key.now (number (unsigned n)) (members_view members.new)) }
     ensures range { IfSome result (λ n. (least ≤ n) × (n ≤ most)) }
     ensures none { IfNone result ((n : ℕ) (rest : Members) → members_view members.old ≡ member key.now (number (unsigned n)) rest → least ≤ n → n ≤ most → ⊥) }
 {
     let n = next_value(members, key)?.as_u64()?;
-    if least <= n && n <= most { Some(n) } else { None }
+    if least <= n && n <= most {
+        Some(n)
+    } else {
+        None
+    }
 }
 
 /// The next member's moment, if the member has this key.
