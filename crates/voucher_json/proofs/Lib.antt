@@ -1,1 +1,2 @@
 pub mod ReceiptLines
+pub mod Requests

@@ -8,7 +8,6 @@ use Rattle.stock_nums.specs.declared.cause.Method.{Method}
 use Rattle.stock_nums.specs.declared.cause.Method.TheVariants.{Fifo, Average}
 use Rattle.stock_nums.specs.declared.moment.Moment.{Moment}
 use Rattle.stock_model.specs.Limits.{is_within_limits}
-use Rattle.stock_model.specs.declared.queries.Query.{Query}
 use Rattle.stock_model.specs.declared.queries.Sheet.{Sheet}
 use Rattle.stock_model.specs.declared.queries.Sheet.TheVariants.{Balance}
 use Rattle.stock_model.specs.declared.requests.Request.{Request}
