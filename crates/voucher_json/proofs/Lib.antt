@@ -1,2 +1,3 @@
 pub mod ReceiptLines
+pub mod ReplyTexts
 pub mod Requests

@@ -4,3 +4,4 @@
 mod forms;
 mod members;
 pub mod reading;
+pub mod replying;
