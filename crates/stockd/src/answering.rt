@@ -1,5 +1,5 @@
 //! The answer to a request, over the book.
-ghost use Rattle.std.specs.Prelude.{◌≡◌, ℕ, List, IfOk, IsTrue};
+ghost use Rattle.std.specs.Prelude.{◌≡◌, ℕ, List, IfOk, OnErr, IsTrue};
 ghost use Rattle.stock_model.specs.Limits.{is_within_limits};
 ghost use Rattle.stock_model.specs.History.{IsLegal};
 ghost use Rattle.stock_model.specs.Run.{Answers, Step};
@@ -62,8 +62,25 @@ fn post(alloc: Global, book: &mut Book, what: What) -> Result<Reply, NoMemory>
     };
     match book.post(alloc, item) {
         Ok(number) => Ok(Reply::Accepted(number)),
-        Err(PostFault::NoMemory) => Err(NoMemory),
-        Err(fault) => Ok(Reply::Refused(fault)),
+        Err(fault) => refused(fault),
+    }
+}
+
+/// The reply that tells a fault. Want of memory is not told.
+fn refused(fault: PostFault) -> Result<Reply, NoMemory>
+    ensures reply { IfOk result (λ reply. reply ≡ Reply.Refused fault) }
+    ensures printed { IfOk result IsPrinted }
+    ensures memory { OnErr result (fault ≡ PostFault.NoMemory) }
+{
+    match fault {
+        PostFault::NoMemory => Err(NoMemory),
+        PostFault::CodeTaken => Ok(Reply::Refused(fault)),
+        PostFault::UnknownItem { line: _ } => Ok(Reply::Refused(fault)),
+        PostFault::UnknownStore { line: _ } => Ok(Reply::Refused(fault)),
+        PostFault::Full {
+            records: _,
+            entries: _,
+        } => Ok(Reply::Refused(fault)),
     }
 }
 

@@ -1,8 +1,8 @@
 use crate::answering::reply_to;
 use crate::waiting::append_reply;
 use crate::open_line::OpenLine;
+use crate::split::split_line;
 use generation_book::book::Book;
-use memchr::memchr;
 use std::alloc::Global;
 use stock_io::failed::Failed;
 use stock_io::sink::{Sink, write_all};
@@ -44,10 +44,10 @@ impl Batch {
         ensures { OnOk result (GoesOn self.old piece.now self.new) }
     {
         let mut rest = piece;
-        while let Some(at) = memchr(b'\n', rest) {
-            self.line.add(&rest[..at])?;
+        while let Some((line, after)) = split_line(rest) {
+            self.line.add(line)?;
             self.end_line(alloc)?;
-            rest = &rest[at + 1..];
+            rest = after;
         }
         self.line.add(rest)?;
         Ok(())

@@ -6,6 +6,7 @@ mod batch;
 mod blank;
 mod end;
 mod open_line;
+mod split;
 mod top;
 mod waiting;
 

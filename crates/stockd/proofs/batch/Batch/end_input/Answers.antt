@@ -1,0 +1,8 @@
+-- The last line is answered.
+use Rattle.std.proofs.Common.{Result, Ok, Err, OnOk, ℕ, List, ◌++◌}
+use Rattle.stock_nums.specs.declared.memory.NoMemory.{NoMemory}
+use Rattle.stockd.proofs.Batches.{Answered-end}
+use Rattle.stockd.proofs.batch.Batch.end_input.Goals as goal
+
+pub returns : goal.returns
+returns c = Answered-end c.args.self.now c.answer_line.new.self c.answer_line.result c.answer_line.ensures.answers c.answer_line.ensures.legal
