@@ -2,3 +2,4 @@ pub mod Parts
 pub mod Runs
 pub mod Batches
 pub mod Words
+pub mod Ends
