@@ -1,5 +1,5 @@
 -- An input in parts: its lines, as the whole lines and the rest make them.
-use Rattle.std.proofs.Common.{◌≡◌, ℕ, zero, suc, ◌<◌, take, get_or, arith, Bool, true, false, cond, not, ◌&&◌, eqb, List, [], ◌∷◌, ◌++◌, refl, sym, ap, ◌∙◌, subst, append_assoc}
+use Rattle.std.proofs.Common.{◌≡◌, ℕ, zero, suc, ◌<◌, take, get_or, arith, Bool, true, false, not, ◌&&◌, eqb, List, [], ◌∷◌, ◌++◌, refl, sym, ap, ◌∙◌, append_assoc}
 use Rattle.std.specs.Prelude.{filter}
 use Rattle.std.specs.List.{list_all, flat_map}
 use Rattle.std.proofs.lemmas.Bool.{false≢true}
@@ -7,7 +7,7 @@ use Rattle.std.proofs.lemmas.List.{append-nil}
 use Rattle.std.proofs.lemmas.List.Folds.{list_all-append}
 use Rattle.std.proofs.lemmas.List.Elements.{filter-append}
 use Rattle.std.proofs.lemmas.Grind.{flat_map-append}
-use Rattle.stock_model.specs.InputLines.{lines_of, whole_lines_of, onto_first, onto_whole, is_asked, is_blank}
+use Rattle.stock_model.specs.InputLines.{lines_of, whole_lines_of, onto_first, onto_whole, is_asked}
 use Rattle.stockd.specs.InputParts.{is_no_feed, HasNoFeed, HaveNoFeed, with_feed, Parted}
 
 split-not-and : (x y : Bool) → (not x && y) ≡ true → (x ≡ false) × (y ≡ true)
@@ -114,7 +114,7 @@ Parted-more bytes whole rest piece parted h =
     record {
       is = ap (λ (bs : List ℕ). bs ++ piece) parted.is ∙ append_assoc (flat_map with_feed whole) rest piece;
       lines = parted.lines;
-      open_line = HasNoFeed-append rest piece parted.open_line h
+      open_line = HasNoFeed-append rest piece parted.open_line h;
     }
 
 HaveNoFeed-append : (whole : List (List ℕ)) (line : List ℕ) → HaveNoFeed whole → HasNoFeed line → HaveNoFeed (whole ++ line ∷ [])
@@ -126,9 +126,9 @@ pub Parted-feed : (bytes : List ℕ) (whole : List (List ℕ)) (rest : List ℕ)
 Parted-feed bytes whole rest parted =
     record {
       is =
-        ap (λ (bs : List ℕ). bs ++ 10 ∷ []) parted.is ∙ append_assoc (flat_map with_feed whole) rest (10 ∷ [])
-        ∙ sym (flat_map-append with_feed whole (rest ∷ []) ∙ ap (λ (bs : List ℕ). flat_map with_feed whole ++ bs) (append-nil (rest ++ 10 ∷ [])))
-        ∙ sym (append-nil (flat_map with_feed (whole ++ rest ∷ [])));
+          ap (λ (bs : List ℕ). bs ++ 10 ∷ []) parted.is ∙ append_assoc (flat_map with_feed whole) rest (10 ∷ [])
+          ∙ sym (flat_map-append with_feed whole (rest ∷ []) ∙ ap (λ (bs : List ℕ). flat_map with_feed whole ++ bs) (append-nil (rest ++ 10 ∷ [])))
+          ∙ sym (append-nil (flat_map with_feed (whole ++ rest ∷ [])));
       lines = HaveNoFeed-append whole rest parted.lines parted.open_line;
-      open_line = refl
+      open_line = refl;
     }

@@ -1,6 +1,6 @@
 -- How a run goes on, and which answers make its steps.
-use Rattle.std.proofs.Common.{◌≡◌, ℕ, suc, ◌+◌, ◌<◌, ◌≤◌, Bool, true, false, cond, ltb, List, [], ◌∷◌, ◌++◌, length, refl, sym, ap, ◌∙◌, subst, append_assoc, length-append, arith, inl, inr, ◌⊎◌, None, Some, Result, Ok, Err, IfOk}
-use Rattle.std.proofs.lemmas.Bool.{ltb-true, ltb-false}
+use Rattle.std.proofs.Common.{◌≡◌, ℕ, ◌+◌, ◌≤◌, Bool, true, false, cond, ltb, List, [], ◌∷◌, ◌++◌, length, refl, sym, ap, ◌∙◌, subst, length-append, arith, inl, inr, ◌⊎◌, None, Some, Result, Ok, Err, IfOk}
+use Rattle.std.proofs.lemmas.Bool.{ltb-false}
 use Rattle.std.proofs.lemmas.List.{append-nil}
 use Rattle.stock_nums.specs.declared.numbers.RecordNo.{RecordNo}
 use Rattle.stock_model.specs.declared.records.Record.{Record}
@@ -10,13 +10,12 @@ use Rattle.stock_nums.specs.declared.memory.NoMemory as memory
 use Rattle.stock_model.specs.declared.faults.PostFault.{PostFault}
 use Rattle.stock_model.specs.declared.faults.PostFault.TheVariants.{NoMemory}
 use Rattle.stock_model.specs.declared.requests.Request.{Request}
-use Rattle.stock_model.specs.declared.requests.Request.TheVariants.{Post, Settle, Report}
+use Rattle.stock_model.specs.declared.requests.Request.TheVariants.{Post}
 use Rattle.stock_model.specs.declared.replies.Reply.{Reply}
 use Rattle.stock_model.specs.declared.replies.Reply.TheVariants.{Accepted, Refused, Settled}
 use Rattle.stock_model.specs.Faults.{fault}
 use Rattle.stock_model.specs.History.{records, accepted, covered, IsLegal, settled}
-use Rattle.stock_model.specs.Answers.{IsPostAnswer}
-use Rattle.stock_model.specs.Run.{RunState, Step, Run, Answers, Posts, Settles}
+use Rattle.stock_model.specs.Run.{RunState, Run, Answers, Settles}
 use Rattle.voucher_json.specs.ReplyText.{IsTold, IsPrinted}
 use Rattle.stock_model.proofs.Histories.{records-append, covered_after-append, covered_after-within}
 
@@ -64,7 +63,7 @@ Settles-by_test old new n true more legal is all =
       publications = tt;
       grows = is;
       covers = ap covered is ∙ covered_after-append 0 old (Published (record { 0 = accepted old }) ∷ []) ∙ sym same;
-      answer = ap (λ (k : ℕ). Settled (record { 0 = k })) (all ∙ sym same)
+      answer = ap (λ (k : ℕ). Settled (record { 0 = k })) (all ∙ sym same);
     }
 Settles-by_test old new n false none legal is all =
     let within : covered old ≤ accepted old = covered_after-within [] 0 old (omega arith) (subst IsLegal is legal) in
@@ -74,7 +73,7 @@ Settles-by_test old new n false none legal is all =
       publications = tt;
       grows = is ∙ sym (append-nil old);
       covers = ap covered is ∙ covers ∙ ap accepted (sym is);
-      answer = ap (λ (k : ℕ). Settled (record { 0 = k })) (all ∙ ap accepted (sym is))
+      answer = ap (λ (k : ℕ). Settled (record { 0 = k })) (all ∙ ap accepted (sym is));
     }
 
 -- publishing all that is not covered settles

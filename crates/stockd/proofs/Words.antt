@@ -1,5 +1,5 @@
 -- The words of a batch.
-use Rattle.std.proofs.Common.{◌≡◌, ℕ, ◌+◌, ◌<◌, ◌≤◌, Bool, true, List, [], ◌∷◌, length, get_or, map, eqb, refl, sym, ap, ◌∙◌, arith}
+use Rattle.std.proofs.Common.{◌≡◌, ℕ, ◌<◌, ◌≤◌, Bool, List, [], ◌∷◌, length, get_or, map, eqb, sym, ap, ◌∙◌, arith}
 use Rattle.std.specs.Prelude.{codes, String, string_bytes, ◌↔◌, IsTrue}
 use Rattle.std.specs.declared.alloc.Global.{Global}
 use Rattle.std.specs.Cmp.Lexicographic.{pointwise, bytes_decides}
@@ -20,8 +20,7 @@ pub IsBatch-one : (words : List (String Global)) (word : String Global) (spelled
 IsBatch-one words word spelled test least most first is tested =
     let only : map string_bytes words ≡ spelled ∷ [] =
     ap (map string_bytes) (only_element words word least most first) ∙ ap (λ (bytes : List ℕ). bytes ∷ []) (sym is) in
-    let decides = bytes_decides spelled (codes "batch") in
-    (
+    let decides = bytes_decides spelled (codes "batch") in (
       λ yes. only ∙ ap (λ (bytes : List ℕ). bytes ∷ []) (decides.0 (sym tested ∙ yes)),
-      λ batch. tested ∙ decides.1 (head_same spelled (codes "batch") (sym only ∙ batch))
+      λ batch. tested ∙ decides.1 (head_same spelled (codes "batch") (sym only ∙ batch)),
     )

@@ -1,5 +1,5 @@
 -- The line under way as it is kept: a line that is too long is not.
-use Rattle.std.specs.Prelude.{ℕ, ◌≡◌, Bool, false, List, length, nat_lt}
+use Rattle.std.specs.Prelude.{ℕ, ◌≡◌, false, List, length, nat_lt}
 use Rattle.stock_model.specs.InputLines.{is_blank}
 use Rattle.stockd.specs.declared.open_line.OpenLine.{OpenLine}
 

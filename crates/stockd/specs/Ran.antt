@@ -20,7 +20,9 @@ pub record Ran {S O : Type 0} (left : S → Option (List ℕ)) (taken read_fault
   pub wrote : Appends (written output_before) (written output_after) text
   pub says : Says end bytes text
   pub cause : HasCause end (read_faults input_before) (read_faults input_after) (write_faults output_before) (write_faults output_after) (length bytes)
-  pub read_to_end : IsReadToEnd end (left input_after)
+  pub read_to_end : IsReadToEnd end (left input_before) bytes
+  pub reads : NeverFalls (read_faults input_before) (read_faults input_after)
+  pub writes : NeverFalls (write_faults output_before) (write_faults output_after)
 
 -- so far the run took these bytes and wrote this text, for which the batch stands, and nothing waits to be written
 pub record UnderWay {S O : Type 0} (left : S → Option (List ℕ)) (taken read_faults : S → ℕ) (written : O → Option (List ℕ)) (write_faults : O → ℕ)

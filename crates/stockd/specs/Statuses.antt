@@ -1,7 +1,6 @@
 -- How a run ends, and what it has taken and written then.
-use Rattle.std.specs.Prelude.{ℕ, ◌≡◌, ◌+◌, ◌^◌, ◌<◌, ◌⊎◌, ◌↔◌, Option, List, [], ◌∷◌, ◌++◌, length, map, codes, String, string_bytes}
+use Rattle.std.specs.Prelude.{ℕ, ◌≡◌, ◌^◌, ◌<◌, ◌⊎◌, Option, List, [], ◌∷◌, ◌++◌, map, codes, String, string_bytes, IfSome}
 use Rattle.std.specs.declared.alloc.Global.{Global}
-use Rattle.std.specs.Io.KnownBytes.{Appends, Consumes, IsAtEnd}
 use Rattle.stock_io.specs.Counts.{Rose}
 use Rattle.stock_model.specs.InputLines.{lines_of, whole_lines_of}
 use Rattle.stockd.specs.declared.end.End.{End}
@@ -44,10 +43,10 @@ HasCause ReadFailed read_before read_after write_before write_after taken = Rose
 HasCause WriteFailed read_before read_after write_before write_after taken = Rose write_before write_after
 HasCause TooLong read_before read_after write_before write_after taken = taken ≡ max_input
 
--- a source was read to its end only where the run is done
-abbrev pub IsReadToEnd : End → Option (List ℕ) → Type 0
-IsReadToEnd Done left = IsAtEnd left
-IsReadToEnd NoMemory left = Unit {0}
-IsReadToEnd ReadFailed left = Unit {0}
-IsReadToEnd WriteFailed left = Unit {0}
-IsReadToEnd TooLong left = Unit {0}
+-- where the run is done, the bytes that were taken are all that the source had, where it told them
+abbrev pub IsReadToEnd : End → Option (List ℕ) → List ℕ → Type 0
+IsReadToEnd Done left taken = IfSome left (λ all. taken ≡ all)
+IsReadToEnd NoMemory left taken = Unit {0}
+IsReadToEnd ReadFailed left taken = Unit {0}
+IsReadToEnd WriteFailed left taken = Unit {0}
+IsReadToEnd TooLong left taken = Unit {0}

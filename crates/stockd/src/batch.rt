@@ -1,7 +1,7 @@
 use crate::answering::reply_to;
-use crate::waiting::append_reply;
 use crate::open_line::OpenLine;
 use crate::split::split_line;
+use crate::waiting::append_reply;
 use generation_book::book::Book;
 use std::alloc::Global;
 use stock_io::failed::Failed;

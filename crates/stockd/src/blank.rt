@@ -5,5 +5,7 @@ ghost use Rattle.stock_model.specs.InputLines.{is_blank};
 pub fn is_blank(bytes: &[u8]) -> bool
     ensures { result ≡ is_blank bytes.now }
 {
-    bytes.iter().all(|b| *b == b' ' || *b == b'\t' || *b == b'\r')
+    bytes
+        .iter()
+        .all(|b| *b == b' ' || *b == b'\t' || *b == b'\r')
 }

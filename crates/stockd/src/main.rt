@@ -10,10 +10,9 @@ mod split;
 mod top;
 mod waiting;
 
-use std::env;
 use std::env::Env;
-use std::io;
 use std::process::ExitCode;
+use std::{env, io};
 use stock_io::standard::{StdSink, StdSource};
 
 /// The words after the program's name.
@@ -35,12 +34,6 @@ fn main(rt: HostRuntime) -> ExitCode {
         Err(_) => Vec::new(alloc),
     };
     let mut output = StdSink::output(rt);
-    let status = top::stockd(
-        alloc,
-        words.as_slice(),
-        &mut input,
-        &mut output,
-        &mut notes,
-    );
+    let status = top::stockd(alloc, words.as_slice(), &mut input, &mut output, &mut notes);
     ExitCode::from(status)
 }

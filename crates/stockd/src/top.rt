@@ -127,12 +127,7 @@ fn pump<S: Source, O: Sink>(
 }
 
 /// Takes a piece of the input, and writes the replies to the lines that are whole now.
-fn step<O: Sink>(
-    alloc: Global,
-    batch: &mut Batch,
-    piece: &[u8],
-    output: &mut O,
-) -> Result<(), End>
+fn step<O: Sink>(alloc: Global, batch: &mut Batch, piece: &[u8], output: &mut O) -> Result<(), End>
     ensures steps { OnOk result (Steps O.written batch.old batch.new piece.now output.old output.new) }
     ensures stops { IfErr result (Stops O.written batch.old piece.now output.old output.new) }
     ensures never_falls { NeverFalls (O.faults output.old) (O.faults output.new) }
@@ -150,6 +145,7 @@ fn step<O: Sink>(
 /// Takes the end of the input, and writes the last reply.
 fn finish<O: Sink>(alloc: Global, batch: &mut Batch, output: &mut O) -> End
     ensures stops { Stops O.written batch.old [] output.old output.new result }
+    ensures never_falls { NeverFalls (O.faults output.old) (O.faults output.new) }
     ensures cause { IsLastEnd (O.faults output.old) (O.faults output.new) result }
 {
     let Ok(()) = batch.end_input(alloc) else {

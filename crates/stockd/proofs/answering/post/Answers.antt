@@ -1,5 +1,5 @@
 -- The record was kept, or it has the fault first.
-use Rattle.std.proofs.Common.{◌≡◌, inl, inr, refl, ap, sym, ◌∙◌}
+use Rattle.std.proofs.Common.{refl, ap}
 use Rattle.stockd.proofs.Runs.{Answers-accepted, Answers-told}
 use Rattle.stockd.proofs.answering.post.Goals as goal
 

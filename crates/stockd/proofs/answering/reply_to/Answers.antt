@@ -1,6 +1,5 @@
 -- What is kept of a line that is not long is the line, and it is no request.
-use Rattle.std.proofs.Common.{◌≡◌, ℕ, List, inr, refl, sym, ◌∙◌, subst, ap}
-use Rattle.stock_model.specs.declared.requests.Request.{Request}
+use Rattle.std.proofs.Common.{◌≡◌, ℕ, List, inr, refl, sym, ◌∙◌, subst}
 use Rattle.voucher_json.specs.FirstForm.{IsRequest}
 use Rattle.stockd.proofs.answering.reply_to.Goals as goal
 

@@ -1,5 +1,5 @@
 -- No byte before the first line feed is one.
-use Rattle.std.proofs.Common.{◌≡◌, ℕ, length, arith, subst, refl, sym, ◌∙◌, List}
+use Rattle.std.proofs.Common.{length, arith, subst}
 use Rattle.std.proofs.lemmas.List.{take_all}
 use Rattle.stockd.specs.InputParts.{HasNoFeed}
 use Rattle.stockd.proofs.Parts.{HasNoFeed-below}

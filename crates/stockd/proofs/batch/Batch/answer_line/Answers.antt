@@ -1,5 +1,5 @@
 -- The line is asked, and its one reply waits.
-use Rattle.std.proofs.Common.{◌≡◌, sym, ◌∙◌}
+use Rattle.std.proofs.Common.{sym, ◌∙◌}
 use Rattle.std.proofs.lemmas.Result.{on_ok_weaker}
 use Rattle.stockd.proofs.Batches.{AnswersLine-asked}
 use Rattle.stockd.proofs.batch.Batch.answer_line.Goals as goal

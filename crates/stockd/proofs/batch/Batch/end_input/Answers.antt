@@ -1,6 +1,4 @@
 -- The last line is answered.
-use Rattle.std.proofs.Common.{Result, Ok, Err, OnOk, ℕ, List, ◌++◌}
-use Rattle.stock_nums.specs.declared.memory.NoMemory.{NoMemory}
 use Rattle.stockd.proofs.Batches.{Answered-end}
 use Rattle.stockd.proofs.batch.Batch.end_input.Goals as goal
 

@@ -1,5 +1,4 @@
 -- Nothing was taken or written.
-use Rattle.std.proofs.Common.{◌≡◌, ap}
 use Rattle.stockd.proofs.Batches.{StandsFor-start}
 use Rattle.stockd.proofs.batch.Batch.start.Goals as goal
 
