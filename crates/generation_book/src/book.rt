@@ -66,6 +66,7 @@ impl Book {
         ensures number { IfOk result (λ n. n.0 ≡ history.accepted self.new.history) }
         ensures fault { IfErr result (λ f. (f ≡ PostFault.NoMemory) ⊎ (fault (history.records self.old.history) item ≡ Some f)) }
         ensures unchanged { OnErr result (self.new ≡ self.old) }
+        ensures legal { OnOk result (history.IsLegal self.new.history) }
     {
         let entries = match self.journal.check(alloc, &item) {
             Ok(entries) => entries.len(),
@@ -96,6 +97,7 @@ impl Book {
         ensures settled { OnOk result (self.new.history ≡ history.settled self.old.history) }
         ensures covered { IfOk result (λ n. n.0 ≡ history.accepted self.old.history) }
         ensures unchanged { OnErr result (self.new ≡ self.old) }
+        ensures legal { OnOk result (history.IsLegal self.new.history) }
     {
         let accepted = RecordNo(self.journal.count());
         if self.covered.0 >= accepted.0 {

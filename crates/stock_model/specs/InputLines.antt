@@ -12,6 +12,16 @@ abbrev pub lines_of : List ℕ → List (List ℕ)
 lines_of [] = []
 lines_of (b ∷ bytes) = if b == 10 then [] ∷ lines_of bytes else onto_first b (lines_of bytes)
 
+-- the whole lines with a byte put before the first of them, if there is one
+abbrev pub onto_whole : ℕ → List (List ℕ) → List (List ℕ)
+onto_whole b [] = []
+onto_whole b (line ∷ lines) = (b ∷ line) ∷ lines
+
+-- the lines that end with a line feed
+abbrev pub whole_lines_of : List ℕ → List (List ℕ)
+whole_lines_of [] = []
+whole_lines_of (b ∷ bytes) = if b == 10 then [] ∷ whole_lines_of bytes else onto_whole b (whole_lines_of bytes)
+
 -- a space, a tab or a carriage return
 abbrev pub is_blank_byte : ℕ → Bool
 is_blank_byte b = (b == 32) || (b == 9) || (b == 13)

@@ -28,6 +28,13 @@ impl<T> Lines<T> {
         }
     }
 
+    /// The list of these items.
+    pub fn from_vec(items: Vec<T>) -> Lines<T>
+        ensures { result ≡ items.items }
+    {
+        Lines { items }
+    }
+
     /// Adds an item at the end. For want of memory the item is dropped.
     pub fn push(&mut self, item: T) -> Result<(), NoMemory>
     where

@@ -64,3 +64,6 @@ returns-clause-number c =
     let journal = c.in-Ok-push.ensures.kept in
     let all = history-accepted _ _ _ _ _ c.args.self.now.history c.self.invariant told in
     c.in-Ok-push.ensures.number ∙ rw (events, journal, deeds-kept c.self.inside.events.items c.self.inside.journal c.args.item c.self.invariant.counted, records-append) (omega (arith, length-append c.self.inside.journal (c.args.item ∷ []), length-append (history.records (deeds c.self.inside.events.items c.self.inside.journal)) (c.args.item ∷ []), ap length (records-deeds c.self.inside.events.items c.self.inside.journal c.self.invariant.counted)))
+
+pub returns-clause-legal : goal.returns-clause-legal
+returns-clause-legal c = (invariant_of-self-2 c).legal

@@ -40,3 +40,6 @@ pub returns-clause-covered : goal.returns-clause-covered
 returns-clause-covered c =
     let told : deeds c.self.inside.events.items c.self.inside.journal ≡ c.args.self.now.history = ap (λ (b : BookState). b.history) c.self.view_is in
     c.count.ensures.count ∙ sym (history-accepted _ _ _ _ _ c.args.self.now.history c.self.invariant told)
+
+pub returns-clause-legal : goal.returns-clause-legal
+returns-clause-legal c = (invariant_of-self-2 c).legal

@@ -1,0 +1,5 @@
+pub mod Parts
+pub mod Runs
+pub mod Batches
+pub mod Words
+pub mod Ends

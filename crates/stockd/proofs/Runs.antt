@@ -1,0 +1,81 @@
+-- How a run goes on, and which answers make its steps.
+use Rattle.std.proofs.Common.{◌≡◌, ℕ, ◌+◌, ◌≤◌, Bool, true, false, cond, ltb, List, [], ◌∷◌, ◌++◌, length, refl, sym, ap, ◌∙◌, subst, length-append, arith, inl, inr, ◌⊎◌, None, Some, Result, Ok, Err, IfOk}
+use Rattle.std.proofs.lemmas.Bool.{ltb-false}
+use Rattle.std.proofs.lemmas.List.{append-nil}
+use Rattle.stock_nums.specs.declared.numbers.RecordNo.{RecordNo}
+use Rattle.stock_model.specs.declared.records.Record.{Record}
+use Rattle.stock_model.specs.declared.deeds.Deed.{Deed}
+use Rattle.stock_model.specs.declared.deeds.Deed.TheVariants.{Kept, Published}
+use Rattle.stock_nums.specs.declared.memory.NoMemory as memory
+use Rattle.stock_model.specs.declared.faults.PostFault.{PostFault}
+use Rattle.stock_model.specs.declared.faults.PostFault.TheVariants.{NoMemory}
+use Rattle.stock_model.specs.declared.requests.Request.{Request}
+use Rattle.stock_model.specs.declared.requests.Request.TheVariants.{Post}
+use Rattle.stock_model.specs.declared.replies.Reply.{Reply}
+use Rattle.stock_model.specs.declared.replies.Reply.TheVariants.{Accepted, Refused, Settled}
+use Rattle.stock_model.specs.Faults.{fault}
+use Rattle.stock_model.specs.History.{records, accepted, covered, IsLegal, settled}
+use Rattle.stock_model.specs.Run.{RunState, Run, Answers, Settles}
+use Rattle.voucher_json.specs.ReplyText.{IsTold, IsPrinted}
+use Rattle.stock_model.proofs.Histories.{records-append, covered_after-append, covered_after-within}
+
+-- a run over more lines from where one ended
+pub Run-append : (reads : List ℕ → Request → Type 0) (old mid new : RunState) (lines more : List (List ℕ)) (replies others : List Reply)
+    → Run reads old lines replies mid → Run reads mid more others new → Run reads old (lines ++ more) (replies ++ others) new
+Run-append reads old mid new [] more [] others first then = subst (λ (s : RunState). Run reads s more others new) first then
+Run-append reads old mid new [] more (reply ∷ replies) others first then = absurd first
+Run-append reads old mid new (line ∷ lines) more [] others first then = absurd first
+Run-append reads old mid new (line ∷ lines) more (reply ∷ replies) others first then =
+    (first.0, first.1, Run-append reads first.0 mid new lines more replies others first.2 then)
+
+-- a record without a fault that was kept is accepted under the next number
+pub Answers-accepted : (old new : List Deed) (item : Record) (n : RecordNo) → item.desk.0 ≡ 0 → fault (records old) item ≡ None
+    → new ≡ old ++ Kept item ∷ [] → n.0 ≡ accepted new → Answers old (Post item.what) (Accepted n) new
+Answers-accepted old new item n desk sound kept is =
+    let count : n.0 ≡ accepted old + 1 =
+    is ∙ ap accepted kept ∙ ap length (records-append old (Kept item ∷ [])) ∙ omega (arith, length-append (records old) (item ∷ [])) in
+    (item, refl, record { desk = desk; answer = rw sound (ap (λ (k : ℕ). Accepted (record { 0 = k })) count, kept) })
+
+-- a record that was refused has that fault first, and nothing changed
+pub Answers-refused : (old new : List Deed) (item : Record) (f : PostFault) → item.desk.0 ≡ 0 → fault (records old) item ≡ Some f
+    → new ≡ old → Answers old (Post item.what) (Refused f) new
+Answers-refused old new item f desk is same = (item, refl, record { desk = desk; answer = rw is (refl, same) })
+
+IsTold-memory : (f : PostFault) → IsTold f → f ≡ NoMemory → ⊥
+IsTold-memory f told is = subst IsTold is told
+
+-- where a refusal is told, it tells the first fault, since want of memory is not told
+pub Answers-told : (old new : List Deed) (item : Record) (f : PostFault) (r : Result Reply memory.NoMemory) → item.desk.0 ≡ 0
+    → (f ≡ NoMemory) ⊎ (fault (records old) item ≡ Some f) → new ≡ old → IfOk r (λ reply. reply ≡ Refused f) → IfOk r IsPrinted
+    → IfOk r (λ reply. Answers old (Post item.what) reply new)
+Answers-told old new item f (Err e) desk first same is told = tt
+Answers-told old new item f (Ok reply) desk (inl memory) same is told = absurd (IsTold-memory f (subst IsPrinted is told) memory)
+Answers-told old new item f (Ok reply) desk (inr first) same is told =
+    subst (λ (r : Reply). Answers old (Post item.what) r new) (sym is) (Answers-refused old new item f desk first same)
+
+Settles-by_test : (old new : List Deed) (n : RecordNo) (test : Bool) → ltb (covered old) (accepted old) ≡ test → IsLegal new
+    → new ≡ cond test (old ++ Published (record { 0 = accepted old }) ∷ []) old → n.0 ≡ accepted old → Settles old (Settled n) new
+Settles-by_test old new n true more legal is all =
+    let same : accepted new ≡ accepted old =
+    ap accepted is ∙ ap length (records-append old (Published (record { 0 = accepted old }) ∷ []) ∙ append-nil (records old)) in
+    record {
+      more = Published (record { 0 = accepted old }) ∷ [];
+      publications = tt;
+      grows = is;
+      covers = ap covered is ∙ covered_after-append 0 old (Published (record { 0 = accepted old }) ∷ []) ∙ sym same;
+      answer = ap (λ (k : ℕ). Settled (record { 0 = k })) (all ∙ sym same);
+    }
+Settles-by_test old new n false none legal is all =
+    let within : covered old ≤ accepted old = covered_after-within [] 0 old (omega arith) (subst IsLegal is legal) in
+    let covers : covered old ≡ accepted old = omega (arith, ltb-false (covered old) (accepted old) none) in
+    record {
+      more = [];
+      publications = tt;
+      grows = is ∙ sym (append-nil old);
+      covers = ap covered is ∙ covers ∙ ap accepted (sym is);
+      answer = ap (λ (k : ℕ). Settled (record { 0 = k })) (all ∙ ap accepted (sym is));
+    }
+
+-- publishing all that is not covered settles
+pub Settles-settled : (old new : List Deed) (n : RecordNo) → IsLegal new → new ≡ settled old → n.0 ≡ accepted old → Settles old (Settled n) new
+Settles-settled old new n legal is all = Settles-by_test old new n (ltb (covered old) (accepted old)) refl legal is all

@@ -1,0 +1,6 @@
+pub mod InputParts
+pub mod OpenLines
+pub mod Replies
+pub mod Batches
+pub mod Statuses
+pub mod Ran

@@ -1,0 +1,39 @@
+//! `stockd`: a stock ledger. `stockd batch` answers the lines of standard input on standard output.
+#![tactic(auto)]
+
+mod answering;
+mod batch;
+mod blank;
+mod end;
+mod open_line;
+mod split;
+mod top;
+mod waiting;
+
+use std::env::Env;
+use std::process::ExitCode;
+use std::{env, io};
+use stock_io::standard::{StdSink, StdSource};
+
+/// The words after the program's name.
+fn words_of(rt: &(impl Env + AllocGlobal)) -> io::Result<Vec<String>> {
+    let mut words = Vec::new(rt.alloc());
+    for word in env::args(rt)?.skip(1) {
+        words.push(word)?;
+    }
+    Ok(words)
+}
+
+fn main(rt: HostRuntime) -> ExitCode {
+    let alloc = rt.alloc();
+    let mut input = StdSource::new(&rt);
+    let mut notes = StdSink::notes(rt.stderr());
+    let words = match words_of(&rt) {
+        Ok(words) => words,
+        // Words that are no text are no form of words.
+        Err(_) => Vec::new(alloc),
+    };
+    let mut output = StdSink::output(rt);
+    let status = top::stockd(alloc, words.as_slice(), &mut input, &mut output, &mut notes);
+    ExitCode::from(status)
+}

@@ -1,0 +1,3 @@
+pub mod ReceiptLines
+pub mod ReplyTexts
+pub mod Requests

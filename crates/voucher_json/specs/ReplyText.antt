@@ -1,0 +1,71 @@
+-- The texts of the replies: JSON objects with no space, their members in byte order of their keys.
+use Rattle.std.specs.Prelude.{ℕ, List, [], ◌∷◌, ◌++◌, map, codes}
+use Rattle.serde_json.specs.Data.{Data, null, string, number, unsigned, array, object, Items, no_members, member}
+use Rattle.serde_json.specs.Find.{of_integer}
+use Rattle.serde_json.specs.Written.{compact_text}
+use Rattle.serde_json.specs.View.{items_of}
+use Rattle.stock_model.specs.declared.faults.PostFault.{PostFault}
+use Rattle.stock_model.specs.declared.faults.PostFault.TheVariants.{CodeTaken, UnknownItem, UnknownStore, Full, NoMemory}
+use Rattle.stock_model.specs.declared.replies.BalanceRow.{BalanceRow}
+use Rattle.stock_model.specs.declared.replies.Reply.{Reply}
+use Rattle.stock_model.specs.declared.replies.Reply.TheVariants.{Accepted, Refused, Settled, Balance, Bad}
+
+-- a fault of the whole record: {"fault":..,"status":"refused"}
+abbrev pub fault_data : List ℕ → Data
+fault_data name = object (member (codes "fault") (string name) (member (codes "status") (string (codes "refused")) no_members))
+
+-- a fault of a line, from 1: {"fault":..,"line":..,"status":"refused"}
+abbrev pub line_fault_data : List ℕ → ℕ → Data
+line_fault_data name line = object (member (codes "fault") (string name) (member (codes "line") (number (unsigned line)) (member (codes "status") (string (codes "refused")) no_members)))
+
+-- {"entries":..,"fault":"full","records":..,"status":"refused"}
+abbrev pub full_data : ℕ → ℕ → Data
+full_data records entries = object (member (codes "entries") (number (unsigned entries)) (member (codes "fault") (string (codes "full")) (member (codes "records") (number (unsigned records)) (member (codes "status") (string (codes "refused")) no_members))))
+
+-- want of memory has no text
+abbrev pub refusal_data : PostFault → Data
+refusal_data CodeTaken = fault_data (codes "code-taken")
+refusal_data (UnknownItem line) = line_fault_data (codes "unknown-item") line
+refusal_data (UnknownStore line) = line_fault_data (codes "unknown-store") line
+refusal_data (Full records entries) = full_data records entries
+refusal_data NoMemory = null
+
+-- {"item":..,"qty":..,"store":..,"value":..}
+abbrev pub row_data : BalanceRow → Data
+row_data row = object (member (codes "item") (string row.item) (member (codes "qty") (number (unsigned row.qty.0)) (member (codes "store") (string row.store) (member (codes "value") (number (of_integer row.value.0)) no_members))))
+
+-- the rows, one after another
+abbrev pub rows_data : List BalanceRow → Items
+rows_data rows = items_of (map row_data rows)
+
+-- the JSON value of a reply
+abbrev pub reply_data : Reply → Data
+reply_data (Accepted number_of_it) = object (member (codes "record") (number (unsigned number_of_it.0)) (member (codes "status") (string (codes "accepted")) no_members))
+reply_data (Refused fault) = refusal_data fault
+reply_data (Settled covered) = object (member (codes "covered") (number (unsigned covered.0)) (member (codes "status") (string (codes "settled")) no_members))
+reply_data (Balance covered rows) = object (member (codes "covered") (number (unsigned covered.0)) (member (codes "report") (string (codes "balance")) (member (codes "rows") (array (rows_data rows)) (member (codes "status") (string (codes "ok")) no_members))))
+reply_data Bad = object (member (codes "fault") (string (codes "bad-field")) (member (codes "field") (string (codes "request")) (member (codes "line") (number (unsigned 0)) (member (codes "status") (string (codes "bad")) no_members))))
+
+-- the text of a reply
+abbrev pub reply_text : Reply → List ℕ
+reply_text reply = compact_text (reply_data reply)
+
+-- the line of a reply: its text and a line feed
+abbrev pub reply_line : Reply → List ℕ
+reply_line reply = reply_text reply ++ 10 ∷ []
+
+-- every fault is told but want of memory
+abbrev pub IsTold : PostFault → Type 0
+IsTold CodeTaken = Unit {0}
+IsTold (UnknownItem line) = Unit {0}
+IsTold (UnknownStore line) = Unit {0}
+IsTold (Full records entries) = Unit {0}
+IsTold NoMemory = ⊥
+
+-- every reply is printed but the refusal for want of memory
+abbrev pub IsPrinted : Reply → Type 0
+IsPrinted (Accepted number_of_it) = Unit {0}
+IsPrinted (Refused fault) = IsTold fault
+IsPrinted (Settled covered) = Unit {0}
+IsPrinted (Balance covered rows) = Unit {0}
+IsPrinted Bad = Unit {0}

@@ -1,0 +1,144 @@
+//! A line of input as the request that it is.
+ghost use Rattle.std.specs.Prelude.{◌≡◌, ◌≤◌, List, IsTrue, IfSome, IfNone, IfOk, length, IsUtf8};
+ghost use Rattle.serde_json.specs.Data.{Data, array};
+ghost use Rattle.serde_json.specs.View.{view, items_view, members_view};
+ghost use Rattle.stock_nums.specs.declared.moment.Moment.{Moment};
+ghost use Rattle.stock_model.specs.Limits.{is_within_limits};
+ghost use Rattle.stock_model.specs.declared.requests.Request.{Request};
+ghost use Rattle.stock_model.specs.declared.vouchers.What.{What};
+ghost use Rattle.stock_model.specs.declared.vouchers.ReceiptLine.{ReceiptLine};
+ghost use Rattle.voucher_json.specs.FirstForm.{IsLineOf, AreLinesOf, IsReceiptForm, IsWhatForm, IsFormOf, IsRequest, IsWithinLimits};
+
+use crate::forms::{
+    is_balance_report, is_settle, item_code, line_fields, receipt_fields, store_fields,
+};
+use serde_json::{Map, Value};
+use std::alloc::Global;
+use stock_model::queries::{Query, Sheet};
+use stock_model::requests::Request;
+use stock_model::vouchers::{ReceiptLine, What};
+use stock_nums::cause::Method;
+use stock_nums::code::Code;
+use stock_nums::lines::Lines;
+use stock_nums::memory::NoMemory;
+use stock_nums::numbers::{Minor, Qty};
+
+/// The most bytes that a line may have.
+pub const MAX_LINE_BYTES: usize = 65_536;
+
+/// The most lines that a receipt may have.
+const MAX_RECEIPT_LINES: usize = 100;
+
+/// The request that a line of input is. None exactly where it is no request: where it is too long, is no
+/// text or no JSON value, or has no request's form.
+pub fn read_request(alloc: Global, line: &[u8]) -> Result<Option<Request>, NoMemory>
+    ensures some { IfOk result (λ found. IfSome found (IsRequest line.now)) }
+    ensures none { IfOk result (λ found. IfNone found ((request : Request) → IsRequest line.now request → ⊥)) }
+    ensures limits { IfOk result (λ found. IfSome found IsWithinLimits) }
+{
+    if line.len() > MAX_LINE_BYTES {
+        return Ok(None);
+    }
+    match Value::from_slice(alloc, line) {
+        Ok(value) => request_of(alloc, &value),
+        Err(error) if error.is_memory() => Err(NoMemory),
+        Err(_) => Ok(None),
+    }
+}
+
+/// The request that a JSON value is.
+fn request_of(alloc: Global, value: &Value) -> Result<Option<Request>, NoMemory>
+    ensures some { IfOk result (λ found. IfSome found (IsFormOf (view value.now))) }
+    ensures none { IfOk result (λ found. IfNone found ((request : Request) → IsFormOf (view value.now) request → ⊥)) }
+    ensures limits { IfOk result (λ found. IfSome found IsWithinLimits) }
+{
+    let Some(object) = value.as_object() else {
+        return Ok(None);
+    };
+    if is_settle(object) {
+        return Ok(Some(Request::Settle));
+    }
+    if is_balance_report(object) {
+        return Ok(Some(Request::Report(Query {
+            sheet: Sheet::Balance,
+        })));
+    }
+    match read_what(alloc, object)? {
+        Some(what) => Ok(Some(Request::Post(what))),
+        None => Ok(None),
+    }
+}
+
+/// What the record says that an object posts.
+fn read_what(alloc: Global, object: &Map<String, Value>) -> Result<Option<What>, NoMemory>
+    ensures some { IfOk result (λ found. IfSome found (IsWhatForm (members_view object.now.entries))) }
+    ensures none { IfOk result (λ found. IfNone found ((what : What) → IsWhatForm (members_view object.now.entries) what → ⊥)) }
+    ensures limits { IfOk result (λ found. IfSome found (λ what. IsTrue (is_within_limits what))) }
+{
+    if let Some(code) = item_code(object) {
+        return Ok(Some(What::Item {
+            code: Code::of(alloc, code)?,
+            method: Method::Average,
+        }));
+    }
+    if let Some((code, account)) = store_fields(object) {
+        return Ok(Some(What::Store {
+            code: Code::of(alloc, code)?,
+            account,
+        }));
+    }
+    read_receipt(alloc, object)
+}
+
+/// The receipt that an object posts.
+fn read_receipt(alloc: Global, object: &Map<String, Value>) -> Result<Option<What>, NoMemory>
+    ensures some { IfOk result (λ found. IfSome found (IsWhatForm (members_view object.now.entries))) }
+    ensures none { IfOk result (λ found. IfNone found ((at : Moment) (lines : List ReceiptLine) → IsReceiptForm (members_view object.now.entries) at lines → ⊥)) }
+    ensures limits { IfOk result (λ found. IfSome found (λ what. IsTrue (is_within_limits what))) }
+{
+    let Some((at, values)) = receipt_fields(object) else {
+        return Ok(None);
+    };
+    if values.is_empty() || values.len() > MAX_RECEIPT_LINES {
+        return Ok(None);
+    }
+    match read_lines(alloc, values)? {
+        Some(lines) => Ok(Some(What::Receipt { at, lines })),
+        None => Ok(None),
+    }
+}
+
+/// The lines of a receipt.
+fn read_lines(alloc: Global, values: &[Value]) -> Result<Option<Lines<ReceiptLine>>, NoMemory>
+    ensures some { IfOk result (λ found. IfSome found (AreLinesOf (items_view values.now))) }
+    ensures none { IfOk result (λ found. IfNone found ((lines : List ReceiptLine) → AreLinesOf (items_view values.now) lines → ⊥)) }
+    ensures each { IfOk result (λ found. IfSome found (λ lines. length lines ≡ length values.now)) }
+{
+    let mut lines = Lines::new(alloc);
+    for value in values {
+        match read_line(alloc, value)? {
+            Some(line) => lines.push(line)?,
+            None => return Ok(None),
+        }
+    }
+    Ok(Some(lines))
+}
+
+/// A line of a receipt.
+fn read_line(alloc: Global, value: &Value) -> Result<Option<ReceiptLine>, NoMemory>
+    ensures some { IfOk result (λ found. IfSome found (IsLineOf (view value.now))) }
+    ensures none { IfOk result (λ found. IfNone found ((line : ReceiptLine) → IsLineOf (view value.now) line → ⊥)) }
+{
+    let Some(object) = value.as_object() else {
+        return Ok(None);
+    };
+    let Some(fields) = line_fields(object) else {
+        return Ok(None);
+    };
+    Ok(Some(ReceiptLine {
+        item: Code::of(alloc, fields.item)?,
+        store: Code::of(alloc, fields.store)?,
+        qty: Qty(fields.qty),
+        amount: Minor(fields.amount as i64),
+    }))
+}

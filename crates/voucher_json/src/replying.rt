@@ -1,0 +1,93 @@
+//! The texts of the replies.
+ghost use Rattle.std.specs.Prelude.{◌≡◌, map, IfOk};
+ghost use Rattle.serde_json.specs.View.{view};
+ghost use Rattle.stock_model.specs.declared.replies.Reply.{Reply};
+ghost use Rattle.voucher_json.specs.ReplyText.{refusal_data, row_data, reply_data, reply_text, IsTold, IsPrinted};
+
+use serde_json::{Value, json};
+use std::alloc::{AllocError, Global};
+use stock_model::faults::PostFault;
+use stock_model::replies::{BalanceRow, Reply};
+use stock_nums::lines::Lines;
+use stock_nums::memory::NoMemory;
+
+const BAD_REPLY: &[u8] =
+    b"{\"fault\":\"bad-field\",\"field\":\"request\",\"line\":0,\"status\":\"bad\"}";
+
+/// The text of the reply to a line that is no request. It takes no memory.
+pub fn bad_reply() -> &'static [u8]
+    ensures { result.now ≡ reply_text Reply.Bad }
+{
+    BAD_REPLY
+}
+
+/// The text of a reply, with no line feed.
+pub fn reply_text(alloc: Global, reply: &Reply) -> Result<Lines<u8>, NoMemory>
+    requires { IsPrinted reply.now }
+    ensures { IfOk result (λ text. text ≡ reply_text reply.now) }
+{
+    let text = reply_value(alloc, reply)?.to_string(alloc)?;
+    Ok(Lines::from_vec(text.into_bytes()))
+}
+
+/// The JSON value of a reply.
+fn reply_value(alloc: Global, reply: &Reply) -> Result<Value, AllocError>
+    requires { IsPrinted reply.now }
+    ensures { IfOk result (λ value. view value ≡ reply_data reply.now) }
+{
+    match reply {
+        Reply::Accepted(number) => { json!(in alloc; {"record": number.0, "status": "accepted"}) }
+        Reply::Refused(fault) => refusal_value(alloc, *fault),
+        Reply::Settled(covered) => { json!(in alloc; {"covered": covered.0, "status": "settled"}) }
+        Reply::Balance { covered, rows } => {
+            let rows = rows_value(alloc, rows.as_slice())?;
+            json!(in alloc; {"covered": covered.0, "report": "balance", "rows": rows, "status": "ok"})
+        }
+        Reply::Bad => {
+            json!(in alloc; {"fault": "bad-field", "field": "request", "line": 0u64, "status": "bad"})
+        }
+    }
+}
+
+/// The JSON value of a refusal.
+fn refusal_value(alloc: Global, fault: PostFault) -> Result<Value, AllocError>
+    requires { IsTold fault }
+    ensures { IfOk result (λ value. view value ≡ refusal_data fault) }
+{
+    match fault {
+        PostFault::CodeTaken => json!(in alloc; {"fault": "code-taken", "status": "refused"}),
+        PostFault::UnknownItem { line } => {
+            json!(in alloc; {"fault": "unknown-item", "line": line, "status": "refused"})
+        }
+        PostFault::UnknownStore { line } => {
+            json!(in alloc; {"fault": "unknown-store", "line": line, "status": "refused"})
+        }
+        PostFault::Full { records, entries } => {
+            json!(in alloc; {"entries": entries, "fault": "full", "records": records, "status": "refused"})
+        }
+        PostFault::NoMemory => unreachable!(),
+    }
+}
+
+/// The JSON values of the rows of a balance sheet.
+fn rows_value(alloc: Global, rows: &[BalanceRow]) -> Result<Vec<Value>, AllocError>
+    ensures { IfOk result (λ values. map view values.items ≡ map row_data rows.now) }
+{
+    let mut values = Vec::new(alloc);
+    for row in rows {
+        values.push(row_value(alloc, row)?)?;
+    }
+    Ok(values)
+}
+
+/// The JSON value of a row of a balance sheet.
+fn row_value(alloc: Global, row: &BalanceRow) -> Result<Value, AllocError>
+    ensures { IfOk result (λ value. view value ≡ row_data row.now) }
+{
+    json!(in alloc; {
+        "item": row.item.text(),
+        "qty": row.qty.0,
+        "store": row.store.text(),
+        "value": row.value.0
+    })
+}
