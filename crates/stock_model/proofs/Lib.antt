@@ -3,3 +3,4 @@ pub mod Growth
 pub mod Pairwise
 pub mod Distinct
 pub mod PostingLine
+pub mod Histories

@@ -74,15 +74,17 @@ IsCalendarDate-prop date = hlevel props
 within_day-prop : (second : ℕ) → IsProp (second < 86400)
 within_day-prop second = hlevel props
 
--- a moment is known by its date and second
+-- how its date and second are known to be right makes no difference to a moment
 moment_of-same : (date second : ℕ) (e f : IsCalendarDate date) (v w : second < 86400) → moment_of date second e v ≡ moment_of date second f w
 moment_of-same date second e f v w =
     ap (λ x. moment_of date second x v) (IsCalendarDate-prop date e f) ∙ ap (λ x. moment_of date second f x) (within_day-prop second v w)
 
+-- moments of one date and of equal seconds are one
 moment_of-same_second : (date s t : ℕ) → s ≡ t → (e f : IsCalendarDate date) (v : s < 86400) (w : t < 86400) → moment_of date s e v ≡ moment_of date t f w
 moment_of-same_second date s t h =
     subst (λ (x : ℕ). (e f : IsCalendarDate date) (v : s < 86400) (w : x < 86400) → moment_of date s e v ≡ moment_of date x f w) h (moment_of-same date s)
 
+-- moments of equal dates and of equal seconds are one
 moment_of-same_date : (c d s t : ℕ) → c ≡ d → s ≡ t → (e : IsCalendarDate c) (f : IsCalendarDate d) (v : s < 86400) (w : t < 86400) → moment_of c s e v ≡ moment_of d t f w
 moment_of-same_date c d s t h k =
     subst (λ (x : ℕ). (e : IsCalendarDate c) (f : IsCalendarDate x) (v : s < 86400) (w : t < 86400) → moment_of c s e v ≡ moment_of x t f w) h (moment_of-same_second c s t k)

@@ -79,13 +79,14 @@ mod tests {
     use std::test::Fail;
 
     #[test]
-    fn grows_at_its_end(rt: HostRuntime) -> Result<(), Fail> {
+    fn grows(rt: HostRuntime) -> Result<(), Fail> {
         let mut lines = Lines::new(rt.alloc());
         assert!(rt; lines.is_empty());
         lines.push(3u32)?;
         lines.push(5)?;
-        assert_eq!(rt; lines.as_slice(), [3, 5].as_slice());
-        assert_eq!(rt; lines.len(), 2);
+        lines.insert(1, 4)?;
+        assert_eq!(rt; lines.as_slice(), [3, 4, 5].as_slice());
+        assert_eq!(rt; lines.len(), 3);
         Ok(())
     }
 }

@@ -1,0 +1,13 @@
+-- No more is covered than was accepted.
+use Rattle.std.proofs.Common.{◌≡◌, sym, ap, ◌∙◌, subst, arith, inl, inr, refl, length, take, List}
+use Rattle.stock_model.specs.declared.deeds.Deed.{Deed}
+use Rattle.stock_model.specs.History as history
+use Rattle.generation_book.specs.State.{BookState}
+use Rattle.generation_book.specs.Book.{deeds}
+use Rattle.generation_book.proofs.Books.{history-accepted, history-covered}
+use Rattle.generation_book.proofs.book.Book.covered.Goals as goal
+
+pub returns-clause-within : goal.returns-clause-within
+returns-clause-within c =
+    let told : deeds c.self.inside.events.items c.self.inside.journal ≡ c.args.self.now.history = ap (λ (b : BookState). b.history) c.self.view_is in
+    rw (history-accepted _ _ _ _ _ c.args.self.now.history c.self.invariant told, history-covered _ _ _ _ _ c.args.self.now.history c.self.invariant told) c.self.invariant.within

@@ -1,0 +1,42 @@
+-- Everything is covered already, or all records are published.
+use Rattle.std.proofs.Common.{[], ◌∷◌, ◌++◌, ◌≡◌, sym, ap, ◌∙◌, subst, arith, inl, inr, refl, length, take, List}
+use Rattle.stock_model.specs.declared.deeds.Deed.{Deed}
+use Rattle.stock_model.specs.History as history
+use Rattle.generation_book.specs.State.{BookState}
+use Rattle.generation_book.specs.Book.{deeds}
+use Rattle.generation_book.specs.declared.events.Event.{Event}
+use Rattle.generation_book.specs.declared.events.Event.TheVariants.{Published}
+use Rattle.generation_book.proofs.Books.{history-accepted, history-covered, settled-same, settled-more, IsBook-published, deeds-published}
+use Rattle.generation_book.proofs.book.Book.settle_all.Goals as goal
+
+pub returns-then-self-accepted-clause-settled : goal.returns-then-self-accepted-clause-settled
+returns-then-self-accepted-clause-settled c =
+    let told : deeds c.self.inside.events.items c.self.inside.journal ≡ c.args.self.now.history = ap (λ (b : BookState). b.history) c.self.view_is in
+    let all = history-accepted _ _ _ _ _ c.args.self.now.history c.self.invariant told in
+    let covers = history-covered _ _ _ _ _ c.args.self.now.history c.self.invariant told in
+    sym (settled-same c.args.self.now.history (omega (arith, all, covers, c.count.ensures.count)))
+
+pub returns-then-self-accepted-clause-covered : goal.returns-then-self-accepted-clause-covered
+returns-then-self-accepted-clause-covered c =
+    let told : deeds c.self.inside.events.items c.self.inside.journal ≡ c.args.self.now.history = ap (λ (b : BookState). b.history) c.self.view_is in
+    omega (arith, history-accepted _ _ _ _ _ c.args.self.now.history c.self.invariant told, c.self.invariant.within, c.count.ensures.count)
+
+pub invariant_of-self-2 : goal.invariant_of-self-2
+invariant_of-self-2 c =
+    let events = c.push_reserved.ensures.items ∙ ap (λ (es : List Event). es ++ Published (record { 0 = c.count.result }) ∷ []) c.in_ok-reserve.ensures.items in
+    rw events
+    (IsBook-published c.self.inside.events.items c.self.inside.journal c.self.inside.entries c.self.inside.covered.0 c.self.inside.rows (record { 0 = c.count.result }) c.in_ok-rows.rows c.self.invariant c.count.ensures.count (omega arith) (rw (← c.records.ensures.records) c.in_ok-rows.ensures))
+
+pub returns-clause-settled : goal.returns-clause-settled
+returns-clause-settled c =
+    let told : deeds c.self.inside.events.items c.self.inside.journal ≡ c.args.self.now.history = ap (λ (b : BookState). b.history) c.self.view_is in
+    let events = c.push_reserved.ensures.items ∙ ap (λ (es : List Event). es ++ Published (record { 0 = c.count.result }) ∷ []) c.in_ok-reserve.ensures.items in
+    let all = history-accepted _ _ _ _ _ c.args.self.now.history c.self.invariant told in
+    let covers = history-covered _ _ _ _ _ c.args.self.now.history c.self.invariant told in
+    rw (events, deeds-published c.self.inside.events.items c.self.inside.journal (record { 0 = c.count.result }) c.self.invariant.counted, told)
+    (sym (settled-more c.args.self.now.history (record { 0 = c.count.result }) (omega (arith, all, covers, c.count.ensures.count)) (omega (arith, all, c.count.ensures.count))))
+
+pub returns-clause-covered : goal.returns-clause-covered
+returns-clause-covered c =
+    let told : deeds c.self.inside.events.items c.self.inside.journal ≡ c.args.self.now.history = ap (λ (b : BookState). b.history) c.self.view_is in
+    c.count.ensures.count ∙ sym (history-accepted _ _ _ _ _ c.args.self.now.history c.self.invariant told)

@@ -1,0 +1,150 @@
+ghost use Rattle.std.specs.Prelude.{◌≡◌, ◌⊎◌, ◌+◌, ◌<◌, ◌≤◌, [], ◌∷◌, ◌++◌, length, IfOk, OnOk, OnErr, IfErr, Some, None};
+ghost use Rattle.stock_model.specs.declared.deeds.Deed.TheVariants as deed;
+ghost use Rattle.stock_model.specs.Faults.{fault, max_records, max_entries};
+ghost use Rattle.stock_model.specs.History as history;
+ghost use Rattle.stock_model.specs.Answers.{selected};
+ghost use Rattle.stock_model.specs.Bounds.{AreBounded};
+ghost use Rattle.generation_book.specs.State.{BookState};
+
+use crate::events::Event;
+use std::alloc::Global;
+use std::marker::Model;
+use stock_model::faults::PostFault;
+use stock_model::queries::{Query, Selected};
+use stock_model::records::Record;
+use stock_model::{masters, replay};
+use stock_nums::entry::Row;
+use stock_nums::lines::Lines;
+use stock_nums::memory::NoMemory;
+use stock_nums::numbers::RecordNo;
+use voucher_kinds::journal::{Journal, MAX_RECORDS};
+
+/// How many movements a book holds at most.
+pub const MAX_ENTRIES: usize = 4_000;
+
+/// The accepted records, and the generation that reports are made from: the valued movements of the
+/// first `covered` records. Contracts see its history.
+#[derive(Drop)]
+pub struct Book {
+    journal: Journal,
+    events: Vec<Event>,
+    entries: u32,
+    covered: RecordNo,
+    rows: Lines<Row>,
+}
+
+impl Model for Book {
+    ghost use Rattle.generation_book.specs.State.{BookState};
+
+    ghost Value = { BookState };
+
+    ghost use Rattle.generation_book.specs.Book.{deeds, IsBook};
+
+    ghost view = { λ book. record { history = deeds book.events.items book.journal } };
+
+    ghost invariant = { λ book. IsBook book.events.items book.journal book.entries book.covered.0 book.rows };
+}
+
+impl Book {
+    /// The empty book. It takes no memory.
+    pub fn start(alloc: Global) -> Book
+        ensures { result.history ≡ [] }
+    {
+        Book {
+            journal: Journal::new(alloc),
+            events: Vec::new(alloc),
+            entries: 0,
+            covered: RecordNo(0),
+            rows: Lines::new(alloc),
+        }
+    }
+
+    /// Accepts a record, or refuses it for its first fault. Reports stay as they were.
+    pub fn post(&mut self, alloc: Global, item: Record) -> Result<RecordNo, PostFault>
+        ensures sound { OnOk result (fault (history.records self.old.history) item ≡ None) }
+        ensures kept { OnOk result (self.new.history ≡ self.old.history ++ deed.Kept item ∷ []) }
+        ensures number { IfOk result (λ n. n.0 ≡ history.accepted self.new.history) }
+        ensures fault { IfErr result (λ f. (f ≡ PostFault.NoMemory) ⊎ (fault (history.records self.old.history) item ≡ Some f)) }
+        ensures unchanged { OnErr result (self.new ≡ self.old) }
+    {
+        let entries = match self.journal.check(alloc, &item) {
+            Ok(entries) => entries.len(),
+            Err(fault) => return Err(fault),
+        };
+        if self.journal.count() as usize >= MAX_RECORDS
+            || entries > MAX_ENTRIES - self.entries as usize
+        {
+            return Err(PostFault::Full {
+                records: self.journal.count(),
+                entries: self.entries,
+            });
+        }
+        if self.events.reserve(1).is_err() {
+            return Err(PostFault::NoMemory);
+        }
+        let Ok(number) = self.journal.push(item) else {
+            return Err(PostFault::NoMemory);
+        };
+        self.events.push_reserved(Event::Kept);
+        self.entries += entries as u32;
+        Ok(number)
+    }
+
+    /// Covers every accepted record: where some are not covered it publishes their replay. It answers how
+    /// many are covered. A refusal changes nothing.
+    pub fn settle_all(&mut self, alloc: Global) -> Result<RecordNo, NoMemory>
+        ensures settled { OnOk result (self.new.history ≡ history.settled self.old.history) }
+        ensures covered { IfOk result (λ n. n.0 ≡ history.accepted self.old.history) }
+        ensures unchanged { OnErr result (self.new ≡ self.old) }
+    {
+        let accepted = RecordNo(self.journal.count());
+        if self.covered.0 >= accepted.0 {
+            return Ok(self.covered);
+        }
+        let rows = replay::replay(alloc, self.journal.records())?;
+        self.events.reserve(1)?;
+        self.events.push_reserved(Event::Published(accepted));
+        self.covered = accepted;
+        self.rows = rows;
+        Ok(accepted)
+    }
+
+    /// What a report is made from.
+    pub fn select(&self, alloc: Global, query: &Query) -> Result<Selected, NoMemory>
+        ensures selected { IfOk result (λ chosen. chosen ≡ selected self.now.history query.now) }
+        ensures bounded { IfOk result (λ chosen. AreBounded chosen.rows) }
+    {
+        let records = self.journal.records();
+        Ok(Selected {
+            covered: self.covered,
+            rows: copy_rows(alloc, self.rows.as_slice())?,
+            heads: masters::heads(alloc, &records[..self.covered.0 as usize])?,
+        })
+    }
+
+    /// How many records are accepted.
+    pub fn accepted(&self) -> RecordNo
+        ensures accepted { result.0 ≡ history.accepted self.now.history }
+        ensures legal { history.IsLegal self.now.history }
+    {
+        RecordNo(self.journal.count())
+    }
+
+    /// How many records the reports cover.
+    pub fn covered(&self) -> RecordNo
+        ensures covered { result.0 ≡ history.covered self.now.history }
+        ensures within { history.covered self.now.history ≤ history.accepted self.now.history }
+    {
+        self.covered
+    }
+}
+
+fn copy_rows(alloc: Global, rows: &[Row]) -> Result<Lines<Row>, NoMemory>
+    ensures { IfOk result (λ copy. copy ≡ rows.now) }
+{
+    let mut copy = Lines::new(alloc);
+    for row in rows {
+        copy.push(*row)?;
+    }
+    Ok(copy)
+}

@@ -1,0 +1,14 @@
+//! The traits of the outside world: where bytes come from and where they go, in memory and over the
+//! standard streams.
+#![tactic(auto)]
+
+pub mod failed;
+pub mod memory_sink;
+pub mod memory_source;
+pub mod plan;
+pub mod sink;
+pub mod source;
+pub mod standard;
+pub mod sure;
+#[cfg(test)]
+mod tests;
