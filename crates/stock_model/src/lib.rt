@@ -14,6 +14,8 @@ pub mod refusals;
 pub mod replay;
 pub mod replies;
 pub mod requests;
+#[cfg(test)]
+mod sheet_tests;
 pub mod sheets;
 pub mod vouchers;
 pub mod worked;

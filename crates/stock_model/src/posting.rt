@@ -1,3 +1,4 @@
+//! All movements of a journal in posting order, put in one by one.
 ghost use Rattle.std.specs.Prelude.{◌≡◌, ◌^◌, ◌<◌, ◌≤◌, length, insert, IfOk, OnOk, OnErr};
 ghost use Rattle.stock_model.specs.PostingOrder.{put, put_all, posting_line};
 

@@ -1,3 +1,4 @@
+//! The chronological replay: each movement valued in posting order.
 ghost use Rattle.std.specs.Prelude.{◌≡◌, ◌^◌, ◌<◌, length, IfOk};
 ghost use Rattle.stock_model.specs.Replay.{valued, rows_of, replay};
 

@@ -1,3 +1,4 @@
+//! The sheets of a report.
 ghost use Rattle.std.specs.Prelude.{◌≡◌, ◌^◌, ◌<◌, ◌≤◌, length, insert, IfOk, OnOk, OnErr, MatchOption, map};
 ghost use Rattle.stock_model.specs.Bounds.{AreBounded};
 ghost use Rattle.stock_model.specs.Sums.{is_of, enters_at, leaves_at, quantity_in, quantity_out, value_in, value_out};
