@@ -1,5 +1,5 @@
 //! A line of input as the request that it is.
-ghost use Rattle.std.specs.Prelude.{◌≡◌, ◌≤◌, List, IsTrue, IfSome, IfNone, IfOk, length, IsUtf8};
+ghost use Rattle.std.specs.Prelude.{◌≡◌, ◌≤◌, ℕ, List, IsTrue, IfSome, IfNone, IfOk, length, IsUtf8};
 ghost use Rattle.serde_json.specs.Data.{Data, array};
 ghost use Rattle.serde_json.specs.View.{view, items_view, members_view};
 ghost use Rattle.stock_nums.specs.declared.moment.Moment.{Moment};
@@ -45,6 +45,11 @@ pub fn read_request(alloc: Global, line: &[u8]) -> Result<Option<Request>, NoMem
         Err(_) => Ok(None),
     }
 }
+
+/// A line is at most one request.
+pub fn requests_have_one_reading()
+    ensures { (line : List ℕ) (a b : Request) → IsRequest line a → IsRequest line b → a ≡ b }
+{}
 
 /// The request that a JSON value is.
 fn request_of(alloc: Global, value: &Value) -> Result<Option<Request>, NoMemory>
