@@ -36,9 +36,9 @@ fn reply_value(alloc: Global, reply: &Reply) -> Result<Value, AllocError>
     ensures { IfOk result (λ value. view value ≡ reply_data reply.now) }
 {
     match reply {
-        Reply::Accepted(number) => { json!(in alloc; {"record": number.0, "status": "accepted"}) }
+        Reply::Accepted(number) => json!(in alloc; {"record": number.0, "status": "accepted"}),
         Reply::Refused(fault) => refusal_value(alloc, *fault),
-        Reply::Settled(covered) => { json!(in alloc; {"covered": covered.0, "status": "settled"}) }
+        Reply::Settled(covered) => json!(in alloc; {"covered": covered.0, "status": "settled"}),
         Reply::Balance { covered, rows } => {
             let rows = rows_value(alloc, rows.as_slice())?;
             json!(in alloc; {"covered": covered.0, "report": "balance", "rows": rows, "status": "ok"})
