@@ -1,3 +1,4 @@
+pub mod OneReading
 pub mod ReceiptLines
 pub mod ReplyTexts
 pub mod Requests

@@ -1,6 +1,5 @@
 -- What a line that has been read says of the requests that it may be.
-use Rattle.std.proofs.Common.{◌≡◌, ℕ, ◌≤◌, List, length, Option, Some, None, Result, IfOk, IfNone, IsTrue, nat_le, ◌&&◌, subst, arith}
-use Rattle.std.proofs.lemmas.Bool.Decides.{nat_tests}
+use Rattle.std.proofs.Common.{◌≡◌, ℕ, ◌≤◌, List, length, Option, Some, None, Result, IfOk, IfNone, subst, arith}
 use Rattle.std.proofs.lemmas.Result.{IfOk-weaker}
 use Rattle.serde_json.specs.Data.{Data, Items, Members}
 use Rattle.serde_json.specs.Read.{read}
@@ -26,8 +25,9 @@ pub few_values : (members : Members) (text : List ℕ) (values : List Value) (at
     → IsReceiptForm members at lines → (1 ≤ length values) × (length values ≤ 100)
 few_values members text values at lines is form =
     let same : length lines ≡ length values = length-lines values lines (receipt_lines members text values at lines is form) in
-    let few : IsTrue (nat_le 1 (length lines) && nat_le (length lines) 100) = form.few in
-    grind (arith, nat_tests)
+    let least : 1 ≤ length lines = form.least in
+    let most : length lines ≤ 100 = form.most in
+    (omega arith, omega arith)
 
 not_request : (line : List ℕ) (value : Data) → read line ≡ Some value → ((request : Request) → IsFormOf value request → ⊥) → (request : Request) → IsRequest line request → ⊥
 not_request line value is none request asked =

@@ -55,6 +55,7 @@ AreLinesOf no_items (line ∷ lines) = ⊥
 AreLinesOf (item value values) [] = ⊥
 AreLinesOf (item value values) (line ∷ lines) = IsLineOf value line × AreLinesOf values lines
 
+-- an item is valued by the moving average
 abbrev pub IsItemForm : Members → List ℕ → Method → Type 0
 IsItemForm form code Fifo = ⊥
 IsItemForm form code Average = (form ≡ item_members code) × IsTrue (is_code code)
@@ -73,7 +74,8 @@ pub record IsReceiptForm (form : Members) (at : Moment) (lines : List ReceiptLin
   pub values : Items
   pub members_are : form ≡ receipt_members text values
   pub lines_are : AreLinesOf values lines
-  pub few : IsTrue (is_within_limits (Receipt at lines))
+  pub least : 1 ≤ length lines
+  pub most : length lines ≤ 100
 
 -- the members say what the record says
 abbrev pub IsWhatForm : Members → What → Type 0
@@ -81,6 +83,7 @@ IsWhatForm form (Item code method) = IsItemForm form code method
 IsWhatForm form (Store code account) = IsStoreForm form code account.0
 IsWhatForm form (Receipt at lines) = IsReceiptForm form at lines
 
+-- the balance sheet is the one report
 abbrev pub IsReportForm : Members → Sheet → Type 0
 IsReportForm form Balance = form ≡ balance_members
 
@@ -90,7 +93,8 @@ IsRequestForm form (Post what) = IsWhatForm form what
 IsRequestForm form Settle = form ≡ settle_members
 IsRequestForm form (Report query) = IsReportForm form query.sheet
 
--- the JSON value is an object that says what the request asks for: it has exactly these members
+-- The JSON value is an object that says what the request asks for: it has exactly these members. In a text
+-- they may come in any order, and of a key that comes again the last value counts.
 abbrev pub IsFormOf : Data → Request → Type 0
 IsFormOf value request = (form : Members) × (value ≡ object form) × IsRequestForm form request
 

@@ -1,5 +1,5 @@
 //! A line of input as the request that it is.
-ghost use Rattle.std.specs.Prelude.{◌≡◌, ◌≤◌, List, IsTrue, IfSome, IfNone, IfOk, length, IsUtf8};
+ghost use Rattle.std.specs.Prelude.{◌≡◌, ◌≤◌, ℕ, List, IsTrue, IfSome, IfNone, IfOk, length, IsUtf8};
 ghost use Rattle.serde_json.specs.Data.{Data, array};
 ghost use Rattle.serde_json.specs.View.{view, items_view, members_view};
 ghost use Rattle.stock_nums.specs.declared.moment.Moment.{Moment};
@@ -45,6 +45,11 @@ pub fn read_request(alloc: Global, line: &[u8]) -> Result<Option<Request>, NoMem
         Err(_) => Ok(None),
     }
 }
+
+/// A line is at most one request.
+pub fn requests_have_one_reading()
+    ensures { (line : List ℕ) (a b : Request) → IsRequest line a → IsRequest line b → a ≡ b }
+{}
 
 /// The request that a JSON value is.
 fn request_of(alloc: Global, value: &Value) -> Result<Option<Request>, NoMemory>
@@ -141,4 +146,135 @@ fn read_line(alloc: Global, value: &Value) -> Result<Option<ReceiptLine>, NoMemo
         qty: Qty(fields.qty),
         amount: Minor(fields.amount as i64),
     }))
+}
+
+#[cfg(test)]
+mod tests {
+    use super::*;
+    use std::test::Fail;
+
+    /// The fields of a request, in words.
+    fn told(alloc: Global, request: &Request) -> Result<String, Fail> {
+        match request {
+            Request::Post(What::Item { code, method }) => {
+                Ok(format!(in alloc; "item {} {method:?}", code.text())?)
+            }
+            Request::Post(What::Store { code, account }) => {
+                Ok(format!(in alloc; "store {} {}", code.text(), account.0)?)
+            }
+            Request::Post(What::Receipt { at, lines }) => {
+                let mut text = format!(in alloc; "receipt {} {}", at.date, at.second)?;
+                for line in lines.as_slice() {
+                    text.push_str(told_line(alloc, line)?.as_str())?;
+                }
+                Ok(text)
+            }
+            Request::Settle => Ok(String::from_str(alloc, "settle")?),
+            Request::Report(query) => Ok(format!(in alloc; "report {:?}", query.sheet)?),
+        }
+    }
+
+    fn told_line(alloc: Global, line: &ReceiptLine) -> Result<String, Fail> {
+        let (item, store) = (line.item.text(), line.store.text());
+        Ok(format!(in alloc; ", {item} {store} {} {}", line.qty.0, line.amount.0)?)
+    }
+
+    fn read(alloc: Global, line: &[u8]) -> Result<String, Fail> {
+        match read_request(alloc, line)? {
+            Some(request) => told(alloc, &request),
+            None => Ok(String::from_str(alloc, "bad")?),
+        }
+    }
+
+    #[test]
+    fn reads_each_form(rt: HostRuntime) -> Result<(), Fail> {
+        let table = [
+            (
+                r#"{"do":"item","code":"B","method":"average"}"#,
+                "item B Average",
+            ),
+            (
+                r#" {"account":100, "do":"store","code":"W-1_.x"} "#,
+                "store W-1_.x 100",
+            ),
+            (r#"{"do":"settle"}"#, "settle"),
+            (r#"{"do":"fly","do":"settle"}"#, "settle"),
+            (r#"{"of":"balance","do":"report"}"#, "report Balance"),
+            (
+                r#"{"do":"receipt","at":"2026-01-03T07:08:09","lines":[{"item":"B","store":"W1","qty":1,"amount":0},{"item":"C","store":"W2","qty":1000000000,"amount":1000000000000}]}"#,
+                "receipt 20260103 25689, B W1 1 0, C W2 1000000000 1000000000000",
+            ),
+        ];
+        for (line, want) in table {
+            let found = read(rt.alloc(), line.as_bytes())?;
+            assert_eq!(rt; found.as_str(), want, "{line}");
+        }
+        Ok(())
+    }
+
+    #[test]
+    fn refuses_every_other_line(rt: HostRuntime) -> Result<(), Fail> {
+        let table = [
+            "{",
+            "[]",
+            r#"{"do":"fly"}"#,
+            r#"{"do":"item","code":"B","method":"fifo"}"#,
+            r#"{"do":"item","code":"a b","method":"average"}"#,
+            r#"{"do":"item","code":"","method":"average"}"#,
+            r#"{"do":"store","code":"W1","account":99}"#,
+            r#"{"do":"store","code":"W1","account":10000}"#,
+            r#"{"do":"settle","now":true}"#,
+            r#"{"do":"settle"} {}"#,
+            r#"{"do":"report","of":"balance","at":"2026-01-01T00:00:00"}"#,
+            r#"{"do":"receipt","at":"2026-01-01T00:00:00","lines":[]}"#,
+            r#"{"do":"receipt","at":"2026-02-29T00:00:00","lines":[{"item":"B","store":"W1","qty":1,"amount":1}]}"#,
+        ];
+        for line in table {
+            let found = read(rt.alloc(), line.as_bytes())?;
+            assert_eq!(rt; found.as_str(), "bad", "{line}");
+        }
+        assert_eq!(rt;
+            read(rt.alloc(), b"{\"do\":\"settle\xff\"}")?.as_str(),
+            "bad"
+        );
+        Ok(())
+    }
+
+    #[test]
+    fn refuses_numbers_out_of_range(rt: HostRuntime) -> Result<(), Fail> {
+        let alloc = rt.alloc();
+        let table = [
+            ("0", "1"),
+            ("1000000001", "1"),
+            ("1.0", "1"),
+            ("1e0", "1"),
+            ("1", "-1"),
+            ("1", "1000000000001"),
+            ("1", "\"1\""),
+            ("1", "1,\"tax\":1"),
+        ];
+        for (qty, amount) in table {
+            let line = format!(in alloc;
+                "{{\"do\":\"receipt\",\"at\":\"2026-01-01T00:00:00\",\"lines\":[{{\"item\":\"B\",\"store\":\"W1\",\"qty\":{qty},\"amount\":{amount}}}]}}"
+            )?;
+            assert_eq!(rt;
+                read(alloc, line.as_bytes())?.as_str(),
+                "bad",
+                "{qty} {amount}"
+            );
+        }
+        Ok(())
+    }
+
+    #[test]
+    fn reads_lines_up_to_the_limit(rt: HostRuntime) -> Result<(), Fail> {
+        let alloc = rt.alloc();
+        let mut line = vec![in alloc; b' '; MAX_LINE_BYTES - 15]?;
+        line.extend_from_slice(b"{\"do\":\"settle\"}")?;
+        assert_eq!(rt; line.len(), MAX_LINE_BYTES);
+        assert_eq!(rt; read(alloc, line.as_slice())?.as_str(), "settle");
+        line.push(b' ')?;
+        assert_eq!(rt; read(alloc, line.as_slice())?.as_str(), "bad");
+        Ok(())
+    }
 }

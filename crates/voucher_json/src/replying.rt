@@ -36,9 +36,9 @@ fn reply_value(alloc: Global, reply: &Reply) -> Result<Value, AllocError>
     ensures { IfOk result (λ value. view value ≡ reply_data reply.now) }
 {
     match reply {
-        Reply::Accepted(number) => { json!(in alloc; {"record": number.0, "status": "accepted"}) }
+        Reply::Accepted(number) => json!(in alloc; {"record": number.0, "status": "accepted"}),
         Reply::Refused(fault) => refusal_value(alloc, *fault),
-        Reply::Settled(covered) => { json!(in alloc; {"covered": covered.0, "status": "settled"}) }
+        Reply::Settled(covered) => json!(in alloc; {"covered": covered.0, "status": "settled"}),
         Reply::Balance { covered, rows } => {
             let rows = rows_value(alloc, rows.as_slice())?;
             json!(in alloc; {"covered": covered.0, "report": "balance", "rows": rows, "status": "ok"})
@@ -90,4 +90,102 @@ fn row_value(alloc: Global, row: &BalanceRow) -> Result<Value, AllocError>
         "store": row.store.text(),
         "value": row.value.0
     })
+}
+
+#[cfg(test)]
+mod tests {
+    use super::*;
+    use std::process::Abort;
+    use std::test::Fail;
+    use stock_nums::code::Code;
+    use stock_nums::numbers::{Minor, Qty, RecordNo};
+
+    fn check(rt: &impl Abort, alloc: Global, reply: &Reply, want: &str) -> Result<(), Fail>
+        requires { IsPrinted reply.now }
+    {
+        let text = reply_text(alloc, reply)?;
+        assert!(rt; text.as_slice() == want.as_bytes());
+        Ok(())
+    }
+
+    #[test]
+    fn prints_outcomes(rt: HostRuntime) -> Result<(), Fail> {
+        let alloc = rt.alloc();
+        check(
+            &rt,
+            alloc,
+            &Reply::Accepted(RecordNo(7)),
+            r#"{"record":7,"status":"accepted"}"#,
+        )?;
+        check(
+            &rt,
+            alloc,
+            &Reply::Settled(RecordNo(7)),
+            r#"{"covered":7,"status":"settled"}"#,
+        )?;
+        let bad = r#"{"fault":"bad-field","field":"request","line":0,"status":"bad"}"#;
+        check(&rt, alloc, &Reply::Bad, bad)?;
+        assert!(rt; bad_reply() == bad.as_bytes());
+        Ok(())
+    }
+
+    #[test]
+    fn prints_refusals(rt: HostRuntime) -> Result<(), Fail> {
+        let alloc = rt.alloc();
+        let taken = Reply::Refused(PostFault::CodeTaken);
+        check(
+            &rt,
+            alloc,
+            &taken,
+            r#"{"fault":"code-taken","status":"refused"}"#,
+        )?;
+        let item = Reply::Refused(PostFault::UnknownItem { line: 1 });
+        check(
+            &rt,
+            alloc,
+            &item,
+            r#"{"fault":"unknown-item","line":1,"status":"refused"}"#,
+        )?;
+        let store = Reply::Refused(PostFault::UnknownStore { line: 2 });
+        check(
+            &rt,
+            alloc,
+            &store,
+            r#"{"fault":"unknown-store","line":2,"status":"refused"}"#,
+        )?;
+        let full = Reply::Refused(PostFault::Full {
+            records: 44,
+            entries: 4000,
+        });
+        check(
+            &rt,
+            alloc,
+            &full,
+            r#"{"entries":4000,"fault":"full","records":44,"status":"refused"}"#,
+        )
+    }
+
+    #[test]
+    fn prints_a_balance(rt: HostRuntime) -> Result<(), Fail> {
+        let alloc = rt.alloc();
+        let mut rows = Lines::new(alloc);
+        for (item, value) in [("B", 1000), ("C", -3)] {
+            rows.push(BalanceRow {
+                item: Code::of(alloc, item)?,
+                store: Code::of(alloc, "W1")?,
+                qty: Qty(10),
+                value: Minor(value),
+            })?;
+        }
+        let balance = Reply::Balance {
+            covered: RecordNo(3),
+            rows,
+        };
+        check(
+            &rt,
+            alloc,
+            &balance,
+            r#"{"covered":3,"report":"balance","rows":[{"item":"B","qty":10,"store":"W1","value":1000},{"item":"C","qty":10,"store":"W1","value":-3}],"status":"ok"}"#,
+        )
+    }
 }
