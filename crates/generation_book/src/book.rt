@@ -150,3 +150,105 @@ fn copy_rows(alloc: Global, rows: &[Row]) -> Result<Lines<Row>, NoMemory>
     }
     Ok(copy)
 }
+
+#[cfg(test)]
+mod tests {
+    use super::*;
+    use std::test::Fail;
+    use stock_model::queries::Sheet;
+    use stock_model::vouchers::{ReceiptLine, What};
+    use stock_nums::cause::Method;
+    use stock_nums::code::Code;
+    use stock_nums::moment::Moment;
+    use stock_nums::numbers::{AccountNo, DeskNo, Minor, Qty};
+
+    fn item(alloc: Global) -> Result<Record, NoMemory> {
+        Ok(Record {
+            desk: DeskNo(0),
+            what: What::Item {
+                code: Code::of(alloc, "B")?,
+                method: Method::Average,
+            },
+        })
+    }
+
+    fn store(alloc: Global) -> Result<Record, NoMemory> {
+        Ok(Record {
+            desk: DeskNo(0),
+            what: What::Store {
+                code: Code::of(alloc, "W1")?,
+                account: AccountNo(100),
+            },
+        })
+    }
+
+    // A receipt of ten units of B into W1 for 1000.
+    fn receipt(alloc: Global) -> Result<Record, NoMemory> {
+        let mut lines = Lines::new(alloc);
+        lines.push(ReceiptLine {
+            item: Code::of(alloc, "B")?,
+            store: Code::of(alloc, "W1")?,
+            qty: Qty(10),
+            amount: Minor(1000),
+        })?;
+        Ok(Record {
+            desk: DeskNo(0),
+            what: What::Receipt {
+                at: Moment {
+                    date: 20_260_102,
+                    second: 32_400,
+                },
+                lines,
+            },
+        })
+    }
+
+    fn post(alloc: Global, book: &mut Book, item: Record) -> Result<u32, PostFault> {
+        Ok(book.post(alloc, item)?.0)
+    }
+
+    fn settle_all(alloc: Global, book: &mut Book) -> Result<u32, NoMemory> {
+        Ok(book.settle_all(alloc)?.0)
+    }
+
+    fn counts(book: &Book) -> (u32, u32) {
+        (book.accepted().0, book.covered().0)
+    }
+
+    // How many records a report covers, the quantity and value of each movement, and how many heads.
+    fn shown(alloc: Global, book: &Book) -> Result<(u32, Vec<(u64, i64)>, usize), NoMemory> {
+        let chosen = book.select(
+            alloc,
+            &Query {
+                sheet: Sheet::Balance,
+            },
+        )?;
+        let mut rows = Vec::new(alloc);
+        for row in chosen.rows.as_slice() {
+            rows.push((row.entry.qty.0, row.worth.value.0))?;
+        }
+        Ok((chosen.covered.0, rows, chosen.heads.len()))
+    }
+
+    #[test]
+    fn reports_what_is_settled(rt: HostRuntime) -> Result<(), Fail> {
+        let alloc = rt.alloc();
+        let mut book = Book::start(alloc);
+        assert_eq!(rt; post(alloc, &mut book, item(alloc)?)?, 1);
+        assert_eq!(rt; post(alloc, &mut book, store(alloc)?)?, 2);
+        assert_eq!(rt; post(alloc, &mut book, receipt(alloc)?)?, 3);
+        assert_eq!(rt; counts(&book), (3, 0));
+        let (covered, rows, heads) = shown(alloc, &book)?;
+        assert_eq!(rt; (covered, rows.len(), heads), (0, 0, 0));
+        assert_eq!(rt; settle_all(alloc, &mut book)?, 3);
+        assert_eq!(rt;
+            post(alloc, &mut book, item(alloc)?),
+            Err(PostFault::CodeTaken)
+        );
+        assert_eq!(rt; counts(&book), (3, 3));
+        let (covered, rows, heads) = shown(alloc, &book)?;
+        assert_eq!(rt; (covered, heads), (3, 2));
+        assert_eq!(rt; rows.as_slice(), [(10, 1000)].as_slice());
+        Ok(())
+    }
+}

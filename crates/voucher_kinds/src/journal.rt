@@ -111,3 +111,144 @@ impl Journal {
         movements::entries(alloc, &records[..before], &records[before])
     }
 }
+
+#[cfg(test)]
+mod tests {
+    use super::*;
+    use std::test::Fail;
+    use stock_model::vouchers::{ReceiptLine, What};
+    use stock_nums::cause::{Cause, Method};
+    use stock_nums::code::Code;
+    use stock_nums::moment::Moment;
+    use stock_nums::numbers::{AccountNo, DeskNo, ItemNo, Minor, Qty, StoreNo};
+    use stock_nums::place::{Place, Side};
+
+    const NINE: Moment = Moment {
+        date: 20_260_102,
+        second: 32_400,
+    };
+
+    fn item(alloc: Global, code: &str) -> Result<Record, NoMemory> {
+        Ok(Record {
+            desk: DeskNo(0),
+            what: What::Item {
+                code: Code::of(alloc, code)?,
+                method: Method::Average,
+            },
+        })
+    }
+
+    fn store(alloc: Global, code: &str) -> Result<Record, NoMemory> {
+        Ok(Record {
+            desk: DeskNo(0),
+            what: What::Store {
+                code: Code::of(alloc, code)?,
+                account: AccountNo(100),
+            },
+        })
+    }
+
+    fn ten(alloc: Global, item: &str, store: &str) -> Result<ReceiptLine, NoMemory> {
+        Ok(ReceiptLine {
+            item: Code::of(alloc, item)?,
+            store: Code::of(alloc, store)?,
+            qty: Qty(10),
+            amount: Minor(1000),
+        })
+    }
+
+    // A receipt of ten units of each of two items into W1 and into a second warehouse.
+    fn receipt(alloc: Global, items: [&str; 2], second: &str) -> Result<Record, NoMemory> {
+        let mut lines = Lines::new(alloc);
+        lines.push(ten(alloc, items[0], "W1")?)?;
+        lines.push(ten(alloc, items[1], second)?)?;
+        Ok(Record {
+            desk: DeskNo(0),
+            what: What::Receipt { at: NINE, lines },
+        })
+    }
+
+    // What enters by a line of that receipt, as record 3.
+    fn ten_entered(line: u32) -> Entry {
+        Entry {
+            place: Place {
+                moment: NINE,
+                voucher: RecordNo(3),
+                line,
+                side: Side::Enters,
+            },
+            item: ItemNo(1),
+            store: StoreNo(2),
+            qty: Qty(10),
+            method: Method::Average,
+            cause: Cause::Receipt {
+                amount: Minor(1000),
+            },
+        }
+    }
+
+    fn accept(alloc: Global, journal: &mut Journal, item: Record) -> Result<RecordNo, PostFault> {
+        journal.check(alloc, &item)?;
+        if journal.count() as usize >= MAX_RECORDS {
+            return Err(PostFault::Full {
+                records: journal.count(),
+                entries: 0,
+            });
+        }
+        journal.push(item).map_err(|_| PostFault::NoMemory)
+    }
+
+    fn fault(alloc: Global, journal: &Journal, item: &Record) -> Option<PostFault> {
+        journal.check(alloc, item).err()
+    }
+
+    #[test]
+    fn keeps_records_without_a_fault(rt: HostRuntime) -> Result<(), Fail> {
+        let alloc = rt.alloc();
+        let mut journal = Journal::new(alloc);
+        assert_eq!(rt;
+            accept(alloc, &mut journal, item(alloc, "B")?)?,
+            RecordNo(1)
+        );
+        assert_eq!(rt;
+            accept(alloc, &mut journal, store(alloc, "W1")?)?,
+            RecordNo(2)
+        );
+        assert_eq!(rt;
+            accept(alloc, &mut journal, receipt(alloc, ["B", "B"], "W1")?)?,
+            RecordNo(3)
+        );
+        let table = [
+            (item(alloc, "B")?, PostFault::CodeTaken),
+            (
+                receipt(alloc, ["C", "B"], "W2")?,
+                PostFault::UnknownItem { line: 1 },
+            ),
+            (
+                receipt(alloc, ["B", "B"], "W2")?,
+                PostFault::UnknownStore { line: 2 },
+            ),
+        ];
+        for (record, want) in &table {
+            assert_eq!(rt; fault(alloc, &journal, record), Some(*want));
+        }
+        assert_eq!(rt; journal.count(), 3);
+        assert_eq!(rt; journal.records().len(), 3);
+        assert!(rt; journal.at(RecordNo(0)).is_none());
+        assert!(rt;
+            matches!(
+                journal.at(RecordNo(2)),
+                Some(Record {
+                    what: What::Store { .. },
+                    ..
+                })
+            )
+        );
+        let entries = journal.entries_of(alloc, RecordNo(3))?;
+        assert_eq!(rt;
+            entries.as_slice(),
+            [ten_entered(1), ten_entered(2)].as_slice()
+        );
+        Ok(())
+    }
+}
