@@ -203,52 +203,59 @@ mod tests {
         })
     }
 
-    fn post(alloc: Global, book: &mut Book, item: Record) -> Result<u32, PostFault> {
-        Ok(book.post(alloc, item)?.0)
+    fn post_three(alloc: Global, book: &mut Book) -> Result<[u32; 3], Fail> {
+        let first = book.post(alloc, item(alloc)?)?;
+        let second = book.post(alloc, store(alloc)?)?;
+        let third = book.post(alloc, receipt(alloc)?)?;
+        Ok([first.0, second.0, third.0])
+    }
+
+    // Why the same item is not accepted again.
+    fn refused(alloc: Global, book: &mut Book) -> Option<PostFault> {
+        book.post(alloc, item(alloc).ok()?).err()
     }
 
     fn settle_all(alloc: Global, book: &mut Book) -> Result<u32, NoMemory> {
         Ok(book.settle_all(alloc)?.0)
     }
 
-    fn counts(book: &Book) -> (u32, u32) {
-        (book.accepted().0, book.covered().0)
+    fn counts(book: &Book) -> [u32; 2] {
+        [book.accepted().0, book.covered().0]
     }
 
-    // How many records a report covers, the quantity and value of each movement, and how many heads.
-    fn shown(alloc: Global, book: &Book) -> Result<(u32, Vec<(u64, i64)>, usize), NoMemory> {
-        let chosen = book.select(
-            alloc,
-            &Query {
-                sheet: Sheet::Balance,
-            },
-        )?;
-        let mut rows = Vec::new(alloc);
-        for row in chosen.rows.as_slice() {
-            rows.push((row.entry.qty.0, row.worth.value.0))?;
-        }
-        Ok((chosen.covered.0, rows, chosen.heads.len()))
+    fn select(alloc: Global, book: &Book) -> Result<Selected, NoMemory> {
+        let query = Query {
+            sheet: Sheet::Balance,
+        };
+        book.select(alloc, &query)
+    }
+
+    // How many records, movements and heads a report is made from.
+    fn sizes(alloc: Global, book: &Book) -> Result<[usize; 3], NoMemory> {
+        let chosen = select(alloc, book)?;
+        let covered = chosen.covered.0 as usize;
+        Ok([covered, chosen.rows.len(), chosen.heads.len()])
+    }
+
+    // The quantity and the value of the first movement that a report is made from.
+    fn first_row(alloc: Global, book: &Book) -> Option<(u64, i64)> {
+        let chosen = select(alloc, book).ok()?;
+        let row = chosen.rows.as_slice().first()?;
+        Some((row.entry.qty.0, row.worth.value.0))
     }
 
     #[test]
-    fn reports_what_is_settled(rt: HostRuntime) -> Result<(), Fail> {
+    fn shows_what_is_settled(rt: HostRuntime) -> Result<(), Fail> {
         let alloc = rt.alloc();
         let mut book = Book::start(alloc);
-        assert_eq!(rt; post(alloc, &mut book, item(alloc)?)?, 1);
-        assert_eq!(rt; post(alloc, &mut book, store(alloc)?)?, 2);
-        assert_eq!(rt; post(alloc, &mut book, receipt(alloc)?)?, 3);
-        assert_eq!(rt; counts(&book), (3, 0));
-        let (covered, rows, heads) = shown(alloc, &book)?;
-        assert_eq!(rt; (covered, rows.len(), heads), (0, 0, 0));
+        assert_eq!(rt; post_three(alloc, &mut book)?, [1, 2, 3]);
+        assert_eq!(rt; counts(&book), [3, 0]);
+        assert_eq!(rt; sizes(alloc, &book)?, [0, 0, 0]);
         assert_eq!(rt; settle_all(alloc, &mut book)?, 3);
-        assert_eq!(rt;
-            post(alloc, &mut book, item(alloc)?),
-            Err(PostFault::CodeTaken)
-        );
-        assert_eq!(rt; counts(&book), (3, 3));
-        let (covered, rows, heads) = shown(alloc, &book)?;
-        assert_eq!(rt; (covered, heads), (3, 2));
-        assert_eq!(rt; rows.as_slice(), [(10, 1000)].as_slice());
+        assert_eq!(rt; refused(alloc, &mut book), Some(PostFault::CodeTaken));
+        assert_eq!(rt; counts(&book), [3, 3]);
+        assert_eq!(rt; sizes(alloc, &book)?, [3, 1, 2]);
+        assert_eq!(rt; first_row(alloc, &book), Some((10, 1000)));
         Ok(())
     }
 }
