@@ -215,14 +215,6 @@ mod tests {
         book.post(alloc, item(alloc).ok()?).err()
     }
 
-    fn settle_all(alloc: Global, book: &mut Book) -> Result<u32, NoMemory> {
-        Ok(book.settle_all(alloc)?.0)
-    }
-
-    fn counts(book: &Book) -> [u32; 2] {
-        [book.accepted().0, book.covered().0]
-    }
-
     fn select(alloc: Global, book: &Book) -> Result<Selected, NoMemory> {
         let query = Query {
             sheet: Sheet::Balance,
@@ -230,11 +222,17 @@ mod tests {
         book.select(alloc, &query)
     }
 
-    // How many records, movements and heads a report is made from.
-    fn sizes(alloc: Global, book: &Book) -> Result<[usize; 3], NoMemory> {
+    // How many records are accepted and how many are covered, and how many records, movements and heads
+    // a report is made from.
+    fn sizes(alloc: Global, book: &Book) -> Result<[usize; 5], NoMemory> {
         let chosen = select(alloc, book)?;
-        let covered = chosen.covered.0 as usize;
-        Ok([covered, chosen.rows.len(), chosen.heads.len()])
+        Ok([
+            book.accepted().0 as usize,
+            book.covered().0 as usize,
+            chosen.covered.0 as usize,
+            chosen.rows.len(),
+            chosen.heads.len(),
+        ])
     }
 
     // The quantity and the value of the first movement that a report is made from.
@@ -244,18 +242,37 @@ mod tests {
         Some((row.entry.qty.0, row.worth.value.0))
     }
 
+    #[derive(Clone, Copy)]
+    struct Seen {
+        posted: [u32; 3],
+        before: [usize; 5],
+        settled: RecordNo,
+        refused: Option<PostFault>,
+        after: [usize; 5],
+        row: Option<(u64, i64)>,
+    }
+
+    fn run(alloc: Global) -> Result<Seen, Fail> {
+        let mut book = Book::start(alloc);
+        Ok(Seen {
+            posted: post_three(alloc, &mut book)?,
+            before: sizes(alloc, &book)?,
+            settled: book.settle_all(alloc)?,
+            refused: refused(alloc, &mut book),
+            after: sizes(alloc, &book)?,
+            row: first_row(alloc, &book),
+        })
+    }
+
     #[test]
     fn shows_what_is_settled(rt: HostRuntime) -> Result<(), Fail> {
-        let alloc = rt.alloc();
-        let mut book = Book::start(alloc);
-        assert_eq!(rt; post_three(alloc, &mut book)?, [1, 2, 3]);
-        assert_eq!(rt; counts(&book), [3, 0]);
-        assert_eq!(rt; sizes(alloc, &book)?, [0, 0, 0]);
-        assert_eq!(rt; settle_all(alloc, &mut book)?, 3);
-        assert_eq!(rt; refused(alloc, &mut book), Some(PostFault::CodeTaken));
-        assert_eq!(rt; counts(&book), [3, 3]);
-        assert_eq!(rt; sizes(alloc, &book)?, [3, 1, 2]);
-        assert_eq!(rt; first_row(alloc, &book), Some((10, 1000)));
+        let seen = run(rt.alloc())?;
+        assert_eq!(rt; seen.posted, [1, 2, 3]);
+        assert_eq!(rt; seen.before, [3, 0, 0, 0, 0]);
+        assert_eq!(rt; seen.settled, RecordNo(3));
+        assert_eq!(rt; seen.refused, Some(PostFault::CodeTaken));
+        assert_eq!(rt; seen.after, [3, 3, 3, 1, 2]);
+        assert_eq!(rt; seen.row, Some((10, 1000)));
         Ok(())
     }
 }
