@@ -198,57 +198,79 @@ mod tests {
         journal.push(item).map_err(|_| PostFault::NoMemory)
     }
 
+    fn keep_three(alloc: Global, journal: &mut Journal) -> Result<[RecordNo; 3], Fail> {
+        Ok([
+            accept(alloc, journal, item(alloc, "B")?)?,
+            accept(alloc, journal, store(alloc, "W1")?)?,
+            accept(alloc, journal, receipt(alloc, ["B", "B"], "W1")?)?,
+        ])
+    }
+
     fn fault(alloc: Global, journal: &Journal, item: &Record) -> Option<PostFault> {
         journal.check(alloc, item).err()
     }
 
+    // What is said of the same item again, of an item that there is not, and of such a warehouse.
+    fn faults(alloc: Global, journal: &Journal) -> Result<[Option<PostFault>; 3], NoMemory> {
+        Ok([
+            fault(alloc, journal, &item(alloc, "B")?),
+            fault(alloc, journal, &receipt(alloc, ["C", "B"], "W2")?),
+            fault(alloc, journal, &receipt(alloc, ["B", "B"], "W2")?),
+        ])
+    }
+
+    // Which of the numbers 0 to 4 a record has.
+    fn held(journal: &Journal) -> [bool; 5] {
+        [0, 1, 2, 3, 4].map(|number| journal.at(RecordNo(number)).is_some())
+    }
+
+    fn entries_of_third(alloc: Global, journal: &Journal) -> Option<[Entry; 2]> {
+        if journal.count() < 3 {
+            return None;
+        }
+        let entries = journal.entries_of(alloc, RecordNo(3)).ok()?;
+        match entries.as_slice() {
+            [first, second] => Some([*first, *second]),
+            _ => None,
+        }
+    }
+
+    #[derive(Clone, Copy)]
+    struct Seen {
+        kept: [RecordNo; 3],
+        faults: [Option<PostFault>; 3],
+        held: [bool; 5],
+        count: u32,
+        records: usize,
+        entries: Option<[Entry; 2]>,
+    }
+
+    fn run(alloc: Global) -> Result<Seen, Fail> {
+        let mut journal = Journal::new(alloc);
+        Ok(Seen {
+            kept: keep_three(alloc, &mut journal)?,
+            faults: faults(alloc, &journal)?,
+            held: held(&journal),
+            count: journal.count(),
+            records: journal.records().len(),
+            entries: entries_of_third(alloc, &journal),
+        })
+    }
+
     #[test]
     fn keeps_records_without_a_fault(rt: HostRuntime) -> Result<(), Fail> {
-        let alloc = rt.alloc();
-        let mut journal = Journal::new(alloc);
-        assert_eq!(rt;
-            accept(alloc, &mut journal, item(alloc, "B")?)?,
-            RecordNo(1)
-        );
-        assert_eq!(rt;
-            accept(alloc, &mut journal, store(alloc, "W1")?)?,
-            RecordNo(2)
-        );
-        assert_eq!(rt;
-            accept(alloc, &mut journal, receipt(alloc, ["B", "B"], "W1")?)?,
-            RecordNo(3)
-        );
-        let table = [
-            (item(alloc, "B")?, PostFault::CodeTaken),
-            (
-                receipt(alloc, ["C", "B"], "W2")?,
-                PostFault::UnknownItem { line: 1 },
-            ),
-            (
-                receipt(alloc, ["B", "B"], "W2")?,
-                PostFault::UnknownStore { line: 2 },
-            ),
+        let seen = run(rt.alloc())?;
+        assert_eq!(rt; seen.kept, [RecordNo(1), RecordNo(2), RecordNo(3)]);
+        let faults = [
+            Some(PostFault::CodeTaken),
+            Some(PostFault::UnknownItem { line: 1 }),
+            Some(PostFault::UnknownStore { line: 2 }),
         ];
-        for (record, want) in &table {
-            assert_eq!(rt; fault(alloc, &journal, record), Some(*want));
-        }
-        assert_eq!(rt; journal.count(), 3);
-        assert_eq!(rt; journal.records().len(), 3);
-        assert!(rt; journal.at(RecordNo(0)).is_none());
-        assert!(rt;
-            matches!(
-                journal.at(RecordNo(2)),
-                Some(Record {
-                    what: What::Store { .. },
-                    ..
-                })
-            )
-        );
-        let entries = journal.entries_of(alloc, RecordNo(3))?;
-        assert_eq!(rt;
-            entries.as_slice(),
-            [ten_entered(1), ten_entered(2)].as_slice()
-        );
+        assert_eq!(rt; seen.faults, faults);
+        assert_eq!(rt; seen.held, [false, true, true, true, false]);
+        assert_eq!(rt; seen.count, 3);
+        assert_eq!(rt; seen.records, 3);
+        assert_eq!(rt; seen.entries, Some([ten_entered(1), ten_entered(2)]));
         Ok(())
     }
 }
