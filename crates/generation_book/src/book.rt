@@ -150,3 +150,129 @@ fn copy_rows(alloc: Global, rows: &[Row]) -> Result<Lines<Row>, NoMemory>
     }
     Ok(copy)
 }
+
+#[cfg(test)]
+mod tests {
+    use super::*;
+    use std::test::Fail;
+    use stock_model::queries::Sheet;
+    use stock_model::vouchers::{ReceiptLine, What};
+    use stock_nums::cause::Method;
+    use stock_nums::code::Code;
+    use stock_nums::moment::Moment;
+    use stock_nums::numbers::{AccountNo, DeskNo, Minor, Qty};
+
+    fn item(alloc: Global) -> Result<Record, NoMemory> {
+        Ok(Record {
+            desk: DeskNo(0),
+            what: What::Item {
+                code: Code::of(alloc, "B")?,
+                method: Method::Average,
+            },
+        })
+    }
+
+    fn store(alloc: Global) -> Result<Record, NoMemory> {
+        Ok(Record {
+            desk: DeskNo(0),
+            what: What::Store {
+                code: Code::of(alloc, "W1")?,
+                account: AccountNo(100),
+            },
+        })
+    }
+
+    // A receipt of ten units of B into W1 for 1000.
+    fn receipt(alloc: Global) -> Result<Record, NoMemory> {
+        let mut lines = Lines::new(alloc);
+        lines.push(ReceiptLine {
+            item: Code::of(alloc, "B")?,
+            store: Code::of(alloc, "W1")?,
+            qty: Qty(10),
+            amount: Minor(1000),
+        })?;
+        Ok(Record {
+            desk: DeskNo(0),
+            what: What::Receipt {
+                at: Moment {
+                    date: 20_260_102,
+                    second: 32_400,
+                },
+                lines,
+            },
+        })
+    }
+
+    fn post_three(alloc: Global, book: &mut Book) -> Result<[u32; 3], Fail> {
+        let first = book.post(alloc, item(alloc)?)?;
+        let second = book.post(alloc, store(alloc)?)?;
+        let third = book.post(alloc, receipt(alloc)?)?;
+        Ok([first.0, second.0, third.0])
+    }
+
+    // Why the same item is not accepted again.
+    fn refused(alloc: Global, book: &mut Book) -> Option<PostFault> {
+        book.post(alloc, item(alloc).ok()?).err()
+    }
+
+    fn select(alloc: Global, book: &Book) -> Result<Selected, NoMemory> {
+        let query = Query {
+            sheet: Sheet::Balance,
+        };
+        book.select(alloc, &query)
+    }
+
+    // How many records are accepted and how many are covered, and how many records, movements and heads
+    // a report is made from.
+    fn sizes(alloc: Global, book: &Book) -> Result<[usize; 5], NoMemory> {
+        let chosen = select(alloc, book)?;
+        Ok([
+            book.accepted().0 as usize,
+            book.covered().0 as usize,
+            chosen.covered.0 as usize,
+            chosen.rows.len(),
+            chosen.heads.len(),
+        ])
+    }
+
+    // The quantity and the value of the first movement that a report is made from.
+    fn first_row(alloc: Global, book: &Book) -> Option<(u64, i64)> {
+        let chosen = select(alloc, book).ok()?;
+        let row = chosen.rows.as_slice().first()?;
+        Some((row.entry.qty.0, row.worth.value.0))
+    }
+
+    #[derive(Clone, Copy)]
+    struct Seen {
+        posted: [u32; 3],
+        before: [usize; 5],
+        settled: RecordNo,
+        refused: Option<PostFault>,
+        after: [usize; 5],
+        row: Option<(u64, i64)>,
+    }
+
+    fn run(alloc: Global) -> Result<Seen, Fail> {
+        let mut book = Book::start(alloc);
+        Ok(Seen {
+            posted: post_three(alloc, &mut book)?,
+            before: sizes(alloc, &book)?,
+            settled: book.settle_all(alloc)?,
+            refused: refused(alloc, &mut book),
+            after: sizes(alloc, &book)?,
+            row: first_row(alloc, &book),
+        })
+    }
+
+    #[test]
+    fn shows_what_is_settled(rt: HostRuntime) -> Result<(), Fail> {
+        let seen = run(rt.alloc())?;
+        assert_eq!(rt; seen.posted, [1, 2, 3]);
+        assert_eq!(rt; seen.before, [3, 0, 0, 0, 0]);
+        assert_eq!(rt; seen.settled, RecordNo(3));
+        assert_eq!(rt; seen.refused, Some(PostFault::CodeTaken));
+        assert_eq!(rt; seen.after, [3, 3, 3, 1, 2]);
+        assert_eq!(rt; seen.row, Some((10, 1000)));
+        Ok(())
+    }
+}

@@ -5,3 +5,4 @@ pub use stock_model::queries::{Query, Selected, Sheet};
 
 pub mod book;
 pub mod events;
+mod sending;

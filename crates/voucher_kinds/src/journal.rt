@@ -111,3 +111,166 @@ impl Journal {
         movements::entries(alloc, &records[..before], &records[before])
     }
 }
+
+#[cfg(test)]
+mod tests {
+    use super::*;
+    use std::test::Fail;
+    use stock_model::vouchers::{ReceiptLine, What};
+    use stock_nums::cause::{Cause, Method};
+    use stock_nums::code::Code;
+    use stock_nums::moment::Moment;
+    use stock_nums::numbers::{AccountNo, DeskNo, ItemNo, Minor, Qty, StoreNo};
+    use stock_nums::place::{Place, Side};
+
+    const NINE: Moment = Moment {
+        date: 20_260_102,
+        second: 32_400,
+    };
+
+    fn item(alloc: Global, code: &str) -> Result<Record, NoMemory> {
+        Ok(Record {
+            desk: DeskNo(0),
+            what: What::Item {
+                code: Code::of(alloc, code)?,
+                method: Method::Average,
+            },
+        })
+    }
+
+    fn store(alloc: Global, code: &str) -> Result<Record, NoMemory> {
+        Ok(Record {
+            desk: DeskNo(0),
+            what: What::Store {
+                code: Code::of(alloc, code)?,
+                account: AccountNo(100),
+            },
+        })
+    }
+
+    fn ten(alloc: Global, item: &str, store: &str) -> Result<ReceiptLine, NoMemory> {
+        Ok(ReceiptLine {
+            item: Code::of(alloc, item)?,
+            store: Code::of(alloc, store)?,
+            qty: Qty(10),
+            amount: Minor(1000),
+        })
+    }
+
+    // A receipt of ten units of each of two items into W1 and into a second warehouse.
+    fn receipt(alloc: Global, items: [&str; 2], second: &str) -> Result<Record, NoMemory> {
+        let mut lines = Lines::new(alloc);
+        lines.push(ten(alloc, items[0], "W1")?)?;
+        lines.push(ten(alloc, items[1], second)?)?;
+        Ok(Record {
+            desk: DeskNo(0),
+            what: What::Receipt { at: NINE, lines },
+        })
+    }
+
+    // What enters by a line of that receipt, as record 3.
+    fn ten_entered(line: u32) -> Entry {
+        Entry {
+            place: Place {
+                moment: NINE,
+                voucher: RecordNo(3),
+                line,
+                side: Side::Enters,
+            },
+            item: ItemNo(1),
+            store: StoreNo(2),
+            qty: Qty(10),
+            method: Method::Average,
+            cause: Cause::Receipt {
+                amount: Minor(1000),
+            },
+        }
+    }
+
+    fn accept(alloc: Global, journal: &mut Journal, item: Record) -> Result<RecordNo, PostFault> {
+        journal.check(alloc, &item)?;
+        if journal.count() as usize >= MAX_RECORDS {
+            return Err(PostFault::Full {
+                records: journal.count(),
+                entries: 0,
+            });
+        }
+        journal.push(item).map_err(|_| PostFault::NoMemory)
+    }
+
+    fn keep_three(alloc: Global, journal: &mut Journal) -> Result<[RecordNo; 3], Fail> {
+        Ok([
+            accept(alloc, journal, item(alloc, "B")?)?,
+            accept(alloc, journal, store(alloc, "W1")?)?,
+            accept(alloc, journal, receipt(alloc, ["B", "B"], "W1")?)?,
+        ])
+    }
+
+    fn fault(alloc: Global, journal: &Journal, item: &Record) -> Option<PostFault> {
+        journal.check(alloc, item).err()
+    }
+
+    // What is said of the same item again, of an item that there is not, and of such a warehouse.
+    fn faults(alloc: Global, journal: &Journal) -> Result<[Option<PostFault>; 3], NoMemory> {
+        Ok([
+            fault(alloc, journal, &item(alloc, "B")?),
+            fault(alloc, journal, &receipt(alloc, ["C", "B"], "W2")?),
+            fault(alloc, journal, &receipt(alloc, ["B", "B"], "W2")?),
+        ])
+    }
+
+    // Which of the numbers 0 to 4 a record has.
+    fn held(journal: &Journal) -> [bool; 5] {
+        [0, 1, 2, 3, 4].map(|number| journal.at(RecordNo(number)).is_some())
+    }
+
+    fn entries_of_third(alloc: Global, journal: &Journal) -> Option<[Entry; 2]> {
+        if journal.count() < 3 {
+            return None;
+        }
+        let entries = journal.entries_of(alloc, RecordNo(3)).ok()?;
+        match entries.as_slice() {
+            [first, second] => Some([*first, *second]),
+            _ => None,
+        }
+    }
+
+    #[derive(Clone, Copy)]
+    struct Seen {
+        kept: [RecordNo; 3],
+        faults: [Option<PostFault>; 3],
+        held: [bool; 5],
+        count: u32,
+        records: usize,
+        entries: Option<[Entry; 2]>,
+    }
+
+    fn run(alloc: Global) -> Result<Seen, Fail> {
+        let mut journal = Journal::new(alloc);
+        Ok(Seen {
+            kept: keep_three(alloc, &mut journal)?,
+            faults: faults(alloc, &journal)?,
+            held: held(&journal),
+            count: journal.count(),
+            records: journal.records().len(),
+            entries: entries_of_third(alloc, &journal),
+        })
+    }
+
+    #[test]
+    fn keeps_records_without_a_fault(rt: HostRuntime) -> Result<(), Fail> {
+        let seen = run(rt.alloc())?;
+        assert_eq!(rt; seen.kept, [RecordNo(1), RecordNo(2), RecordNo(3)]);
+        let faults = [
+            Some(PostFault::CodeTaken),
+            Some(PostFault::UnknownItem { line: 1 }),
+            Some(PostFault::UnknownStore { line: 2 }),
+        ];
+        assert_eq!(rt; seen.faults, faults);
+        assert_eq!(rt; seen.held, [false, true, true, true, false]);
+        assert_eq!(rt; seen.count, 3);
+        assert_eq!(rt; seen.records, 3);
+        assert_eq!(rt; seen.entries, Some([ten_entered(1), ten_entered(2)]));
+        Ok(())
+    }
+}

@@ -6,3 +6,4 @@ pub use stock_model::records::Record;
 pub use stock_model::vouchers::{ReceiptLine, What};
 
 pub mod journal;
+mod sending;
