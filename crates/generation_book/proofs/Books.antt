@@ -1,6 +1,5 @@
 -- How the parts of a book hang together, and what a kept record and a publication make of them.
-use Rattle.std.proofs.Common.{◌≡◌, ℕ, zero, suc, ◌+◌, ◌<◌, ◌≤◌, ◌⊎◌, Bool, true, false, cond, List, [], ◌∷◌, ◌++◌, length, take, None, Some, Option, refl, sym, ap, ◌∙◌, subst, append_assoc, append-nil, length-append, arith, ltb, leb, ◌||◌}
-use Rattle.std.specs.Option.{option_or}
+use Rattle.std.proofs.Common.{◌≡◌, ℕ, ◌+◌, ◌<◌, ◌≤◌, ◌⊎◌, List, [], ◌∷◌, ◌++◌, length, None, Some, refl, sym, ap, ◌∙◌, length-append, arith}
 use Rattle.std.proofs.lemmas.Bool.{lt-ltb, le-ltb}
 use Rattle.std.proofs.lemmas.Bool.Decides.{nat_tests}
 use Rattle.std.proofs.lemmas.List.{take-append-le, take_all}
@@ -12,12 +11,12 @@ use Rattle.stock_model.specs.declared.deeds.Deed.{Deed}
 use Rattle.stock_model.specs.declared.deeds.Deed.TheVariants as deed
 use Rattle.stock_model.specs.declared.faults.PostFault.{PostFault}
 use Rattle.stock_model.specs.declared.faults.PostFault.TheVariants.{Full}
-use Rattle.stock_model.specs.Entries.{entries, entries_after, all_entries}
+use Rattle.stock_model.specs.Entries.{entries, all_entries}
 use Rattle.stock_model.specs.Faults.{fault, full, voucher_fault, max_records, max_entries}
 use Rattle.stock_model.specs.PostingOrder.{posting_line}
 use Rattle.stock_model.specs.Replay.{replay}
 use Rattle.stock_model.specs.History as history
-use Rattle.stock_model.proofs.Histories.{records-append, covered_after-append, IsLegalAfter-append}
+use Rattle.stock_model.proofs.Histories.{covered_after-append, IsLegalAfter-append}
 use Rattle.generation_book.specs.declared.events.Event.{Event}
 use Rattle.generation_book.specs.declared.events.Event.TheVariants.{Kept, Published}
 use Rattle.generation_book.specs.Book.{deeds, kept_count, IsBook}

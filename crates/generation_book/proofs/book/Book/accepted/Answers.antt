@@ -1,7 +1,5 @@
 -- The history has the records of the journal.
-use Rattle.std.proofs.Common.{◌≡◌, sym, ap, ◌∙◌, subst, arith, inl, inr, refl, length, take, List}
-use Rattle.stock_model.specs.declared.deeds.Deed.{Deed}
-use Rattle.stock_model.specs.History as history
+use Rattle.std.proofs.Common.{◌≡◌, sym, ap, ◌∙◌}
 use Rattle.generation_book.specs.State.{BookState}
 use Rattle.generation_book.specs.Book.{deeds}
 use Rattle.generation_book.proofs.Books.{history-accepted}

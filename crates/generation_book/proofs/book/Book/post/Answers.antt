@@ -1,6 +1,5 @@
 -- A fault is the first of the journal, and a record without one is kept.
-use Rattle.std.proofs.Common.{ℕ, ◌<◌, ◌≤◌, ◌+◌, ◌⊎◌, [], ◌∷◌, ◌++◌, length-append, ◌≡◌, sym, ap, ◌∙◌, subst, arith, inl, inr, refl, length, take, List}
-use Rattle.stock_model.specs.declared.deeds.Deed.{Deed}
+use Rattle.std.proofs.Common.{◌<◌, ◌≤◌, ◌+◌, ◌⊎◌, [], ◌∷◌, ◌++◌, length-append, ◌≡◌, ap, ◌∙◌, arith, inl, inr, length, List}
 use Rattle.stock_model.specs.History as history
 use Rattle.generation_book.specs.State.{BookState}
 use Rattle.generation_book.specs.Book.{deeds}

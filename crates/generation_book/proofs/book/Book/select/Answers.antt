@@ -1,7 +1,5 @@
 -- The rows of the generation are the replay of the covered records.
-use Rattle.std.proofs.Common.{◌≡◌, sym, ap, ◌∙◌, subst, arith, inl, inr, refl, length, take, List}
-use Rattle.stock_model.specs.declared.deeds.Deed.{Deed}
-use Rattle.stock_model.specs.History as history
+use Rattle.std.proofs.Common.{◌≡◌, ap, ◌∙◌, arith, refl, take}
 use Rattle.generation_book.specs.State.{BookState}
 use Rattle.generation_book.specs.Book.{deeds}
 use Rattle.stock_model.specs.Answers.{selected}

@@ -1,7 +1,5 @@
 -- Everything is covered already, or all records are published.
-use Rattle.std.proofs.Common.{[], ◌∷◌, ◌++◌, ◌≡◌, sym, ap, ◌∙◌, subst, arith, inl, inr, refl, length, take, List}
-use Rattle.stock_model.specs.declared.deeds.Deed.{Deed}
-use Rattle.stock_model.specs.History as history
+use Rattle.std.proofs.Common.{[], ◌∷◌, ◌++◌, ◌≡◌, sym, ap, ◌∙◌, arith, List}
 use Rattle.generation_book.specs.State.{BookState}
 use Rattle.generation_book.specs.Book.{deeds}
 use Rattle.generation_book.specs.declared.events.Event.{Event}

@@ -1,5 +1,4 @@
 -- The empty book.
-use Rattle.std.proofs.Common.{◌≡◌, rules}
 use Rattle.generation_book.proofs.Books.{IsBook-start}
 use Rattle.generation_book.proofs.book.Book.start.Goals as goal
 

@@ -1,5 +1,5 @@
 -- The indexed record is the one with the number.
-use Rattle.std.proofs.Common.{◌≡◌, sym, ◌∙◌, arith}
+use Rattle.std.proofs.Common.{◌≡◌, sym, ◌∙◌}
 use Rattle.std.proofs.lemmas.Result.{IfOk-weaker}
 use Rattle.voucher_kinds.proofs.At.{entries_of-index}
 use Rattle.voucher_kinds.proofs.journal.Journal.entries_of.Goals as goal
