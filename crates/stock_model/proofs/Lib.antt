@@ -4,3 +4,4 @@ pub mod Pairwise
 pub mod Distinct
 pub mod PostingLine
 pub mod Histories
+pub mod Enough

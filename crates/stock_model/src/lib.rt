@@ -17,5 +17,6 @@ pub mod requests;
 #[cfg(test)]
 mod sheet_tests;
 pub mod sheets;
+pub mod shortages;
 pub mod vouchers;
 pub mod worked;
