@@ -1,5 +1,5 @@
 -- The first shortage: there is none exactly where there is enough, and what it names.
-use Rattle.std.proofs.Common.{◌≡◌, ℕ, zero, suc, ◌+◌, ◌-◌, ◌<◌, ◌≤◌, Bool, true, false, cond, ◌&&◌, not, List, [], ◌∷◌, ◌++◌, length, take, filter, sum_by, Option, Some, None, ◌⊎◌, inl, inr, refl, sym, ap, ◌∙◌, subst, append_assoc, arith, ltb}
+use Rattle.std.proofs.Common.{◌≡◌, ℕ, zero, suc, ◌+◌, ◌-◌, ◌<◌, ◌≤◌, Bool, true, false, cond, ◌&&◌, not, List, [], ◌∷◌, ◌++◌, length, take, filter, sum_by, Option, Some, None, ◌⊎◌, inl, inr, refl, sym, ap, ◌∙◌, subst, append_assoc, length-append, arith}
 use Rattle.std.proofs.lemmas.Bool.{ltb-true, ltb-false, le-ltb, eq-eqb, eqb-true, and_parts, cases_lt}
 use Rattle.std.proofs.lemmas.Bool.Decides.{nat_tests}
 use Rattle.std.proofs.lemmas.List.{append-nil, take-append-le, take_all}
@@ -8,6 +8,7 @@ use Rattle.std.proofs.lemmas.List.Sums.{sum_by-append}
 use Rattle.stock_nums.specs.declared.entry.Entry.{Entry}
 use Rattle.stock_nums.specs.declared.entry.Key.{Key}
 use Rattle.stock_model.specs.declared.shortages.Shortage.{Shortage}
+use Rattle.stock_model.specs.Sums.{is_entering}
 use Rattle.stock_model.specs.Enough.{entry_key, is_same_key, enters_under, leaves_under, entry_units, entered, departed, IsEnough, is_short, shortage_at, shortage_from, shortage}
 
 -- the units of a movement, where it passes the test
@@ -47,7 +48,7 @@ IsCovered-snoc past e covered fine key =
           subst (λ (k : Key). departed (past ++ e ∷ []) k ≤ entered (past ++ e ∷ []) k) (is_same_key-true (entry_key e) key is)
           (ltb-false (entered (past ++ e ∷ []) (entry_key e)) (departed (past ++ e ∷ []) (entry_key e)) fine)
       | false ↦ λ is.
-          let no_more : units_where (leaves_under key e) e ≡ 0 = ap (λ (v : Bool). units_where (v && not (Rattle.stock_model.specs.Sums.is_entering e.place.side)) e) is in
+          let no_more : units_where (leaves_under key e) e ≡ 0 = ap (λ (v : Bool). units_where (v && not (is_entering e.place.side)) e) is in
           omega (arith, entered-snoc past e key, departed-snoc past e key, no_more, covered key)
     ] in
     step (is_same_key (entry_key e) key) refl
@@ -58,7 +59,7 @@ IsEnough-snoc past e enough covered n key =
     elim (cases_lt (length past) n) [
       | inl more ↦
           subst (λ (es : List Entry). departed es key ≤ entered es key)
-          (sym (take_all n (past ++ e ∷ []) (omega (arith, Rattle.std.proofs.Common.length-append past (e ∷ []))))) (covered key)
+          (sym (take_all n (past ++ e ∷ []) (omega (arith, length-append past (e ∷ []))))) (covered key)
       | inr within ↦
           subst (λ (es : List Entry). departed es key ≤ entered es key) (sym (take-append-le n past (e ∷ []) within)) (enough n key)
     ]
@@ -117,7 +118,12 @@ some_from past (e ∷ es) s enough covered some =
     ] in
     step (is_short past e) refl some
 
+-- nothing moved, and all is covered
+IsEnough-nil : IsEnough []
+IsEnough-nil zero key = omega arith
+IsEnough-nil (suc n) key = omega arith
+
 -- a named shortage is the first one
 pub shortage-first : (es : List Entry) (s : Shortage) → shortage es ≡ Some s → PartsAtShort es s
 unfolding shortage
-shortage-first es s some = some_from [] es s (λ n key. omega arith) (λ key. omega arith) some
+shortage-first es s some = some_from [] es s IsEnough-nil (λ key. omega arith) some

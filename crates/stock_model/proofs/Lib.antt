@@ -5,3 +5,4 @@ pub mod Distinct
 pub mod PostingLine
 pub mod Histories
 pub mod Enough
+pub mod Holdings

@@ -3,6 +3,7 @@
 #![tactic(auto)]
 
 pub mod deeds;
+pub mod enough_laws;
 pub mod faults;
 pub mod laws;
 pub mod masters;
