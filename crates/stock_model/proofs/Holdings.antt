@@ -1,5 +1,7 @@
 -- A table that is kept along the movements names the first shortage.
-use Rattle.std.proofs.Common.{◌≡◌, ℕ, ◌+◌, ◌-◌, ◌≤◌, Bool, true, false, cond, ◌&&◌, not, List, [], ◌∷◌, ◌++◌, Option, Some, None, inl, inr, refl, sym, ap, ◌∙◌, subst, ltb, arith}
+use Rattle.std.proofs.Common.{◌≡◌, ℕ, suc, ◌+◌, ◌-◌, ◌*◌, ◌<◌, ◌≤◌, length, take, drop, get_or, set, Bool, true, false, cond, ◌&&◌, not, List, [], ◌∷◌, ◌++◌, Option, Some, None, inl, inr, refl, sym, ap, ◌∙◌, subst, ltb, arith}
+use Rattle.std.proofs.Math.Seq.{drop-cons}
+use Rattle.std.proofs.lemmas.List.{set_split}
 use Rattle.std.proofs.lemmas.Bool.{false≢true, ltb-false, le-ltb, lt-ltb, cases_lt}
 use Rattle.stock_nums.specs.declared.entry.Entry.{Entry}
 use Rattle.stock_nums.specs.declared.entry.Key.{Key}
@@ -49,6 +51,27 @@ held_of-put_holding-le table new most more held le new_le key =
       | true ↦ new_le
       | false ↦ omega (arith, held key)
     ])
+
+-- no more is held of anything after a movement than before it, and its units
+pub held_of-next-le : (table : List Holding) (e : Entry) (index : ℕ) → ((key : Key) → held_of table key ≤ index * 1_000_000_000) → (key : Key) → held_of (put_holding table (holding_after (held_of table (entry_key e)) e)) key ≤ (index + 1) * 1_000_000_000
+held_of-next-le table e index held =
+    let held_before : held_of table (entry_key e) ≤ index * 1_000_000_000 = held (entry_key e) in
+    let units : e.qty.0 ≤ 1_000_000_000 = e.quantity.1 in
+    held_of-put_holding-le table (holding_after (held_of table (entry_key e)) e) (index * 1_000_000_000) ((index + 1) * 1_000_000_000) held (omega arith)
+    (elim (is_entering e.place.side) as (λ b. cond b (held_of table (entry_key e) + e.qty.0) (held_of table (entry_key e) - e.qty.0) ≤ (index + 1) * 1_000_000_000) [
+      | true ↦ omega arith
+      | false ↦ omega arith
+    ])
+
+-- a holding that goes in from an index on, where its key stands, replaces what stands there
+pub put_holding-at : (table : List Holding) (new d : Holding) (index : ℕ) → index < length table → put_holding table new ≡ take index table ++ put_holding (drop index table) new → is_same_key (get_or table index d).key new.key ≡ true → put_holding table new ≡ set table index new
+put_holding-at table new d index within from same =
+    let here = get_or table index d in
+    let rest = drop (suc index) table in
+    from
+    ∙ ap (λ (hs : List Holding). take index table ++ put_holding hs new) (drop-cons table index d within)
+    ∙ ap (λ (b : Bool). take index table ++ cond b (new ∷ rest) (here ∷ put_holding rest new)) same
+    ∙ sym (set_split table index new within)
 
 -- the table has what entered less what left, of each item in each warehouse
 abbrev pub Stands : List Holding → List Entry → Type 0

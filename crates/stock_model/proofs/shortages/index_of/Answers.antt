@@ -1,8 +1,10 @@
-use Rattle.std.proofs.Common.{arith}
-use Rattle.std.proofs.lemmas.Grind.{common_steps}
-use Rattle.std.proofs.lemmas.List.{set_split}
+use Rattle.std.proofs.Common.{sym, ◌∙◌}
+use Rattle.stock_model.proofs.Holdings.{put_holding-at}
 use Rattle.stock_model.proofs.shortages.index_of.Goals as goal
 
 pub returns-then-is_same_key : goal.returns-then-is_same_key
-returns-then-is_same_key c =
-    let split = set_split c.args.table.now c.loop-index.index c.args.new.now (omega arith) in grind (arith, common_steps)
+returns-then-is_same_key c = (
+  c.loop-index-test.true,
+  put_holding-at c.args.table.now c.args.new.now _ c.loop-index.index c.loop-index-test.true c.loop-index.invariant
+  (sym c.is_same_key.ensures ∙ c.if-is_same_key.true),
+)
