@@ -37,8 +37,8 @@ held_of-put_holding (h ∷ hs) new key =
       | false ↦ λ is.
           at_kept (is_same_key new.key key) (is_same_key h.key key) new.held.0 h.held.0 (held_of hs key) (held_of (put_holding hs new) key)
           (λ p q.
-            let same : h.key ≡ new.key = is_same_key-true h.key key q ∙ sym (is_same_key-true new.key key p) in
-            false≢true (sym is ∙ (ap (λ (k : Key). is_same_key k new.key) same ∙ is_same_key-refl new.key)))
+          let same : h.key ≡ new.key = is_same_key-true h.key key q ∙ sym (is_same_key-true new.key key p) in
+          false≢true (sym is ∙ (ap (λ (k : Key). is_same_key k new.key) same ∙ is_same_key-refl new.key)))
           (held_of-put_holding hs new key)
     ] in
     step (is_same_key h.key new.key) refl

@@ -16,3 +16,4 @@ pub mod Worked
 pub mod InOrder
 pub mod Enough
 pub mod Holdings
+pub mod WorkedShortages

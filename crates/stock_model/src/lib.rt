@@ -18,6 +18,9 @@ pub mod requests;
 #[cfg(test)]
 mod sheet_tests;
 pub mod sheets;
+#[cfg(test)]
+mod shortage_tests;
 pub mod shortages;
 pub mod vouchers;
 pub mod worked;
+pub mod worked_shortages;

@@ -10,12 +10,11 @@ pub loop-entry-preserved : goal.loop-entry-preserved
 loop-entry-preserved c =
     let table = c.loop-entry.table.items in
     let e = c.entry-item.result in
-    let next : c.put_holding.new.table.items ≡ put_holding table (holding_after (held_of table (entry_key e)) e) = grind (arith, common_steps) in
-    (
+    let next : c.put_holding.new.table.items ≡ put_holding table (holding_after (held_of table (entry_key e)) e) = grind (arith, common_steps) in (
       grind (arith, common_steps),
       λ key.
-        subst (λ (held : List Holding). held_of held key ≤ (c.loop-entry.entry-index + 1) * 1_000_000_000) (sym next)
-        (held_of-next-le table e c.loop-entry.entry-index c.loop-entry.invariant.1 key),
+          subst (λ (held : List Holding). held_of held key ≤ (c.loop-entry.entry-index + 1) * 1_000_000_000) (sym next)
+          (held_of-next-le table e c.loop-entry.entry-index c.loop-entry.invariant.1 key),
     )
 
 pub returns-then-takes_more : goal.returns-then-takes_more
