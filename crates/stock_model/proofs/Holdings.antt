@@ -1,12 +1,11 @@
 -- A table that is kept along the movements names the first shortage.
-use Rattle.std.proofs.Common.{◌≡◌, ℕ, suc, ◌+◌, ◌-◌, ◌*◌, ◌<◌, ◌≤◌, length, take, drop, get_or, set, Bool, true, false, cond, ◌&&◌, not, List, [], ◌∷◌, ◌++◌, Option, Some, None, inl, inr, refl, sym, ap, ◌∙◌, subst, ltb, arith}
+use Rattle.std.proofs.Common.{◌≡◌, ℕ, suc, ◌+◌, ◌-◌, ◌*◌, ◌<◌, ◌≤◌, length, take, drop, get_or, set, Bool, true, false, cond, ◌&&◌, not, List, [], ◌∷◌, ◌++◌, Some, inl, inr, refl, sym, ap, ◌∙◌, subst, ltb, arith}
 use Rattle.std.proofs.Math.Seq.{drop-cons}
 use Rattle.std.proofs.lemmas.List.{set_split}
 use Rattle.std.proofs.lemmas.Bool.{false≢true, ltb-false, le-ltb, lt-ltb, cases_lt}
 use Rattle.stock_nums.specs.declared.entry.Entry.{Entry}
 use Rattle.stock_nums.specs.declared.entry.Key.{Key}
 use Rattle.stock_model.specs.declared.shortages.Holding.{Holding}
-use Rattle.stock_model.specs.declared.shortages.Shortage.{Shortage}
 use Rattle.stock_model.specs.Sums.{is_entering}
 use Rattle.stock_model.specs.Enough.{entry_key, is_same_key, enters_under, leaves_under, entered, departed, is_short, shortage_at, shortage_from, shortage}
 use Rattle.stock_model.specs.Holdings.{held_of, put_holding, takes_more, shortage_of, units_after, holding_after, shortage_with}
