@@ -4,3 +4,5 @@ pub mod Pairwise
 pub mod Distinct
 pub mod PostingLine
 pub mod Histories
+pub mod Enough
+pub mod Holdings

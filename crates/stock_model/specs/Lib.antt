@@ -14,3 +14,6 @@ pub mod Run
 pub mod Bounds
 pub mod Worked
 pub mod InOrder
+pub mod Enough
+pub mod Holdings
+pub mod WorkedShortages

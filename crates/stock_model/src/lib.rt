@@ -3,6 +3,7 @@
 #![tactic(auto)]
 
 pub mod deeds;
+pub mod enough_laws;
 pub mod faults;
 pub mod laws;
 pub mod masters;
@@ -17,5 +18,9 @@ pub mod requests;
 #[cfg(test)]
 mod sheet_tests;
 pub mod sheets;
+#[cfg(test)]
+mod shortage_tests;
+pub mod shortages;
 pub mod vouchers;
 pub mod worked;
+pub mod worked_shortages;
