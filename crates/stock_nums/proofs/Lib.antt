@@ -1,2 +1,3 @@
+pub mod HalfUp
 pub mod MomentSpelling
 pub mod PlaceOrder
