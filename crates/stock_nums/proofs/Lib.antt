@@ -1,2 +1,4 @@
+pub mod HalfUp
 pub mod MomentSpelling
+pub mod MomentWriting
 pub mod PlaceOrder

@@ -4,6 +4,7 @@
 pub mod cause;
 pub mod code;
 pub mod entry;
+pub mod half_up;
 pub mod head;
 pub mod lines;
 pub mod memory;

@@ -1,10 +1,13 @@
-ghost use Rattle.std.specs.Prelude.{◌≡◌, ◌+◌, ◌*◌, ◌<◌, ◌↔◌, ℕ, List, length, pos, IsTrue, IfOk, IsErrOf};
+ghost use Rattle.std.specs.Prelude.{◌≡◌, ◌+◌, ◌*◌, ◌/◌, ◌%◌, ◌<◌, ◌↔◌, ℕ, List, length, slice_set, pos, IsTrue, IfOk, IsErrOf};
 ghost use Rattle.jiff.specs.Words.{IsDate};
 ghost use Rattle.stock_nums.specs.MomentText.{IsTwoDigits, two_digits, HasMomentShape, IsMomentInRange, SpellsMoment};
 ghost use Rattle.stock_nums.specs.declared.moment.Moment.{Moment};
 
+use crate::lines::Lines;
+use crate::memory::NoMemory;
 use crate::moment::Moment;
 use jiff::civil::Date;
+use std::alloc::Global;
 
 /// Why a text spells no moment.
 #[derive(Clone, Copy, Debug, PartialEq, Eq)]
@@ -38,6 +41,21 @@ pub fn read_moment(bytes: &[u8]) -> Result<Moment, MomentFault>
         date: 10_000 * year + 100 * u32::from(month) + u32::from(day),
         second: 3600 * u32::from(hour) + 60 * u32::from(minute) + u32::from(second),
     })
+}
+
+/// The text `YYYY-MM-DDTHH:MM:SS` of a moment, which reads back as the moment.
+pub fn moment_text(alloc: Global, moment: Moment) -> Result<Lines<u8>, NoMemory>
+    ensures { IfOk result (λ text. SpellsMoment text moment) }
+{
+    let mut text = *b"0000-00-00T00:00:00";
+    put_two_digits(&mut text, 0, moment.date / 1_000_000);
+    put_two_digits(&mut text, 2, moment.date / 10_000 % 100);
+    put_two_digits(&mut text, 5, moment.date / 100 % 100);
+    put_two_digits(&mut text, 8, moment.date % 100);
+    put_two_digits(&mut text, 11, moment.second / 3600);
+    put_two_digits(&mut text, 14, moment.second / 60 % 60);
+    put_two_digits(&mut text, 17, moment.second % 60);
+    Ok(Lines::from_vec(Vec::from_array(alloc, text)?))
 }
 
 /// Two texts that spell the same date and second are one text, and a text spells at most one moment.
@@ -85,6 +103,16 @@ fn two_digits(bytes: &[u8], at: usize) -> u8
     10 * (bytes[at] - b'0') + (bytes[at + 1] - b'0')
 }
 
+/// Puts the two digits of a number at the place and the next.
+fn put_two_digits(text: &mut [u8], at: usize, number: u32)
+    requires within { at + 1 < length text.old }
+    requires small { number < 100 }
+    ensures { text.new ≡ slice_set (slice_set text.old at (48 + number / 10)) (at + 1) (48 + number % 10) }
+{
+    text[at] = b'0' + (number / 10) as u8;
+    text[at + 1] = b'0' + (number % 10) as u8;
+}
+
 /// Whether the calendar has the day, and its year is not 0.
 fn is_date(year: u32, month: u8, day: u8) -> bool
     requires year { year < 10000 }
@@ -98,6 +126,7 @@ fn is_date(year: u32, month: u8, day: u8) -> bool
 #[cfg(test)]
 mod tests {
     use super::*;
+    use std::test::Fail;
 
     #[test]
     fn reads_moments(rt: HostRuntime) {
@@ -119,5 +148,27 @@ mod tests {
             let read = read_moment(text.as_bytes()).map(|moment| (moment.date, moment.second));
             assert_eq!(rt; read, want, "{text}");
         }
+    }
+
+    #[test]
+    fn writes_moments(rt: HostRuntime) -> Result<(), Fail> {
+        let nine_in_the_morning = Moment {
+            date: 20_260_105,
+            second: 32_400,
+        };
+        let last_second_of_leap_day = Moment {
+            date: 20_240_229,
+            second: 86_399,
+        };
+        let table = [
+            (nine_in_the_morning, "2026-01-05T09:00:00"),
+            (last_second_of_leap_day, "2024-02-29T23:59:59"),
+        ];
+        for (moment, want) in table {
+            let text = moment_text(rt.alloc(), moment)?;
+            assert_eq!(rt; text.as_slice(), want.as_bytes());
+            assert_eq!(rt; read_moment(text.as_slice()), Ok(moment));
+        }
+        Ok(())
     }
 }

@@ -1,0 +1,59 @@
+ghost use Rattle.std.specs.Prelude.{◌≡◌, ◌<◌, ◌≤◌, ℕ, pos, ◌≤ℤ◌, unsigned_abs};
+ghost use Rattle.stock_nums.specs.HalfUp.{half_up};
+
+use crate::numbers::{Minor, Qty};
+
+/// What the units taken of the whole cost at the moving average (IAS 2.27), in minor units rounded
+/// half up. The last units cost all that is left.
+pub fn half_up(value: Minor, take: Qty, whole: Qty) -> Minor
+    requires from_zero { pos 0 ≤ℤ value.0 }
+    requires worth { value.0 ≤ℤ pos 300_000_000_000_000_000 }
+    requires some { 0 < take.0 }
+    requires within { take.0 ≤ whole.0 }
+    requires units { whole.0 ≤ 1_000_000_000_000_000_000 }
+    ensures cost { result.0 ≡ pos (half_up (unsigned_abs value.0) take.0 whole.0) }
+    ensures bounds { (pos 0 ≤ℤ result.0) × (result.0 ≤ℤ value.0) }
+{
+    Minor(share(value.0.unsigned_abs(), take.0, whole.0) as i64)
+}
+
+/// The last units take all, and no units cost more than all that there was.
+pub fn half_up_is_within()
+    ensures last { (V Q : ℕ) → half_up V Q Q ≡ V }
+    ensures within { (V q Q : ℕ) → 0 < Q → q ≤ Q → half_up V q Q ≤ V }
+{}
+
+/// The same over plain numbers.
+fn share(value: u64, take: u64, whole: u64) -> u64
+    requires worth { value ≤ 300_000_000_000_000_000 }
+    requires some { 0 < take }
+    requires within { take ≤ whole }
+    requires units { whole ≤ 1_000_000_000_000_000_000 }
+    ensures cost { result ≡ half_up value take whole }
+    ensures within { result ≤ value }
+{
+    if take == whole {
+        return value;
+    }
+    let doubled = 2 * u128::from(value) * u128::from(take) + u128::from(whole);
+    (doubled / (2 * u128::from(whole))) as u64
+}
+
+#[cfg(test)]
+mod tests {
+    use super::*;
+
+    #[test]
+    fn rounds_half_up(rt: HostRuntime) {
+        let table = [
+            (10_600, 10, 40, 2_650),
+            (1_100, 4, 10, 440),
+            (100, 1, 3, 33),
+            (67, 1, 2, 34),
+            (33, 1, 1, 33),
+        ];
+        for (value, take, whole, want) in table {
+            assert_eq!(rt; half_up(Minor(value), Qty(take), Qty(whole)), Minor(want));
+        }
+    }
+}
