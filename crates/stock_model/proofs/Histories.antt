@@ -22,12 +22,11 @@ pub IsLegalAfter-append : (journal : List Record) (c : ℕ) (old more : List Dee
     → IsLegalAfter (journal ++ records old) (covered_after c old) more → IsLegalAfter journal c (old ++ more)
 IsLegalAfter-append journal c [] more legal next =
     subst (λ (held : List Record). IsLegalAfter held c more) (append-nil journal) next
-IsLegalAfter-append journal c (Kept item ∷ old) more legal next =
-    (
-      legal.0,
-      IsLegalAfter-append (journal ++ item ∷ []) c old more legal.1
-      (subst (λ (held : List Record). IsLegalAfter held (covered_after c old) more) (sym (append_assoc journal (item ∷ []) (records old))) next)
-    )
+IsLegalAfter-append journal c (Kept item ∷ old) more legal next = (
+  legal.0,
+  IsLegalAfter-append (journal ++ item ∷ []) c old more legal.1
+      (subst (λ (held : List Record). IsLegalAfter held (covered_after c old) more) (sym (append_assoc journal (item ∷ []) (records old))) next),
+)
 IsLegalAfter-append journal c (Published n ∷ old) more legal next =
     (legal.0, legal.1, IsLegalAfter-append journal n.0 old more legal.2 next)
 

@@ -30,6 +30,9 @@ fn main(rt: HostRuntime) -> ExitCode {
     let mut notes = StdSink::notes(rt.stderr());
     let words = match words_of(&rt) {
         Ok(words) => words,
+        Err(error) if error.kind() == io::ErrorKind::OutOfMemory => {
+            return ExitCode::from(top::without_memory(&mut notes));
+        }
         // Words that are no text are no form of words.
         Err(_) => Vec::new(alloc),
     };

@@ -49,6 +49,14 @@ pub fn stockd<S: Source, O: Sink, N: Sink>(
     status_of(end)
 }
 
+/// Tells that memory was wanting before the words were known, and answers the status of that.
+pub fn without_memory<N: Sink>(notes: &mut N) -> u8
+    ensures { result ≡ status_of End.NoMemory }
+{
+    note(notes, note_of(End::NoMemory));
+    status_of(End::NoMemory)
+}
+
 fn is_batch(words: &[String]) -> bool
     ensures { IsTrue result ↔ IsBatch words.now }
 {
