@@ -7,6 +7,8 @@ mod blank;
 mod end;
 mod open_line;
 mod split;
+#[cfg(test)]
+mod tests;
 mod top;
 mod waiting;
 
