@@ -1,0 +1,4 @@
+//! What units that leave a store cost, by each of the cost formulas of IAS 2.25.
+#![tactic(auto)]
+
+pub mod average;
