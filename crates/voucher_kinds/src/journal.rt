@@ -273,4 +273,39 @@ mod tests {
         assert_eq!(rt; seen.entries, Some([ten_entered(1), ten_entered(2)]));
         Ok(())
     }
+
+    fn has_line(lines: &[ReceiptLine], item: &str, store: &str) -> bool {
+        match lines.last() {
+            Some(line) => {
+                line.item.text() == item
+                    && line.store.text() == store
+                    && line.qty == Qty(10)
+                    && line.amount == Minor(1000)
+            }
+            None => false,
+        }
+    }
+
+    #[test]
+    fn copies_a_record(rt: HostRuntime) -> Result<(), Fail> {
+        let alloc = rt.alloc();
+        let original = receipt(alloc, ["B", "C"], "W2")?;
+        let copy = original.copy(alloc)?;
+        assert_eq!(rt; copy.desk, DeskNo(0));
+        match &copy.what {
+            What::Receipt { at, lines } => {
+                assert_eq!(rt; *at, NINE);
+                assert_eq!(rt; lines.len(), 2);
+                assert!(rt; has_line(lines.as_slice(), "C", "W2"));
+            }
+            _ => assert!(rt; false),
+        }
+        let named = item(alloc, "B")?.copy(alloc)?;
+        let stored = store(alloc, "W1")?.copy(alloc)?;
+        assert!(rt; matches!(&named.what, What::Item { code, method: _ } if code.text() == "B"));
+        assert!(rt;
+            matches!(&stored.what, What::Store { code, account: _ } if code.text() == "W1")
+        );
+        Ok(())
+    }
 }
