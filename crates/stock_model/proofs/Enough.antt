@@ -8,7 +8,7 @@ use Rattle.std.proofs.lemmas.List.Sums.{sum_by-append}
 use Rattle.stock_nums.specs.declared.entry.Entry.{Entry}
 use Rattle.stock_nums.specs.declared.entry.Key.{Key}
 use Rattle.stock_model.specs.declared.shortages.Shortage.{Shortage}
-use Rattle.stock_model.specs.Sums.{is_entering}
+use Rattle.stock_nums.specs.Causes.{is_entering}
 use Rattle.stock_model.specs.Enough.{entry_key, is_same_key, enters_under, leaves_under, entry_units, entered, departed, IsEnough, is_short, shortage_at, shortage_from, shortage}
 
 -- the units of a movement, where it passes the test

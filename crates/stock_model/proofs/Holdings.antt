@@ -6,7 +6,7 @@ use Rattle.std.proofs.lemmas.Bool.{false≢true, ltb-false, le-ltb, lt-ltb, case
 use Rattle.stock_nums.specs.declared.entry.Entry.{Entry}
 use Rattle.stock_nums.specs.declared.entry.Key.{Key}
 use Rattle.stock_model.specs.declared.shortages.Holding.{Holding}
-use Rattle.stock_model.specs.Sums.{is_entering}
+use Rattle.stock_nums.specs.Causes.{is_entering}
 use Rattle.stock_model.specs.Enough.{entry_key, is_same_key, enters_under, leaves_under, entered, departed, is_short, shortage_at, shortage_from, shortage}
 use Rattle.stock_model.specs.Holdings.{held_of, put_holding, takes_more, shortage_of, units_after, holding_after, shortage_with}
 use Rattle.stock_model.proofs.Enough.{units_where, entered-snoc, departed-snoc, is_same_key-true, is_same_key-refl}

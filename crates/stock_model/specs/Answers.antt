@@ -1,5 +1,6 @@
 -- What is answered at a point of the history. Every answer is a function of the history and the request.
-use Rattle.std.specs.Prelude.{◌+◌, ◌≡◌, List, ◌∷◌, [], ◌++◌, MatchOption}
+use Rattle.std.specs.Prelude.{◌+◌, ◌≡◌, List, ◌∷◌, [], ◌++◌, nat_le, if◌then◌else◌, Option, Some, None, MatchOption}
+use Rattle.stock_nums.specs.declared.numbers.RecordNo.{RecordNo}
 use Rattle.stock_model.specs.declared.records.Record.{Record}
 use Rattle.stock_model.specs.declared.deeds.Deed.{Deed}
 use Rattle.stock_model.specs.declared.deeds.Deed.TheVariants.{Kept}
@@ -7,9 +8,15 @@ use Rattle.stock_model.specs.declared.queries.Query.{Query}
 use Rattle.stock_model.specs.declared.queries.Sheet.{Sheet}
 use Rattle.stock_model.specs.declared.queries.Sheet.TheVariants as sheet
 use Rattle.stock_model.specs.declared.queries.Selected.{Selected}
+use Rattle.stock_model.specs.declared.queries.Need.{Need}
+use Rattle.stock_model.specs.declared.queries.Need.TheVariants as need
+use Rattle.stock_model.specs.declared.queries.SelectFault.{SelectFault}
+use Rattle.stock_model.specs.declared.queries.SelectFault.TheVariants as unmet
+use Rattle.stock_model.specs.declared.faults.PostFault.{PostFault}
+use Rattle.stock_model.specs.declared.faults.PostFault.TheVariants as fault_of
 use Rattle.stock_model.specs.declared.replies.Reply.{Reply}
-use Rattle.stock_model.specs.declared.replies.Reply.TheVariants.{Accepted, Refused, Balance}
-use Rattle.stock_model.specs.Masters.{heads}
+use Rattle.stock_model.specs.declared.replies.Reply.TheVariants.{Accepted, Refused, Short, Pending, NoSuchRecord, Balance}
+use Rattle.stock_model.specs.Masters.{heads, code_at}
 use Rattle.stock_model.specs.Replay.{replay}
 use Rattle.stock_model.specs.Faults.{fault}
 use Rattle.stock_model.specs.History.{records, accepted, covered, covered_records}
@@ -20,12 +27,46 @@ unfoldable pub selected : List Deed → Query → Selected
 selected history query =
     record { covered = record { 0 = covered history }; rows = replay (covered_records history); heads = heads (covered_records history) }
 
+-- the record that a report has to cover, 0 for none
+abbrev pub need_of : Query → RecordNo
+need_of query = query.need
+
+-- whether the reports cover the record that this one has to cover: it is covered, or accepted and not covered yet,
+-- or not accepted
+abbrev pub need_at : List Deed → Query → Need
+need_at history query =
+    if nat_le (need_of query).0 (covered history) then need.Ready
+    else (if nat_le (need_of query).0 (accepted history)
+    then need.Pending (record { 0 = covered history }) (need_of query)
+    else need.NoSuchRecord (record { 0 = accepted history }) (need_of query))
+
+-- why nothing is selected where the need isn't met
+abbrev pub unmet_need : Need → Option SelectFault
+unmet_need need.Ready = None
+unmet_need (need.Pending covered wanted) = Some (unmet.Pending covered wanted)
+unmet_need (need.NoSuchRecord accepted wanted) = Some (unmet.NoSuchRecord accepted wanted)
+
 abbrev pub sheet_reply : Sheet → Selected → Reply
 sheet_reply sheet.Balance chosen = Balance chosen.covered (balance chosen)
 
+-- the answer to a report whose need is so met
+abbrev pub report_by : Need → List Deed → Query → Reply
+report_by need.Ready history query = sheet_reply query.sheet (selected history query)
+report_by (need.Pending covered wanted) history query = Pending covered wanted
+report_by (need.NoSuchRecord accepted wanted) history query = NoSuchRecord accepted wanted
+
 -- the answer to a report
 abbrev pub report : List Deed → Query → Reply
-report history query = sheet_reply query.sheet (selected history query)
+report history query = report_by (need_at history query) history query
+
+-- the answer to a record with this fault: where it is short, the item and the warehouse are told by their codes
+abbrev pub refusal : List Record → PostFault → Reply
+refusal journal fault_of.CodeTaken = Refused fault_of.CodeTaken
+refusal journal (fault_of.UnknownItem line) = Refused (fault_of.UnknownItem line)
+refusal journal (fault_of.UnknownStore line) = Refused (fault_of.UnknownStore line)
+refusal journal (fault_of.Full records entries) = Refused (fault_of.Full records entries)
+refusal journal (fault_of.Short place item store lacking) = Short place (code_at journal item.0) (code_at journal store.0) lacking
+refusal journal fault_of.NoMemory = Refused fault_of.NoMemory
 
 -- the answer to a record that is posted, and the history after it: refused for its first fault and nothing
 -- changed, or accepted under the next number and kept
@@ -33,4 +74,4 @@ abbrev pub IsPostAnswer : List Deed → Record → Reply → List Deed → Type 
 IsPostAnswer old item reply new =
     MatchOption (fault (records old) item)
     ((reply ≡ Accepted (record { 0 = accepted old + 1 })) × (new ≡ old ++ Kept item ∷ []))
-    (λ f. (reply ≡ Refused f) × (new ≡ old))
+    (λ f. (reply ≡ refusal (records old) f) × (new ≡ old))

@@ -3,7 +3,7 @@ use Rattle.std.specs.Prelude.{ℕ, ◌-◌, ◌≤◌, Bool, ◌&&◌, ◌==◌,
 use Rattle.stock_nums.specs.declared.entry.Entry.{Entry}
 use Rattle.stock_nums.specs.declared.entry.Key.{Key}
 use Rattle.stock_model.specs.declared.shortages.Shortage.{Shortage}
-use Rattle.stock_model.specs.Sums.{is_entering}
+use Rattle.stock_nums.specs.Causes.{is_entering}
 
 -- the item and the warehouse of a movement
 abbrev pub entry_key : Entry → Key

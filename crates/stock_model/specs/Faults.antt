@@ -1,14 +1,18 @@
 -- Why a record is refused: the first fault in the one order of faults, with its data.
-use Rattle.std.specs.Prelude.{ℕ, ◌+◌, Bool, ◌||◌, List, [], ◌∷◌, length, nat_lt, nat_le, if◌then◌else◌, Option, Some, None, is_some, is_none}
+use Rattle.std.specs.Prelude.{ℕ, ◌+◌, Bool, ◌||◌, List, [], ◌∷◌, ◌++◌, length, map, nat_lt, nat_le, if◌then◌else◌, Option, Some, None, is_some, is_none}
 use Rattle.std.specs.Option.{option_map, option_or}
 use Rattle.stock_model.specs.declared.faults.PostFault.{PostFault}
-use Rattle.stock_model.specs.declared.faults.PostFault.TheVariants.{CodeTaken, UnknownItem, UnknownStore, Full}
+use Rattle.stock_model.specs.declared.faults.PostFault.TheVariants.{CodeTaken, UnknownItem, UnknownStore, Full, Short}
 use Rattle.stock_model.specs.declared.vouchers.What.{What}
-use Rattle.stock_model.specs.declared.vouchers.What.TheVariants.{Item, Store, Receipt}
+use Rattle.stock_model.specs.declared.vouchers.What.TheVariants.{Item, Store, Receipt, Issue}
 use Rattle.stock_model.specs.declared.vouchers.ReceiptLine.{ReceiptLine}
+use Rattle.stock_model.specs.declared.vouchers.IssueLine.{IssueLine}
+use Rattle.stock_model.specs.declared.shortages.Shortage.{Shortage}
 use Rattle.stock_model.specs.declared.records.Record.{Record}
 use Rattle.stock_model.specs.Masters.{item_with, store_with}
 use Rattle.stock_model.specs.Entries.{entries, all_entries}
+use Rattle.stock_model.specs.PostingOrder.{posting_line}
+use Rattle.stock_model.specs.Enough.{shortage}
 
 -- how many records a journal holds at most
 abbrev pub max_records : ℕ
@@ -18,34 +22,57 @@ max_records = 50_000
 abbrev pub max_entries : ℕ
 max_entries = 4_000
 
--- the number of the first line that passes the test, the first of these lines being n
-abbrev pub first_line : (ReceiptLine → Bool) → ℕ → List ReceiptLine → Option ℕ
+-- the number of the first that passes the test, the first of all being n
+abbrev pub first_line : {X : Type 0} → (X → Bool) → ℕ → List X → Option ℕ
 first_line test n [] = None
-first_line test n (line ∷ lines) = if test line then Some n else first_line test (n + 1) lines
+first_line test n (x ∷ xs) = if test x then Some n else first_line test (n + 1) xs
 
-abbrev pub lacks_item : List Record → ReceiptLine → Bool
-lacks_item journal line = is_none (item_with journal line.item)
+abbrev pub receipt_item : ReceiptLine → List ℕ
+receipt_item line = line.item
 
-abbrev pub lacks_store : List Record → ReceiptLine → Bool
-lacks_store journal line = is_none (store_with journal line.store)
+abbrev pub receipt_store : ReceiptLine → List ℕ
+receipt_store line = line.store
+
+abbrev pub issue_item : IssueLine → List ℕ
+issue_item line = line.item
+
+abbrev pub issue_store : IssueLine → List ℕ
+issue_store line = line.store
+
+-- the item that each line names
+abbrev pub item_codes : What → List (List ℕ)
+item_codes (Item code method) = []
+item_codes (Store code account) = []
+item_codes (Receipt at lines) = map receipt_item lines
+item_codes (Issue at purpose lines) = map issue_item lines
+
+-- the warehouse that each line names
+abbrev pub store_codes : What → List (List ℕ)
+store_codes (Item code method) = []
+store_codes (Store code account) = []
+store_codes (Receipt at lines) = map receipt_store lines
+store_codes (Issue at purpose lines) = map issue_store lines
+
+abbrev pub lacks_item : List Record → List ℕ → Bool
+lacks_item journal code = is_none (item_with journal code)
+
+abbrev pub lacks_store : List Record → List ℕ → Bool
+lacks_store journal code = is_none (store_with journal code)
 
 -- a new item has the code of an item, or a new warehouse that of a warehouse
 abbrev pub code_taken : List Record → What → Option PostFault
 code_taken journal (Item code method) = if is_some (item_with journal code) then Some CodeTaken else None
 code_taken journal (Store code account) = if is_some (store_with journal code) then Some CodeTaken else None
 code_taken journal (Receipt at lines) = None
+code_taken journal (Issue at purpose lines) = None
 
 -- a line names an item that there is not
 abbrev pub unknown_item : List Record → What → Option PostFault
-unknown_item journal (Item code method) = None
-unknown_item journal (Store code account) = None
-unknown_item journal (Receipt at lines) = option_map UnknownItem (first_line (lacks_item journal) 1 lines)
+unknown_item journal what = option_map UnknownItem (first_line (lacks_item journal) 1 (item_codes what))
 
 -- a line names a warehouse that there is not
 abbrev pub unknown_store : List Record → What → Option PostFault
-unknown_store journal (Item code method) = None
-unknown_store journal (Store code account) = None
-unknown_store journal (Receipt at lines) = option_map UnknownStore (first_line (lacks_store journal) 1 lines)
+unknown_store journal what = option_map UnknownStore (first_line (lacks_store journal) 1 (store_codes what))
 
 -- the faults of what the record says, whatever room there is
 abbrev pub voucher_fault : List Record → What → Option PostFault
@@ -58,6 +85,13 @@ full journal item =
     then Some (Full (length journal) (length (all_entries journal)))
     else None
 
+abbrev pub short_of : Shortage → PostFault
+short_of s = Short s.place s.item s.store s.lacking
+
+-- with the record's movements some movement takes more than there is: the first one in posting order
+abbrev pub short : List Record → Record → Option PostFault
+short journal item = option_map short_of (shortage (posting_line (journal ++ item ∷ [])))
+
 -- the first fault of a record that comes after the journal, or none
 unfoldable pub fault : List Record → Record → Option PostFault
-fault journal item = option_or (voucher_fault journal item.what) (full journal item)
+fault journal item = option_or (voucher_fault journal item.what) (option_or (full journal item) (short journal item))

@@ -4,7 +4,7 @@ use Rattle.stock_nums.specs.declared.entry.Entry.{Entry}
 use Rattle.stock_nums.specs.declared.entry.Key.{Key}
 use Rattle.stock_model.specs.declared.shortages.Holding.{Holding}
 use Rattle.stock_model.specs.declared.shortages.Shortage.{Shortage}
-use Rattle.stock_model.specs.Sums.{is_entering}
+use Rattle.stock_nums.specs.Causes.{is_entering}
 use Rattle.stock_model.specs.Enough.{entry_key, is_same_key}
 
 -- how many units the table has of this key: none where it hasn't the key

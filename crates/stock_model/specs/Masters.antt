@@ -1,5 +1,5 @@
 -- The items and warehouses of a journal. A record's number is its place in the journal, from 1.
-use Rattle.std.specs.Prelude.{ℕ, zero, suc, Bool, List, Option, Some, None, nat_eq, slice_get}
+use Rattle.std.specs.Prelude.{ℕ, zero, suc, Bool, List, [], Option, Some, None, option_and_then, unwrap_or, nat_eq, slice_get}
 use Rattle.std.specs.Option.{option_map}
 use Rattle.std.specs.List.{find, filter_map, enumerate_from}
 use Rattle.std.specs.Cmp.Lexicographic.{pointwise}
@@ -9,7 +9,7 @@ use Rattle.stock_nums.specs.declared.numbers.AccountNo.{AccountNo}
 use Rattle.stock_nums.specs.declared.numbers.ItemNo.{ItemNo}
 use Rattle.stock_nums.specs.declared.numbers.StoreNo.{StoreNo}
 use Rattle.stock_model.specs.declared.vouchers.What.{What}
-use Rattle.stock_model.specs.declared.vouchers.What.TheVariants.{Item, Store, Receipt}
+use Rattle.stock_model.specs.declared.vouchers.What.TheVariants.{Item, Store, Receipt, Issue}
 use Rattle.stock_model.specs.declared.records.Record.{Record}
 
 -- an item: the number of the record that made it, its code and its cost formula (IAS 2.25)
@@ -29,18 +29,21 @@ abbrev pub item_made : ℕ → What → Option ItemHead
 item_made n (Item code method) = Some (record { number = n; code = code; method = method })
 item_made n (Store code account) = None
 item_made n (Receipt at lines) = None
+item_made n (Issue at purpose lines) = None
 
 -- the warehouse that the record with this number makes, if it makes one
 abbrev pub store_made : ℕ → What → Option StoreHead
 store_made n (Item code method) = None
 store_made n (Store code account) = Some (record { number = n; code = code; account = account.0 })
 store_made n (Receipt at lines) = None
+store_made n (Issue at purpose lines) = None
 
 -- the head of what the record with this number makes, if it makes an item or a warehouse
 abbrev pub head_made : ℕ → What → Option Head
 head_made n (Item code method) = Some (record { number = record { 0 = n }; code = code; account = None })
 head_made n (Store code account) = Some (record { number = record { 0 = n }; code = code; account = Some account })
 head_made n (Receipt at lines) = None
+head_made n (Issue at purpose lines) = None
 
 abbrev pub item_numbered : ℕ × Record → Option ItemHead
 item_numbered p = item_made p.0 p.1.what
@@ -89,3 +92,17 @@ store_with journal code = option_map store_found (find (has_store_code code) (st
 abbrev pub record_at : List Record → ℕ → Option Record
 record_at journal zero = None
 record_at journal (suc n) = slice_get journal n
+
+-- the code of the item or warehouse that the record makes, if it makes one
+abbrev pub code_made : What → Option (List ℕ)
+code_made (Item code method) = Some code
+code_made (Store code account) = Some code
+code_made (Receipt at lines) = None
+code_made (Issue at purpose lines) = None
+
+abbrev pub record_code : Record → Option (List ℕ)
+record_code item = code_made item.what
+
+-- the code of the item or warehouse with this number, or the empty code
+abbrev pub code_at : List Record → ℕ → List ℕ
+code_at journal n = unwrap_or (option_and_then record_code (record_at journal n)) []

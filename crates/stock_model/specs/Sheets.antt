@@ -1,5 +1,5 @@
 -- The sheets of a report, made from what was selected.
-use Rattle.std.specs.Prelude.{ℕ, ◌-◌, Bool, ◌==◌, pos, List, [], ◌∷◌, map, fold, if◌then◌else◌, unwrap_or, nat_lt}
+use Rattle.std.specs.Prelude.{ℕ, Bool, ◌==◌, pos, List, [], ◌∷◌, map, fold, if◌then◌else◌, unwrap_or, nat_lt}
 use Rattle.std.specs.Option.{option_map}
 use Rattle.std.specs.List.{find}
 use Rattle.stock_nums.specs.Places.{first_by}
@@ -8,7 +8,7 @@ use Rattle.stock_nums.specs.declared.entry.Row.{Row}
 use Rattle.stock_nums.specs.declared.head.Head.{Head}
 use Rattle.stock_model.specs.declared.queries.Selected.{Selected}
 use Rattle.stock_model.specs.declared.replies.BalanceRow.{BalanceRow}
-use Rattle.stock_model.specs.Sums.{quantity_in, quantity_out, value_in, value_out}
+use Rattle.stock_model.specs.Sums.{stock_units, stock_value}
 
 -- by the item's number, and then by the warehouse's
 abbrev pub is_key_before : Key → Key → Bool
@@ -45,8 +45,8 @@ balance_row heads rows key =
     record {
       item = code_of heads key.item.0;
       store = code_of heads key.store.0;
-      qty = record { 0 = quantity_in rows key - quantity_out rows key };
-      value = record { 0 = pos (value_in rows key - value_out rows key) };
+      qty = record { 0 = stock_units rows key };
+      value = record { 0 = pos (stock_value rows key) };
     }
 
 unfoldable pub balance : Selected → List BalanceRow

@@ -1,13 +1,8 @@
 -- What entered and what left, of one item in one warehouse.
-use Rattle.std.specs.Prelude.{ℕ, Bool, true, false, ◌&&◌, ◌==◌, not, List, filter, sum_by, unsigned_abs}
+use Rattle.std.specs.Prelude.{ℕ, ◌-◌, Bool, ◌&&◌, ◌==◌, not, List, filter, sum_by, unsigned_abs}
 use Rattle.stock_nums.specs.declared.entry.Key.{Key}
 use Rattle.stock_nums.specs.declared.entry.Row.{Row}
-use Rattle.stock_nums.specs.declared.place.Side.{Side}
-use Rattle.stock_nums.specs.declared.place.Side.TheVariants.{Leaves, Enters}
-
-abbrev pub is_entering : Side → Bool
-is_entering Leaves = false
-is_entering Enters = true
+use Rattle.stock_nums.specs.Causes.{is_entering}
 
 -- the row is of this item and this warehouse
 abbrev pub is_of : Key → Row → Bool
@@ -37,3 +32,11 @@ value_in rows key = sum_by value_of (filter (enters_at key) rows)
 
 abbrev pub value_out : List Row → Key → ℕ
 value_out rows key = sum_by value_of (filter (leaves_at key) rows)
+
+-- the units of an item that a warehouse holds: what entered less what left
+abbrev pub stock_units : List Row → Key → ℕ
+stock_units rows key = quantity_in rows key - quantity_out rows key
+
+-- what they are worth together
+abbrev pub stock_value : List Row → Key → ℕ
+stock_value rows key = value_in rows key - value_out rows key

@@ -64,7 +64,7 @@ first_history = Kept item_b ∷ Kept store_w1 ∷ Kept (receipt_of (66 ∷ [])) 
 
 -- the balance sheet
 abbrev pub balance_sheet : Query
-balance_sheet = record { sheet = sheet.Balance }
+balance_sheet = record { sheet = sheet.Balance; need = record { 0 = 0 } }
 
 -- W1 holds 10 units of B worth 1000
 abbrev pub ten_b : BalanceRow

@@ -1,7 +1,9 @@
 -- Movements of one second, as an example.
-use Rattle.std.specs.Prelude.{ℕ, pos, List, [], ◌∷◌, refl}
+use Rattle.std.specs.Prelude.{ℕ, pos, true, List, [], ◌∷◌, IsTrue, refl}
 use Rattle.std.proofs.Common.{lit<, lit≤}
-use Rattle.stock_nums.specs.declared.cause.Cause.TheVariants.{Receipt}
+use Rattle.stock_nums.specs.Causes.{has_amounts_in_range, has_side}
+use Rattle.stock_nums.specs.declared.cause.Cause.{Cause}
+use Rattle.stock_nums.specs.declared.cause.Cause.TheVariants.{Receipt, Issue}
 use Rattle.stock_nums.specs.declared.cause.Method.TheVariants.{Average}
 use Rattle.stock_nums.specs.declared.entry.Entry.{Entry}
 use Rattle.stock_nums.specs.declared.place.Side.{Side}
@@ -9,6 +11,19 @@ use Rattle.stock_nums.specs.declared.place.Side.TheVariants.{Leaves, Enters}
 use Rattle.stock_model.specs.declared.shortages.Shortage.{Shortage}
 use Rattle.stock_model.specs.PostingOrder.{put_all}
 use Rattle.stock_model.specs.Worked.{nine}
+
+-- why a unit moves: it is received, or sold
+abbrev pub moved_by : Side → Cause
+moved_by Enters = Receipt (record { 0 = pos 0 })
+moved_by Leaves = Issue true
+
+moved_by-sides : (side : Side) → IsTrue (has_side (moved_by side) side)
+moved_by-sides Enters = refl
+moved_by-sides Leaves = refl
+
+moved_by-amounts : (side : Side) → IsTrue (has_amounts_in_range (moved_by side))
+moved_by-amounts Enters = refl
+moved_by-amounts Leaves = refl
 
 -- one unit of item 1, into or out of a warehouse by a record, both given by their numbers
 abbrev pub one_unit : Side → ℕ → ℕ → Entry
@@ -19,9 +34,10 @@ one_unit side store n =
       store = record { 0 = store };
       qty = record { 0 = 1 };
       method = Average;
-      cause = Receipt (record { 0 = pos 0 });
+      cause = moved_by side;
       quantity = (lit< tt, lit≤ tt);
-      amounts = refl;
+      amounts = moved_by-amounts side;
+      sides = moved_by-sides side;
     }
 
 -- a unit into warehouse 2 and a unit out of a warehouse, in posting order

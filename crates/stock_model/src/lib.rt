@@ -5,11 +5,13 @@
 pub mod deeds;
 pub mod enough_laws;
 pub mod faults;
+pub mod issued;
 pub mod laws;
 pub mod masters;
 pub mod movements;
 pub mod posting;
 pub mod queries;
+pub mod received;
 pub mod records;
 pub mod refusals;
 pub mod replay;
@@ -21,6 +23,8 @@ pub mod sheets;
 #[cfg(test)]
 mod shortage_tests;
 pub mod shortages;
+pub mod stock_lines;
+pub mod sums;
 pub mod vouchers;
 pub mod worked;
 pub mod worked_shortages;

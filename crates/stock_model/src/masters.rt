@@ -1,6 +1,6 @@
 //! The items and warehouses of a journal, found by going over its records.
-ghost use Rattle.std.specs.Prelude.{◌≡◌, ◌^◌, ◌<◌, length, IfOk};
-ghost use Rattle.stock_model.specs.Masters.{item_with, store_with, heads, head_made};
+ghost use Rattle.std.specs.Prelude.{◌≡◌, ◌^◌, ◌<◌, [], length, unwrap_or, IfOk};
+ghost use Rattle.stock_model.specs.Masters.{item_with, store_with, heads, head_made, code_made};
 
 use crate::records::Record;
 use crate::vouchers::What;
@@ -79,5 +79,26 @@ fn head_made(alloc: Global, number: u32, what: &What) -> Result<Option<Head>, No
             account: Some(*account),
         })),
         What::Receipt { at: _, lines: _ } => Ok(None),
+        What::Issue {
+            at: _,
+            purpose: _,
+            lines: _,
+        } => Ok(None),
+    }
+}
+
+/// The code of the item or warehouse that this record makes, or the empty code.
+pub fn record_code(alloc: Global, record: &Record) -> Result<Code, NoMemory>
+    ensures { IfOk result (λ code. code ≡ unwrap_or (code_made record.now.what) []) }
+{
+    match &record.what {
+        What::Item { code, method: _ } => code.copy(alloc),
+        What::Store { code, account: _ } => code.copy(alloc),
+        What::Receipt { at: _, lines: _ } => Code::of(alloc, ""),
+        What::Issue {
+            at: _,
+            purpose: _,
+            lines: _,
+        } => Code::of(alloc, ""),
     }
 }

@@ -14,6 +14,42 @@ pub enum Sheet {
 #[derive(Drop)]
 pub struct Query {
     pub sheet: Sheet,
+    /// The record that the report has to cover. 0 asks for none.
+    pub need: RecordNo,
+}
+
+/// Whether a report covers the record that it has to cover.
+#[derive(Clone, Copy, Debug, PartialEq, Eq)]
+pub enum Need {
+    /// It does.
+    Ready,
+    /// The wanted record is accepted, and not among the first `covered` ones.
+    Pending {
+        covered: RecordNo,
+        wanted: RecordNo,
+    },
+    /// The wanted record is not among the `accepted` ones.
+    NoSuchRecord {
+        accepted: RecordNo,
+        wanted: RecordNo,
+    },
+}
+
+/// Why nothing was selected for a report.
+#[derive(Clone, Copy, Debug, PartialEq, Eq)]
+pub enum SelectFault {
+    /// The wanted record is accepted, and not among the first `covered` ones.
+    Pending {
+        covered: RecordNo,
+        wanted: RecordNo,
+    },
+    /// The wanted record is not among the `accepted` ones.
+    NoSuchRecord {
+        accepted: RecordNo,
+        wanted: RecordNo,
+    },
+    /// Memory was wanting. This can come at any time.
+    NoMemory,
 }
 
 /// What a report is made from: the valued movements and the items and warehouses of the first

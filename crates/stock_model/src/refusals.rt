@@ -1,12 +1,13 @@
 //! Why a record is refused, whatever room there is.
-ghost use Rattle.std.specs.Prelude.{◌≡◌, ◌^◌, ◌<◌, ◌≤◌, length};
+ghost use Rattle.std.specs.Prelude.{◌≡◌, ◌^◌, ◌<◌, ◌≤◌, length, map};
 ghost use Rattle.std.specs.Option.{option_map, option_or};
 ghost use Rattle.stock_model.specs.Faults.{first_line, lacks_item, lacks_store, voucher_fault};
 
 use crate::faults::PostFault;
 use crate::masters::{item_with, store_with};
 use crate::records::Record;
-use crate::vouchers::{ReceiptLine, What};
+use crate::stock_lines::StockLine;
+use crate::vouchers::What;
 
 /// The first fault of what a record says, read as the next one after these. It looks for a taken code,
 /// then for an unknown item, then for an unknown warehouse. None exactly where there is none.
@@ -18,13 +19,19 @@ pub fn voucher_fault(records: &[Record], item: &Record) -> Option<PostFault>
         What::Item { code, method: _ } => item_with(records, code).map(|_| PostFault::CodeTaken),
         What::Store { code, account: _ } => store_with(records, code).map(|_| PostFault::CodeTaken),
         What::Receipt { at: _, lines } => unknown_name(records, lines.as_slice()),
+        What::Issue {
+            at: _,
+            purpose: _,
+            lines,
+        } => unknown_name(records, lines.as_slice()),
     }
 }
 
-fn unknown_name(records: &[Record], lines: &[ReceiptLine]) -> Option<PostFault>
+// The first unknown item that the lines name, or else the first unknown warehouse.
+fn unknown_name<T: StockLine>(records: &[Record], lines: &[T]) -> Option<PostFault>
     requires records { length records.now < 2 ^ 32 }
     requires lines { length lines.now ≤ 100 }
-    ensures { result ≡ option_or (option_map PostFault.UnknownItem (first_line (lacks_item records.now) 1 lines.now)) (option_map PostFault.UnknownStore (first_line (lacks_store records.now) 1 lines.now)) }
+    ensures { result ≡ option_or (option_map PostFault.UnknownItem (first_line (lacks_item records.now) 1 (map T.item_code lines.now))) (option_map PostFault.UnknownStore (first_line (lacks_store records.now) 1 (map T.store_code lines.now))) }
 {
     if let Some(line) = unknown_item(records, lines) {
         return Some(PostFault::UnknownItem { line });
@@ -35,26 +42,26 @@ fn unknown_name(records: &[Record], lines: &[ReceiptLine]) -> Option<PostFault>
     None
 }
 
-fn unknown_item(records: &[Record], lines: &[ReceiptLine]) -> Option<u32>
+fn unknown_item<T: StockLine>(records: &[Record], lines: &[T]) -> Option<u32>
     requires records { length records.now < 2 ^ 32 }
     requires lines { length lines.now ≤ 100 }
-    ensures { result ≡ first_line (lacks_item records.now) 1 lines.now }
+    ensures { result ≡ first_line (lacks_item records.now) 1 (map T.item_code lines.now) }
 {
     for (i, line) in lines.iter().enumerate() {
-        if item_with(records, &line.item).is_none() {
+        if item_with(records, line.item()).is_none() {
             return Some(i as u32 + 1);
         }
     }
     None
 }
 
-fn unknown_store(records: &[Record], lines: &[ReceiptLine]) -> Option<u32>
+fn unknown_store<T: StockLine>(records: &[Record], lines: &[T]) -> Option<u32>
     requires records { length records.now < 2 ^ 32 }
     requires lines { length lines.now ≤ 100 }
-    ensures { result ≡ first_line (lacks_store records.now) 1 lines.now }
+    ensures { result ≡ first_line (lacks_store records.now) 1 (map T.store_code lines.now) }
 {
     for (i, line) in lines.iter().enumerate() {
-        if store_with(records, &line.store).is_none() {
+        if store_with(records, line.store()).is_none() {
             return Some(i as u32 + 1);
         }
     }

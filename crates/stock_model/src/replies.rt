@@ -2,6 +2,7 @@ use crate::faults::PostFault;
 use stock_nums::code::Code;
 use stock_nums::lines::Lines;
 use stock_nums::numbers::{Minor, Qty, RecordNo};
+use stock_nums::place::Place;
 
 /// A row of the balance sheet: what one warehouse holds of one item.
 #[derive(Drop)]
@@ -17,8 +18,26 @@ pub struct BalanceRow {
 pub enum Reply {
     /// The record was accepted under this number.
     Accepted(RecordNo),
-    /// The record was refused for this fault.
+    /// The record was refused for this fault, which is neither `Short` nor want of memory.
     Refused(PostFault),
+    /// The record was refused as `Short`: at this place more of the item leaves the warehouse than it has,
+    /// by so many units. The item and the warehouse are told by their codes.
+    Short {
+        place: Place,
+        item: Code,
+        store: Code,
+        lacking: Qty,
+    },
+    /// The wanted record is accepted, and not among the first `covered` ones, which reports show.
+    Pending {
+        covered: RecordNo,
+        wanted: RecordNo,
+    },
+    /// The wanted record is not among the `accepted` ones.
+    NoSuchRecord {
+        accepted: RecordNo,
+        wanted: RecordNo,
+    },
     /// The reports cover this many records now: all that are accepted.
     Settled(RecordNo),
     /// The balance sheet of the first `covered` records.

@@ -1,19 +1,17 @@
 //! The sheets of a report.
-ghost use Rattle.std.specs.Prelude.{◌≡◌, ◌^◌, ◌<◌, ◌≤◌, length, insert, IfOk, OnOk, OnErr, MatchOption, map};
+ghost use Rattle.std.specs.Prelude.{◌≡◌, ◌≤◌, length, insert, IfOk, OnOk, OnErr, MatchOption, map};
 ghost use Rattle.stock_model.specs.Bounds.{AreBounded};
-ghost use Rattle.stock_model.specs.Sums.{is_of, enters_at, leaves_at, quantity_in, quantity_out, value_in, value_out};
 ghost use Rattle.stock_model.specs.Sheets.{is_key_before, put_key, key_of, keys_of, code_of, balance_row, balance};
 
 use crate::queries::Selected;
 use crate::replies::BalanceRow;
+use crate::sums::{stock_units, stock_value};
 use std::alloc::Global;
 use stock_nums::code::Code;
 use stock_nums::entry::{Key, Row};
 use stock_nums::head::Head;
 use stock_nums::lines::Lines;
 use stock_nums::memory::NoMemory;
-use stock_nums::numbers::{Minor, Qty};
-use stock_nums::place::Side;
 
 // Whether the first key comes before the second, by the item and then by the warehouse.
 fn is_key_before(a: &Key, b: &Key) -> bool
@@ -68,69 +66,6 @@ pub fn keys_of(alloc: Global, rows: &[Row]) -> Result<Lines<Key>, NoMemory>
     Ok(keys)
 }
 
-// Whether the row is of this item and this warehouse.
-fn is_of(key: &Key, row: &Row) -> bool
-    ensures { result ≡ is_of key.now row.now }
-{
-    row.entry.item == key.item && row.entry.store == key.store
-}
-
-fn enters_at(key: &Key, row: &Row) -> bool
-    ensures { result ≡ enters_at key.now row.now }
-{
-    is_of(key, row) && row.entry.place.side == Side::Enters
-}
-
-fn leaves_at(key: &Key, row: &Row) -> bool
-    ensures { result ≡ leaves_at key.now row.now }
-{
-    is_of(key, row) && row.entry.place.side == Side::Leaves
-}
-
-/// How many units of an item entered a warehouse.
-pub fn quantity_in(rows: &[Row], key: &Key) -> u64
-    requires { quantity_in rows.now key.now < 2 ^ 64 }
-    ensures { result ≡ quantity_in rows.now key.now }
-{
-    rows.iter()
-        .filter(|row| enters_at(key, row))
-        .map(|row| row.entry.qty.0)
-        .sum()
-}
-
-/// How many units of an item left a warehouse.
-pub fn quantity_out(rows: &[Row], key: &Key) -> u64
-    requires { quantity_out rows.now key.now < 2 ^ 64 }
-    ensures { result ≡ quantity_out rows.now key.now }
-{
-    rows.iter()
-        .filter(|row| leaves_at(key, row))
-        .map(|row| row.entry.qty.0)
-        .sum()
-}
-
-/// What the units of an item that entered a warehouse are worth, in minor units.
-pub fn value_in(rows: &[Row], key: &Key) -> u64
-    requires { value_in rows.now key.now < 2 ^ 64 }
-    ensures { result ≡ value_in rows.now key.now }
-{
-    rows.iter()
-        .filter(|row| enters_at(key, row))
-        .map(|row| row.worth.value.0.unsigned_abs())
-        .sum()
-}
-
-/// What the units of an item that left a warehouse are worth, in minor units.
-pub fn value_out(rows: &[Row], key: &Key) -> u64
-    requires { value_out rows.now key.now < 2 ^ 64 }
-    ensures { result ≡ value_out rows.now key.now }
-{
-    rows.iter()
-        .filter(|row| leaves_at(key, row))
-        .map(|row| row.worth.value.0.unsigned_abs())
-        .sum()
-}
-
 /// The code of the item or warehouse with this number, or the empty code.
 pub fn code_of(alloc: Global, heads: &[Head], number: u32) -> Result<Code, NoMemory>
     ensures { IfOk result (λ code. code ≡ code_of heads.now number) }
@@ -153,13 +88,11 @@ pub fn balance_row(
     requires { AreBounded rows.now }
     ensures { IfOk result (λ row. row ≡ balance_row heads.now rows.now key.now) }
 {
-    let qty = quantity_in(rows, key).saturating_sub(quantity_out(rows, key));
-    let value = value_in(rows, key).saturating_sub(value_out(rows, key));
     Ok(BalanceRow {
         item: code_of(alloc, heads, key.item.0)?,
         store: code_of(alloc, heads, key.store.0)?,
-        qty: Qty(qty),
-        value: Minor(value as i64),
+        qty: stock_units(rows, key),
+        value: stock_value(rows, key),
     })
 }
 

@@ -9,19 +9,21 @@ use stock_nums::moment::Moment;
 use stock_nums::numbers::{ItemNo, Minor, Qty, RecordNo, StoreNo};
 use stock_nums::place::{Place, Side};
 
-// Units of item 1, into or out of a warehouse by a record.
-fn moved(voucher: u32, side: Side, store: u32, units: u8) -> Entry
+const NINE: Moment = Moment {
+    date: 20_260_102,
+    second: 32_400,
+};
+
+// Units of item 1 that a record brings into a warehouse.
+fn into(voucher: u32, store: u32, units: u8) -> Entry
     requires { 0 < units }
 {
     Entry {
         place: Place {
-            moment: Moment {
-                date: 20_260_102,
-                second: 32_400,
-            },
+            moment: NINE,
             voucher: RecordNo(voucher),
             line: 1,
-            side,
+            side: Side::Enters,
         },
         item: ItemNo(1),
         store: StoreNo(store),
@@ -31,15 +33,34 @@ fn moved(voucher: u32, side: Side, store: u32, units: u8) -> Entry
     }
 }
 
+// Units of item 1 that a record takes out of a warehouse.
+fn out_of(voucher: u32, store: u32, units: u8) -> Entry
+    requires { 0 < units }
+{
+    Entry {
+        place: Place {
+            moment: NINE,
+            voucher: RecordNo(voucher),
+            line: 1,
+            side: Side::Leaves,
+        },
+        item: ItemNo(1),
+        store: StoreNo(store),
+        qty: Qty(u64::from(units)),
+        method: Method::Average,
+        cause: Cause::Issue { sold: true },
+    }
+}
+
 #[test]
 fn short_after_two_issues(rt: HostRuntime) -> Result<(), Fail> {
     let line = [
-        moved(4, Side::Enters, 2, 10),
-        moved(5, Side::Enters, 3, 1),
-        moved(6, Side::Leaves, 2, 7),
-        moved(7, Side::Leaves, 3, 1),
-        moved(8, Side::Leaves, 2, 5),
-        moved(9, Side::Leaves, 3, 1),
+        into(4, 2, 10),
+        into(5, 3, 1),
+        out_of(6, 2, 7),
+        out_of(7, 3, 1),
+        out_of(8, 2, 5),
+        out_of(9, 3, 1),
     ];
     let enough = first_shortage(rt.alloc(), &line[..4])?;
     assert_eq!(rt; enough, None);

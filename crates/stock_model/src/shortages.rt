@@ -26,7 +26,8 @@ pub struct Holding {
     pub held: Qty,
 }
 
-fn entry_key(entry: &Entry) -> Key
+/// The item and the warehouse of a movement.
+pub fn entry_key(entry: &Entry) -> Key
     ensures { result ≡ entry_key entry.now }
 {
     Key {

@@ -22,6 +22,25 @@ pub struct ReceiptLine {
     pub ghost price: { IsTrue (is_line_amount amount.0) },
 }
 
+/// What goods are issued for.
+#[derive(Clone, Copy, Debug, PartialEq, Eq)]
+pub enum Purpose {
+    /// They were sold.
+    Sold,
+    /// They were used by the firm itself.
+    Used,
+}
+
+/// A line of an issue.
+#[derive(Drop)]
+pub struct IssueLine {
+    pub item: Code,
+    pub store: Code,
+    /// From 1 to 10^9.
+    pub qty: Qty,
+    pub ghost quantity: { IsLineQuantity qty.0 },
+}
+
 /// What a record says.
 #[derive(Drop)]
 pub enum What {
@@ -40,6 +59,12 @@ pub enum What {
         at: Moment,
         lines: Lines<ReceiptLine>,
     },
+    /// Goods that left at the moment.
+    Issue {
+        at: Moment,
+        purpose: Purpose,
+        lines: Lines<IssueLine>,
+    },
 }
 
 impl ReceiptLine {
@@ -52,6 +77,19 @@ impl ReceiptLine {
             store: self.store.copy(alloc)?,
             qty: self.qty,
             amount: self.amount,
+        })
+    }
+}
+
+impl IssueLine {
+    /// An equal line.
+    pub fn copy(&self, alloc: Global) -> Result<IssueLine, NoMemory>
+        ensures { IfOk result (λ copy. copy ≡ self.now) }
+    {
+        Ok(IssueLine {
+            item: self.item.copy(alloc)?,
+            store: self.store.copy(alloc)?,
+            qty: self.qty,
         })
     }
 }
@@ -72,13 +110,28 @@ impl What {
             }),
             What::Receipt { at, lines } => Ok(What::Receipt {
                 at: *at,
-                lines: copy_lines(alloc, lines.as_slice())?,
+                lines: copy_receipt_lines(alloc, lines.as_slice())?,
+            }),
+            What::Issue { at, purpose, lines } => Ok(What::Issue {
+                at: *at,
+                purpose: *purpose,
+                lines: copy_issue_lines(alloc, lines.as_slice())?,
             }),
         }
     }
 }
 
-fn copy_lines(alloc: Global, lines: &[ReceiptLine]) -> Result<Lines<ReceiptLine>, NoMemory>
+fn copy_receipt_lines(alloc: Global, lines: &[ReceiptLine]) -> Result<Lines<ReceiptLine>, NoMemory>
+    ensures { IfOk result (λ copy. copy ≡ lines.now) }
+{
+    let mut copy = Lines::new(alloc);
+    for line in lines {
+        copy.push(line.copy(alloc)?)?;
+    }
+    Ok(copy)
+}
+
+fn copy_issue_lines(alloc: Global, lines: &[IssueLine]) -> Result<Lines<IssueLine>, NoMemory>
     ensures { IfOk result (λ copy. copy ≡ lines.now) }
 {
     let mut copy = Lines::new(alloc);

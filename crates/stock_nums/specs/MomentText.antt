@@ -1,5 +1,5 @@
 -- How a moment is spelled: YYYY-MM-DDTHH:MM:SS.
-use Rattle.std.specs.Prelude.{◌≡◌, ℕ, ◌+◌, ◌-◌, ◌*◌, ◌<◌, ◌≤◌, List, length, slice_index, pos}
+use Rattle.std.specs.Prelude.{◌≡◌, ℕ, ◌+◌, ◌-◌, ◌*◌, ◌/◌, ◌%◌, ◌<◌, ◌≤◌, List, [], ◌∷◌, length, slice_index, pos}
 use Rattle.jiff.specs.Words.{IsDate}
 use Rattle.stock_nums.specs.declared.moment.Moment.{Moment}
 
@@ -46,3 +46,17 @@ pub record SpellsMoment (bytes : List ℕ) (moment : Moment) : Type 0 where
   pub in_range : IsMomentInRange bytes
   pub date : moment.date ≡ 10000 * year_digits bytes + 100 * two_digits bytes 5 + two_digits bytes 8
   pub second : moment.second ≡ 3600 * two_digits bytes 11 + 60 * two_digits bytes 14 + two_digits bytes 17
+
+-- the text with these parts, of two digits each
+abbrev pub text_of : (century year month day hour minute second : ℕ) → List ℕ
+text_of century year month day hour minute second =
+    (48 + century / 10) ∷ (48 + century % 10) ∷ (48 + year / 10) ∷ (48 + year % 10) ∷ 45
+    ∷ (48 + month / 10) ∷ (48 + month % 10) ∷ 45 ∷ (48 + day / 10) ∷ (48 + day % 10) ∷ 84
+    ∷ (48 + hour / 10) ∷ (48 + hour % 10) ∷ 58 ∷ (48 + minute / 10) ∷ (48 + minute % 10) ∷ 58
+    ∷ (48 + second / 10) ∷ (48 + second % 10) ∷ []
+
+-- the text of a moment
+abbrev pub moment_text : Moment → List ℕ
+moment_text moment =
+    text_of (moment.date / 1000000) (moment.date / 10000 % 100) (moment.date / 100 % 100) (moment.date % 100)
+    (moment.second / 3600) (moment.second / 60 % 60) (moment.second % 60)

@@ -10,6 +10,8 @@ pub enum Method {
 /// Why an item moves.
 #[derive(Clone, Copy, Debug, PartialEq, Eq)]
 pub enum Cause {
-    /// A receipt, at the line's amount, from 0 to 10^12.
+    /// A receipt, at the line's amount, from 0 to 10^12. It enters.
     Receipt { amount: Minor },
+    /// An issue: the units were sold, or else used. It leaves.
+    Issue { sold: bool },
 }

@@ -1,6 +1,6 @@
 ghost use Rattle.std.specs.Prelude.{IsTrue};
 ghost use Rattle.stock_nums.specs.Quantities.{IsLineQuantity};
-ghost use Rattle.stock_nums.specs.Causes.{has_amounts_in_range};
+ghost use Rattle.stock_nums.specs.Causes.{has_amounts_in_range, has_side};
 
 use crate::cause::{Cause, Method};
 use crate::numbers::{ItemNo, Minor, Qty, StoreNo};
@@ -25,6 +25,7 @@ pub struct Entry {
     pub cause: Cause,
     ghost quantity: { IsLineQuantity qty.0 },
     ghost amounts: { IsTrue (has_amounts_in_range cause) },
+    ghost sides: { IsTrue (has_side cause place.side) },
 }
 
 /// What a movement is worth.

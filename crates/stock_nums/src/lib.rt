@@ -13,3 +13,4 @@ pub mod moment_text;
 pub mod numbers;
 pub mod place;
 mod sending;
+pub mod steps;

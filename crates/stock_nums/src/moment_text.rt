@@ -1,6 +1,6 @@
 ghost use Rattle.std.specs.Prelude.{◌≡◌, ◌+◌, ◌*◌, ◌/◌, ◌%◌, ◌<◌, ◌↔◌, ℕ, List, length, slice_set, pos, IsTrue, IfOk, IsErrOf};
 ghost use Rattle.jiff.specs.Words.{IsDate};
-ghost use Rattle.stock_nums.specs.MomentText.{IsTwoDigits, two_digits, HasMomentShape, IsMomentInRange, SpellsMoment};
+ghost use Rattle.stock_nums.specs.MomentText.{IsTwoDigits, two_digits, HasMomentShape, IsMomentInRange, SpellsMoment, moment_text};
 ghost use Rattle.stock_nums.specs.declared.moment.Moment.{Moment};
 
 use crate::lines::Lines;
@@ -45,7 +45,8 @@ pub fn read_moment(bytes: &[u8]) -> Result<Moment, MomentFault>
 
 /// The text `YYYY-MM-DDTHH:MM:SS` of a moment, which reads back as the moment.
 pub fn moment_text(alloc: Global, moment: Moment) -> Result<Lines<u8>, NoMemory>
-    ensures { IfOk result (λ text. SpellsMoment text moment) }
+    ensures text { IfOk result (λ text. text ≡ moment_text moment) }
+    ensures spelled { SpellsMoment (moment_text moment) moment }
 {
     let mut text = *b"0000-00-00T00:00:00";
     put_two_digits(&mut text, 0, moment.date / 1_000_000);

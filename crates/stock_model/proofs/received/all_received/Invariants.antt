@@ -2,7 +2,7 @@
 use Rattle.std.proofs.Common.{◌≡◌, ◌+◌, ◌++◌, drop, length}
 use Rattle.std.specs.List.{filter_map, enumerate_from}
 use Rattle.stock_model.specs.Entries.{received_line}
-use Rattle.stock_model.proofs.movements.all_received.Given as goal
+use Rattle.stock_model.proofs.received.all_received.Given as goal
 
 abbrev pub invariant-loop-i : goal.invariant-loop-i
 invariant-loop-i l =

@@ -1,0 +1,87 @@
+//! What leaves by an issue.
+ghost use Rattle.std.specs.Prelude.{◌≡◌, ◌+◌, ◌^◌, ◌<◌, ◌≤◌, length, IfOk};
+ghost use Rattle.std.specs.List.{filter_map, enumerate_from};
+ghost use Rattle.stock_model.specs.Entries.{is_sold, issued, issued_line};
+
+use crate::masters::{item_with, store_with};
+use crate::records::Record;
+use crate::vouchers::{IssueLine, Purpose};
+use std::alloc::Global;
+use stock_nums::cause::{Cause, Method};
+use stock_nums::entry::Entry;
+use stock_nums::lines::Lines;
+use stock_nums::memory::NoMemory;
+use stock_nums::moment::Moment;
+use stock_nums::numbers::{AccountNo, ItemNo, RecordNo, StoreNo};
+use stock_nums::place::{Place, Side};
+
+/// What leaves by the lines of an issue at the moment, read as the next record after these.
+pub fn all_issued(
+    alloc: Global,
+    records: &[Record],
+    at: Moment,
+    purpose: Purpose,
+    lines: &[IssueLine],
+) -> Result<Lines<Entry>, NoMemory>
+    requires records { length records.now + 1 < 2 ^ 32 }
+    requires lines { length lines.now ≤ 100 }
+    ensures { IfOk result (λ es. es ≡ filter_map (issued_line records.now (length records.now + 1) at purpose) (enumerate_from 1 lines.now)) }
+{
+    let mut entries = Lines::new(alloc);
+    for (i, line) in lines.iter().enumerate() {
+        if let Some(entry) = issued_line(records, at, purpose, i as u32 + 1, line) {
+            entries.push(entry)?;
+        }
+    }
+    Ok(entries)
+}
+
+fn issued_line(
+    records: &[Record],
+    at: Moment,
+    purpose: Purpose,
+    number: u32,
+    line: &IssueLine,
+) -> Option<Entry>
+    requires { length records.now + 1 < 2 ^ 32 }
+    ensures { result ≡ issued_line records.now (length records.now + 1) at purpose (number, line.now) }
+{
+    let item = item_with(records, &line.item)?;
+    let store = store_with(records, &line.store)?;
+    let voucher = RecordNo(records.len() as u32 + 1);
+    Some(leaving(voucher, at, purpose, number, line, item, store))
+}
+
+fn is_sold(purpose: Purpose) -> bool
+    ensures { result ≡ is_sold purpose }
+{
+    purpose == Purpose::Sold
+}
+
+fn leaving(
+    voucher: RecordNo,
+    at: Moment,
+    purpose: Purpose,
+    number: u32,
+    line: &IssueLine,
+    item: (ItemNo, Method),
+    store: (StoreNo, AccountNo),
+) -> Entry
+    ensures { result ≡ issued voucher.0 at purpose (number, line.now) item store }
+{
+    Entry {
+        place: Place {
+            moment: at,
+            voucher,
+            line: number,
+            side: Side::Leaves,
+        },
+        item: item.0,
+        store: store.0,
+        qty: line.qty,
+        method: item.1,
+        cause: Cause::Issue {
+            sold: is_sold(purpose),
+        },
+    }
+}
