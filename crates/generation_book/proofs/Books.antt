@@ -1,20 +1,30 @@
 -- How the parts of a book hang together, and what a kept record and a publication make of them.
-use Rattle.std.proofs.Common.{◌≡◌, ℕ, ◌+◌, ◌<◌, ◌≤◌, ◌⊎◌, List, [], ◌∷◌, ◌++◌, length, None, Some, refl, sym, ap, ◌∙◌, length-append, arith}
+use Rattle.std.proofs.Common.{◌≡◌, ℕ, ◌+◌, ◌<◌, ◌≤◌, ◌⊎◌, List, [], ◌∷◌, ◌++◌, length, Option, None, Some, refl, sym, subst, ap, ◌∙◌, length-append, arith}
+use Rattle.std.specs.Option.{option_map, option_or}
 use Rattle.std.proofs.lemmas.Bool.{lt-ltb, le-ltb}
 use Rattle.std.proofs.lemmas.Bool.Decides.{nat_tests}
 use Rattle.std.proofs.lemmas.List.{take-append-le, take_all}
-use Rattle.stock_model.proofs.Growth.{all_entries-snoc}
+use Rattle.stock_model.proofs.Enough.{IsEnough-nil, IsEnough-from_none}
+use Rattle.stock_model.proofs.Growth.{all_entries-snoc, posting_line-snoc, length-put_all, length-posting_line}
+use Rattle.stock_model.proofs.Valuation.{AreBounded-rows_of}
+use Rattle.stock_nums.specs.declared.entry.Entry.{Entry}
 use Rattle.stock_nums.specs.declared.entry.Row.{Row}
 use Rattle.stock_nums.specs.declared.numbers.RecordNo.{RecordNo}
 use Rattle.stock_model.specs.declared.records.Record.{Record}
+use Rattle.stock_model.specs.declared.shortages.Shortage.{Shortage}
 use Rattle.stock_model.specs.declared.deeds.Deed.{Deed}
 use Rattle.stock_model.specs.declared.deeds.Deed.TheVariants as deed
 use Rattle.stock_model.specs.declared.faults.PostFault.{PostFault}
 use Rattle.stock_model.specs.declared.faults.PostFault.TheVariants.{Full}
 use Rattle.stock_model.specs.Entries.{entries, all_entries}
-use Rattle.stock_model.specs.Faults.{fault, full, voucher_fault, max_records, max_entries}
-use Rattle.stock_model.specs.PostingOrder.{posting_line}
-use Rattle.stock_model.specs.Replay.{replay}
+use Rattle.stock_model.specs.Bounds.{AreBounded}
+use Rattle.stock_model.specs.Enough.{IsEnough, shortage}
+use Rattle.stock_model.specs.Faults.{fault, full, short, short_of, voucher_fault, max_records, max_entries}
+use Rattle.stock_model.specs.declared.queries.Query.{Query}
+use Rattle.stock_model.specs.declared.queries.Need.TheVariants as need
+use Rattle.stock_model.specs.Answers.{need_at}
+use Rattle.stock_model.specs.PostingOrder.{put_all, posting_line}
+use Rattle.stock_model.specs.Replay.{rows_of, replay}
 use Rattle.stock_model.specs.History as history
 use Rattle.stock_model.proofs.Histories.{covered_after-append, IsLegalAfter-append}
 use Rattle.generation_book.specs.declared.events.Event.{Event}
@@ -53,9 +63,9 @@ deeds-published (Kept ∷ events) (first ∷ journal) n counted = ap (λ rest. d
 deeds-published (Published m ∷ events) journal n counted = ap (λ rest. deed.Published m ∷ rest) (deeds-published events journal n counted)
 
 -- what the parts of a book are told as
-pub history-records : (events : List Event) (journal : List Record) (n c : ℕ) (rows : List Row) (told : List Deed) → IsBook events journal n c rows
+pub history-records : (events : List Event) (journal : List Record) (line : List Entry) (c : ℕ) (rows : List Row) (told : List Deed) → IsBook events journal line c rows
     → deeds events journal ≡ told → history.records told ≡ journal
-history-records events journal n c rows told book is = ap history.records (sym is) ∙ records-deeds events journal book.counted
+history-records events journal line c rows told book is = ap history.records (sym is) ∙ records-deeds events journal book.counted
 
 -- a fault of what the record says is its first
 pub fault-voucher : (journal : List Record) (item : Record) (f : PostFault) → voucher_fault journal item.what ≡ Some f → fault journal item ≡ Some f
@@ -71,6 +81,10 @@ room_test : (journal : List Record) (item : Record) → length journal < max_rec
     → full journal item ≡ None
 room_test journal item records room = grind (arith, nat_tests)
 
+tested_room : (journal : List Record) (item : Record) → full journal item ≡ None
+    → (length journal < max_records) × (length (all_entries journal) + length (entries journal item) ≤ max_entries)
+tested_room journal item room = (grind (arith, nat_tests), grind (arith, nat_tests))
+
 -- where there is no room that is the first fault, after those of what the record says
 pub fault-full : (journal : List Record) (item : Record) (n k : ℕ) → n ≡ length (all_entries journal) → k ≡ length (entries journal item)
     → voucher_fault journal item.what ≡ None → (max_records ≤ length journal) ⊎ (max_entries < n + k)
@@ -79,12 +93,46 @@ unfolding fault
 fault-full journal item n k all new sound no_room =
     rw (sound, no_room_test journal item (rw (← all, ← new) no_room), ← all) refl
 
--- a record with no fault, for which there is room, has none
-pub fault-none : (journal : List Record) (item : Record) (n k : ℕ) → n ≡ length (all_entries journal) → k ≡ length (entries journal item)
-    → voucher_fault journal item.what ≡ None → length journal < max_records → n + k ≤ max_entries → fault journal item ≡ None
+-- where there is room, and with the record's movements one is short, that is the first fault
+pub fault-short : (journal : List Record) (item : Record) (s : Shortage) → voucher_fault journal item.what ≡ None → length journal < max_records
+    → length (all_entries journal) + length (entries journal item) ≤ max_entries → shortage (posting_line (journal ++ item ∷ [])) ≡ Some s
+    → fault journal item ≡ Some (short_of s)
 unfolding fault
-fault-none journal item n k all new sound records room =
-    rw (sound, room_test journal item records (rw (← all, ← new) room)) refl
+fault-short journal item s sound records room is = rw (sound, room_test journal item records room, is) refl
+
+-- a record with no fault, for which there is room, and with which none is short, has none
+pub fault-none : (journal : List Record) (item : Record) → voucher_fault journal item.what ≡ None → length journal < max_records
+    → length (all_entries journal) + length (entries journal item) ≤ max_entries → shortage (posting_line (journal ++ item ∷ [])) ≡ None → fault journal item ≡ None
+unfolding fault
+fault-none journal item sound records room enough = rw (sound, room_test journal item records room, enough) refl
+
+-- what it means that a record has no fault
+pub record NoFault (journal : List Record) (item : Record) : Type 0 where
+  pub sound : voucher_fault journal item.what ≡ None
+  pub records : length journal < max_records
+  pub few : length (all_entries journal) + length (entries journal item) ≤ max_entries
+  pub enough : shortage (posting_line (journal ++ item ∷ [])) ≡ None
+
+or_none : {X : Type 0} (a b : Option X) → option_or a b ≡ None → (a ≡ None) × (b ≡ None)
+or_none None b h = (refl, h)
+or_none (Some x) b h = cc
+
+map_none : {X Y : Type 0} (f : X → Y) (a : Option X) → option_map f a ≡ None → a ≡ None
+map_none f None h = refl
+map_none f (Some x) h = cc
+
+pub NoFault-from : (journal : List Record) (item : Record) → fault journal item ≡ None → NoFault journal item
+unfolding fault
+NoFault-from journal item none =
+    let first = or_none (voucher_fault journal item.what) (option_or (full journal item) (short journal item)) none in
+    let then = or_none (full journal item) (short journal item) first.1 in
+    let room = tested_room journal item then.0 in
+    record {
+      sound = first.0;
+      records = room.0;
+      few = room.1;
+      enough = map_none short_of (shortage (posting_line (journal ++ item ∷ []))) then.1;
+    }
 
 -- a legal history stays so where a record without a fault is kept
 legal-kept : (told : List Deed) (item : Record) → history.IsLegal told → fault (history.records told) item ≡ None → history.IsLegal (told ++ deed.Kept item ∷ [])
@@ -95,43 +143,63 @@ legal-published : (told : List Deed) (n : RecordNo) → history.IsLegal told →
     → history.IsLegal (told ++ deed.Published n ∷ [])
 legal-published told n legal more within = IsLegalAfter-append [] 0 told (deed.Published n ∷ []) legal (more, within, tt)
 
+-- the rows of the posting line are the replay
+replay-rows : (journal : List Record) (line : List Entry) (rows : List Row) → line ≡ posting_line journal → rows ≡ rows_of line → rows ≡ replay journal
+unfolding replay
+replay-rows journal line rows posted valued = valued ∙ ap rows_of posted
+
 -- a book after a record was kept
-pub IsBook-kept : (events : List Event) (journal : List Record) (n c : ℕ) (rows : List Row) (item : Record) (k : ℕ)
-    → IsBook events journal n c rows → fault journal item ≡ None → k ≡ length (entries journal item) → n + k ≤ max_entries
-    → IsBook (events ++ Kept ∷ []) (journal ++ item ∷ []) (n + k) c rows
-IsBook-kept events journal n c rows item k book sound new room =
+pub IsBook-kept : (events : List Event) (journal : List Record) (line : List Entry) (c : ℕ) (rows : List Row) (item : Record) (longer : List Entry)
+    → IsBook events journal line c rows → fault journal item ≡ None → longer ≡ posting_line (journal ++ item ∷ [])
+    → IsBook (events ++ Kept ∷ []) (journal ++ item ∷ []) longer c rows
+IsBook-kept events journal line c rows item longer book none posted =
     let told = deeds-kept events journal item book.counted in
+    let fine = NoFault-from journal item none in
     record {
       counted = omega (arith, kept_count-append events (Kept ∷ []), length-append journal (item ∷ []), book.counted);
-      held = rw (all_entries-snoc, length-append) (omega (arith, book.held));
-      few = room;
+      posted = posted;
+      few = rw (posted, length-posting_line, all_entries-snoc, length-append) fine.few;
+      enough = subst IsEnough (sym posted) (IsEnough-from_none (posting_line (journal ++ item ∷ [])) fine.enough);
       covers = rw (told, covered_after-append 0 (deeds events journal) (deed.Kept item ∷ [])) book.covers;
       within = omega (arith, length-append journal (item ∷ []), book.within);
       valued = rw (take-append-le c journal (item ∷ []) book.within) book.valued;
-      legal = rw told (legal-kept (deeds events journal) item book.legal (rw (records-deeds events journal book.counted) sound));
+      bounded = book.bounded;
+      legal = rw told (legal-kept (deeds events journal) item book.legal (rw (records-deeds events journal book.counted) none));
     }
 
 -- a book after all its records were published
-pub IsBook-published : (events : List Event) (journal : List Record) (n c : ℕ) (rows : List Row) (accepted : RecordNo) (newer : List Row)
-    → IsBook events journal n c rows → accepted.0 ≡ length journal → c < accepted.0 → newer ≡ replay journal
-    → IsBook (events ++ Published accepted ∷ []) journal n accepted.0 newer
-IsBook-published events journal n c rows accepted newer book all more replayed =
+pub IsBook-published : (events : List Event) (journal : List Record) (line : List Entry) (c : ℕ) (rows : List Row) (accepted : RecordNo) (newer : List Row)
+    → IsBook events journal line c rows → accepted.0 ≡ length journal → c < accepted.0 → newer ≡ rows_of line → AreBounded (rows_of line)
+    → IsBook (events ++ Published accepted ∷ []) journal line accepted.0 newer
+IsBook-published events journal line c rows accepted newer book all more valued bounded =
     let told = deeds-published events journal accepted book.counted in
     record {
       counted = omega (arith, kept_count-append events (Published accepted ∷ []), book.counted);
-      held = book.held;
+      posted = book.posted;
       few = book.few;
+      enough = book.enough;
       covers = rw (told, covered_after-append 0 (deeds events journal) (deed.Published accepted ∷ [])) refl;
       within = omega (arith, all);
-      valued = rw all (rw (take_all (length journal) journal (omega arith)) replayed);
+      valued = rw all (rw (take_all (length journal) journal (omega arith)) (replay-rows journal line newer book.posted valued));
+      bounded = subst AreBounded (sym valued) bounded;
       legal = rw told (legal-published (deeds events journal) accepted book.legal (rw (← book.covers) more) (rw (records-deeds events journal book.counted) (omega (arith, all))));
     }
 
 -- the empty book
-pub IsBook-start : IsBook [] [] 0 0 []
+pub IsBook-start : IsBook [] [] [] 0 []
 unfolding replay posting_line all_entries
 IsBook-start =
-    record { counted = refl; held = refl; few = omega arith; covers = refl; within = omega arith; valued = refl; legal = tt }
+    record {
+      counted = refl;
+      posted = refl;
+      few = omega arith;
+      enough = IsEnough-nil;
+      covers = refl;
+      within = omega arith;
+      valued = refl;
+      bounded = AreBounded-rows_of [] (omega arith) IsEnough-nil;
+      legal = tt;
+    }
 
 -- where something is not covered it is published
 pub settled-more : (told : List Deed) (n : RecordNo) → history.covered told < history.accepted told → n.0 ≡ history.accepted told
@@ -144,10 +212,31 @@ pub settled-same : (told : List Deed) → history.accepted told ≤ history.cove
 settled-same told all = rw (le-ltb (history.covered told) (history.accepted told) all) refl
 
 -- how many records the history accepted, and how many it covers
-pub history-accepted : (events : List Event) (journal : List Record) (n c : ℕ) (rows : List Row) (told : List Deed) → IsBook events journal n c rows
+pub history-accepted : (events : List Event) (journal : List Record) (line : List Entry) (c : ℕ) (rows : List Row) (told : List Deed) → IsBook events journal line c rows
     → deeds events journal ≡ told → history.accepted told ≡ length journal
-history-accepted events journal n c rows told book is = ap length (history-records events journal n c rows told book is)
+history-accepted events journal line c rows told book is = ap length (history-records events journal line c rows told book is)
 
-pub history-covered : (events : List Event) (journal : List Record) (n c : ℕ) (rows : List Row) (told : List Deed) → IsBook events journal n c rows
+pub history-covered : (events : List Event) (journal : List Record) (line : List Entry) (c : ℕ) (rows : List Row) (told : List Deed) → IsBook events journal line c rows
     → deeds events journal ≡ told → history.covered told ≡ c
-history-covered events journal n c rows told book is = ap history.covered (sym is) ∙ sym book.covers
+history-covered events journal line c rows told book is = ap history.covered (sym is) ∙ sym book.covers
+
+-- the line with the movements of one more record put among its own
+pub posting_line-merged : (journal : List Record) (item : Record) (line es all : List Entry) → line ≡ posting_line journal → es ≡ entries journal item → all ≡ put_all line es
+    → all ≡ posting_line (journal ++ item ∷ [])
+posting_line-merged journal item line es all posted new is = is ∙ rw (posted, new) (sym (posting_line-snoc journal item))
+
+-- its movements are few
+pub length-merged : (line es all : List Entry) → all ≡ put_all line es → length all ≡ length line + length es
+length-merged line es all is = ap length is ∙ length-put_all line es
+
+-- whether what a report needs is covered, is accepted, or isn't
+pub need_at-ready : (told : List Deed) (query : Query) (c : ℕ) → history.covered told ≡ c → query.need.0 ≤ c → need_at told query ≡ need.Ready
+need_at-ready told query c covers within = rw covers (grind (arith, nat_tests))
+
+pub need_at-pending : (told : List Deed) (query : Query) (c a : ℕ) → history.covered told ≡ c → history.accepted told ≡ a → c < query.need.0 → query.need.0 ≤ a
+    → need_at told query ≡ need.Pending (record { 0 = c }) query.need
+need_at-pending told query c a covers all beyond within = rw (covers, all) (grind (arith, nat_tests))
+
+pub need_at-none : (told : List Deed) (query : Query) (c a : ℕ) → history.covered told ≡ c → history.accepted told ≡ a → c < query.need.0 → a < query.need.0
+    → need_at told query ≡ need.NoSuchRecord (record { 0 = a }) query.need
+need_at-none told query c a covers all beyond out = rw (covers, all) (grind (arith, nat_tests))

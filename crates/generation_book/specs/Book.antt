@@ -1,11 +1,14 @@
 -- How a book is kept: its history is told by its events and its journal.
 use Rattle.std.specs.Prelude.{ℕ, ◌≡◌, ◌+◌, ◌≤◌, List, [], ◌∷◌, length, take}
+use Rattle.stock_nums.specs.declared.entry.Entry.{Entry}
 use Rattle.stock_nums.specs.declared.entry.Row.{Row}
 use Rattle.stock_model.specs.declared.records.Record.{Record}
 use Rattle.stock_model.specs.declared.deeds.Deed.{Deed}
 use Rattle.stock_model.specs.declared.deeds.Deed.TheVariants as deed
-use Rattle.stock_model.specs.Entries.{all_entries}
+use Rattle.stock_model.specs.Bounds.{AreBounded}
+use Rattle.stock_model.specs.Enough.{IsEnough}
 use Rattle.stock_model.specs.Faults.{max_entries}
+use Rattle.stock_model.specs.PostingOrder.{posting_line}
 use Rattle.stock_model.specs.Replay.{replay}
 use Rattle.stock_model.specs.History as history
 use Rattle.generation_book.specs.declared.events.Event.{Event}
@@ -25,14 +28,16 @@ kept_count (Kept ∷ events) = kept_count events + 1
 kept_count (Published n ∷ events) = kept_count events
 
 -- what holds of the parts of a book
-pub record IsBook (events : List Event) (journal : List Record) (entries covered : ℕ) (rows : List Row) : Type 0 where
+pub record IsBook (events : List Event) (journal : List Record) (line : List Entry) (covered : ℕ) (rows : List Row) : Type 0 where
   -- the events keep exactly the records of the journal
   pub counted : kept_count events ≡ length journal
-  -- the movements are counted, and few enough
-  pub held : entries ≡ length (all_entries journal)
-  pub few : entries ≤ max_entries
+  -- the movements stand in posting order, are few enough, and take no more than there is
+  pub posted : line ≡ posting_line journal
+  pub few : length line ≤ max_entries
+  pub enough : IsEnough line
   -- the generation is the replay of the covered records
   pub covers : covered ≡ history.covered (deeds events journal)
   pub within : covered ≤ length journal
   pub valued : rows ≡ replay (take covered journal)
+  pub bounded : AreBounded rows
   pub legal : history.IsLegal (deeds events journal)

@@ -1,19 +1,23 @@
-ghost use Rattle.std.specs.Prelude.{◌≡◌, ◌⊎◌, ◌+◌, ◌<◌, ◌≤◌, [], ◌∷◌, ◌++◌, length, IfOk, OnOk, OnErr, IfErr, Some, None};
+ghost use Rattle.std.specs.Prelude.{◌≡◌, ◌⊎◌, ◌≤◌, [], ◌∷◌, ◌++◌, IfOk, OnOk, OnErr, IfErr, Some, None};
+ghost use Rattle.std.specs.Option.{option_copied};
 ghost use Rattle.stock_model.specs.declared.deeds.Deed.TheVariants as deed;
-ghost use Rattle.stock_model.specs.Faults.{fault, max_records, max_entries};
-ghost use Rattle.stock_model.specs.History as history;
-ghost use Rattle.stock_model.specs.Answers.{selected};
+ghost use Rattle.stock_model.specs.Answers.{need_at, unmet_need, selected};
 ghost use Rattle.stock_model.specs.Bounds.{AreBounded};
-ghost use Rattle.generation_book.specs.State.{BookState};
+ghost use Rattle.stock_model.specs.Faults.{fault, short_of};
+ghost use Rattle.stock_model.specs.History as history;
+ghost use Rattle.stock_model.specs.Masters.{record_at};
+ghost use Rattle.stock_model.specs.PostingOrder.{posting_line, put_all};
 
 use crate::events::Event;
 use std::alloc::Global;
 use std::marker::Model;
 use stock_model::faults::PostFault;
-use stock_model::queries::{Query, Selected};
+use stock_model::posting::put_all;
+use stock_model::queries::{Need, Query, SelectFault, Selected};
 use stock_model::records::Record;
+use stock_model::shortages::{Shortage, first_shortage};
 use stock_model::{masters, replay};
-use stock_nums::entry::Row;
+use stock_nums::entry::{Entry, Row};
 use stock_nums::lines::Lines;
 use stock_nums::memory::NoMemory;
 use stock_nums::numbers::RecordNo;
@@ -28,7 +32,8 @@ pub const MAX_ENTRIES: usize = 4_000;
 pub struct Book {
     journal: Journal,
     events: Vec<Event>,
-    entries: u32,
+    /// The movements of all accepted records, in posting order.
+    line: Lines<Entry>,
     covered: RecordNo,
     rows: Lines<Row>,
 }
@@ -42,7 +47,7 @@ impl Model for Book {
 
     ghost view = { λ book. record { history = deeds book.events.items book.journal } };
 
-    ghost invariant = { λ book. IsBook book.events.items book.journal book.entries book.covered.0 book.rows };
+    ghost invariant = { λ book. IsBook book.events.items book.journal book.line book.covered.0 book.rows };
 }
 
 impl Book {
@@ -53,7 +58,7 @@ impl Book {
         Book {
             journal: Journal::new(alloc),
             events: Vec::new(alloc),
-            entries: 0,
+            line: Lines::new(alloc),
             covered: RecordNo(0),
             rows: Lines::new(alloc),
         }
@@ -68,18 +73,10 @@ impl Book {
         ensures unchanged { OnErr result (self.new ≡ self.old) }
         ensures legal { OnOk result (history.IsLegal self.new.history) }
     {
-        let entries = match self.journal.check(alloc, &item) {
-            Ok(entries) => entries.len(),
+        let line = match self.line_with(alloc, &item) {
+            Ok(line) => line,
             Err(fault) => return Err(fault),
         };
-        if self.journal.count() as usize >= MAX_RECORDS
-            || entries > MAX_ENTRIES - self.entries as usize
-        {
-            return Err(PostFault::Full {
-                records: self.journal.count(),
-                entries: self.entries,
-            });
-        }
         if self.events.reserve(1).is_err() {
             return Err(PostFault::NoMemory);
         }
@@ -87,8 +84,36 @@ impl Book {
             return Err(PostFault::NoMemory);
         };
         self.events.push_reserved(Event::Kept);
-        self.entries += entries as u32;
+        self.line = line;
         Ok(number)
+    }
+
+    /// The posting line with the movements of a record that has no fault, or its first fault.
+    fn line_with(&self, alloc: Global, item: &Record) -> Result<Lines<Entry>, PostFault>
+        ensures sound { OnOk result (fault (history.records self.now.history) item.now ≡ None) }
+        ensures line { IfOk result (λ line. line ≡ posting_line (history.records self.now.history ++ item.now ∷ [])) }
+        ensures fault { IfErr result (λ f. (f ≡ PostFault.NoMemory) ⊎ (fault (history.records self.now.history) item.now ≡ Some f)) }
+    {
+        let entries = match self.journal.check(alloc, item) {
+            Ok(entries) => entries,
+            Err(fault) => return Err(fault),
+        };
+        if self.journal.count() as usize >= MAX_RECORDS
+            || entries.len() > MAX_ENTRIES - self.line.len()
+        {
+            return Err(PostFault::Full {
+                records: self.journal.count(),
+                entries: self.line.len() as u32,
+            });
+        }
+        let Ok(line) = merged(alloc, self.line.as_slice(), entries.as_slice()) else {
+            return Err(PostFault::NoMemory);
+        };
+        match first_shortage(alloc, line.as_slice()) {
+            Ok(None) => Ok(line),
+            Ok(Some(shortage)) => Err(short_of(shortage)),
+            Err(_) => Err(PostFault::NoMemory),
+        }
     }
 
     /// Covers every accepted record: where some are not covered it publishes their replay. It answers how
@@ -103,7 +128,7 @@ impl Book {
         if self.covered.0 >= accepted.0 {
             return Ok(self.covered);
         }
-        let rows = replay::replay(alloc, self.journal.records())?;
+        let rows = replay::rows_of(alloc, self.line.as_slice())?;
         self.events.reserve(1)?;
         self.events.push_reserved(Event::Published(accepted));
         self.covered = accepted;
@@ -111,17 +136,66 @@ impl Book {
         Ok(accepted)
     }
 
-    /// What a report is made from.
-    pub fn select(&self, alloc: Global, query: &Query) -> Result<Selected, NoMemory>
+    /// Whether the generation covers the record that the report has to cover. It takes no memory.
+    pub fn test(&self, query: &Query) -> Need
+        ensures { result ≡ need_at self.now.history query.now }
+    {
+        let wanted = query.need;
+        let accepted = RecordNo(self.journal.count());
+        if wanted.0 <= self.covered.0 {
+            Need::Ready
+        } else if wanted.0 <= accepted.0 {
+            Need::Pending {
+                covered: self.covered,
+                wanted,
+            }
+        } else {
+            Need::NoSuchRecord { accepted, wanted }
+        }
+    }
+
+    /// What a report is made from, or why the generation is none that it can be made from.
+    pub fn select(&self, alloc: Global, query: &Query) -> Result<Selected, SelectFault>
+        ensures ready { OnOk result (need_at self.now.history query.now ≡ Need.Ready) }
         ensures selected { IfOk result (λ chosen. chosen ≡ selected self.now.history query.now) }
         ensures bounded { IfOk result (λ chosen. AreBounded chosen.rows) }
+        ensures fault { IfErr result (λ f. (f ≡ SelectFault.NoMemory) ⊎ (unmet_need (need_at self.now.history query.now) ≡ Some f)) }
+    {
+        match self.test(query) {
+            Need::Ready => self.generation(alloc, query),
+            Need::Pending { covered, wanted } => Err(SelectFault::Pending { covered, wanted }),
+            Need::NoSuchRecord { accepted, wanted } => {
+                Err(SelectFault::NoSuchRecord { accepted, wanted })
+            }
+        }
+    }
+
+    /// What a report whose need is met is made from.
+    fn generation(&self, alloc: Global, query: &Query) -> Result<Selected, SelectFault>
+        ensures selected { IfOk result (λ chosen. chosen ≡ selected self.now.history query.now) }
+        ensures bounded { IfOk result (λ chosen. AreBounded chosen.rows) }
+        ensures memory { IfErr result (λ f. f ≡ SelectFault.NoMemory) }
     {
         let records = self.journal.records();
+        let Ok(rows) = Vec::from_slice(alloc, self.rows.as_slice()) else {
+            return Err(SelectFault::NoMemory);
+        };
+        let Ok(heads) = masters::heads(alloc, &records[..self.covered.0 as usize]) else {
+            return Err(SelectFault::NoMemory);
+        };
         Ok(Selected {
             covered: self.covered,
-            rows: copy_rows(alloc, self.rows.as_slice())?,
-            heads: masters::heads(alloc, &records[..self.covered.0 as usize])?,
+            rows: Lines::from_vec(rows),
+            heads,
         })
+    }
+
+    /// The accepted record with this number. None exactly where the number is 0 or above accepted. It
+    /// takes no memory.
+    pub fn at(&self, number: RecordNo) -> Option<&Record>
+        ensures { option_copied result ≡ record_at (history.records self.now.history) number.0 }
+    {
+        self.journal.at(number)
     }
 
     /// How many records are accepted.
@@ -141,14 +215,24 @@ impl Book {
     }
 }
 
-fn copy_rows(alloc: Global, rows: &[Row]) -> Result<Lines<Row>, NoMemory>
-    ensures { IfOk result (λ copy. copy ≡ rows.now) }
+// A copy of the line, with the entries put among its own.
+fn merged(alloc: Global, line: &[Entry], entries: &[Entry]) -> Result<Lines<Entry>, NoMemory>
+    ensures { IfOk result (λ all. all ≡ put_all line.now entries.now) }
 {
-    let mut copy = Lines::new(alloc);
-    for row in rows {
-        copy.push(*row)?;
+    let mut all = Lines::from_vec(Vec::from_slice(alloc, line)?);
+    put_all(&mut all, entries)?;
+    Ok(all)
+}
+
+fn short_of(shortage: Shortage) -> PostFault
+    ensures { result ≡ short_of shortage }
+{
+    PostFault::Short {
+        place: shortage.place,
+        item: shortage.item,
+        store: shortage.store,
+        lacking: shortage.lacking,
     }
-    Ok(copy)
 }
 
 #[cfg(test)]
@@ -215,16 +299,17 @@ mod tests {
         book.post(alloc, item(alloc).ok()?).err()
     }
 
-    fn select(alloc: Global, book: &Book) -> Result<Selected, NoMemory> {
+    fn select(alloc: Global, book: &Book) -> Result<Selected, SelectFault> {
         let query = Query {
             sheet: Sheet::Balance,
+            need: RecordNo(0),
         };
         book.select(alloc, &query)
     }
 
     // How many records are accepted and how many are covered, and how many records, movements and heads
     // a report is made from.
-    fn sizes(alloc: Global, book: &Book) -> Result<[usize; 5], NoMemory> {
+    fn sizes(alloc: Global, book: &Book) -> Result<[usize; 5], SelectFault> {
         let chosen = select(alloc, book)?;
         Ok([
             book.accepted().0 as usize,

@@ -1,5 +1,5 @@
 -- No two movements of a journal have the same record number and line.
-use Rattle.std.proofs.Common.{◌≡◌, ℕ, ◌+◌, ◌≤◌, List, [], ◌∷◌, ◌++◌, length, Option, Some, None, option_and_then, refl, arith, length-append}
+use Rattle.std.proofs.Common.{◌≡◌, ℕ, ◌+◌, ◌≤◌, List, [], ◌∷◌, ◌++◌, length, Option, Some, None, option_and_then, refl, subst, arith, length-append}
 use Rattle.std.specs.List.{filter_map, enumerate_from, cons_option}
 use Rattle.std.specs.Option.{option_map}
 use Rattle.stock_nums.specs.declared.cause.Method.{Method}
@@ -9,10 +9,10 @@ use Rattle.stock_nums.specs.declared.numbers.AccountNo.{AccountNo}
 use Rattle.stock_nums.specs.declared.numbers.ItemNo.{ItemNo}
 use Rattle.stock_nums.specs.declared.numbers.StoreNo.{StoreNo}
 use Rattle.stock_model.specs.declared.records.Record.{Record}
-use Rattle.stock_model.specs.declared.vouchers.ReceiptLine.{ReceiptLine}
+use Rattle.stock_model.specs.declared.vouchers.Purpose.{Purpose}
 use Rattle.stock_model.specs.declared.vouchers.What.{What}
-use Rattle.stock_model.specs.declared.vouchers.What.TheVariants.{Item, Store, Receipt}
-use Rattle.stock_model.specs.Entries.{received, received_line, movements, entries, entries_after, all_entries}
+use Rattle.stock_model.specs.declared.vouchers.What.TheVariants.{Item, Store, Receipt, Issue}
+use Rattle.stock_model.specs.Entries.{received, received_line, issued, issued_line, movements, entries, entries_after, all_entries}
 use Rattle.stock_model.specs.Masters.{item_with, store_with}
 use Rattle.stock_model.proofs.Pairwise.{Each, Pairwise, Each-append, Each-weaker, Pairwise-append, Precedes-from_Each, Across-from_Each}
 
@@ -32,43 +32,65 @@ IsOf n e = e.place.voucher.0 ≡ n
 abbrev IsSince : ℕ → Entry → Type 0
 IsSince n e = n ≤ e.place.voucher.0
 
--- the movement of one more line, if it makes one
-cons-is_from_line : (item : Option (ItemNo × Method)) (store : Option (StoreNo × AccountNo)) (n k : ℕ) (at : Moment) (line : ReceiptLine) (rest : List Entry) → Each (IsFromLine n (k + 1)) rest → Each (IsFromLine n k) (cons_option (option_and_then (λ i. option_map (received n at (k, line) i) store) item) rest)
-cons-is_from_line None store n k at line rest h =
-    Each-weaker (IsFromLine n (k + 1)) (IsFromLine n k) (λ e p. (p.0, omega arith)) rest h
-cons-is_from_line (Some i) None n k at line rest h =
-    Each-weaker (IsFromLine n (k + 1)) (IsFromLine n k) (λ e p. (p.0, omega arith)) rest h
-cons-is_from_line (Some i) (Some s) n k at line rest h =
-    ((refl, omega arith), Each-weaker (IsFromLine n (k + 1)) (IsFromLine n k) (λ e p. (p.0, omega arith)) rest h)
+-- each line makes at most a movement of the record with this number, and of that line
+abbrev MakesOwn : {X : Type 0} → ℕ → (ℕ × X → Option Entry) → Type 0
+MakesOwn {X} n by = (k : ℕ) (x : X) (e : Entry) → by (k, x) ≡ Some e → (e.place.voucher.0 ≡ n) × (e.place.line ≡ k)
 
-cons-Pairwise : (item : Option (ItemNo × Method)) (store : Option (StoreNo × AccountNo)) (n k : ℕ) (at : Moment) (line : ReceiptLine) (rest : List Entry) → Each (IsFromLine n (k + 1)) rest → Pairwise Differ rest → Pairwise Differ (cons_option (option_and_then (λ i. option_map (received n at (k, line) i) store) item) rest)
-cons-Pairwise None store n k at line rest h p = p
-cons-Pairwise (Some i) None n k at line rest h p = p
-cons-Pairwise (Some i) (Some s) n k at line rest h p =
-    (Precedes-from_Each Differ (IsFromLine n (k + 1)) (received n at (k, line) i s) (λ e q same_voucher same_line. omega arith) rest h, p)
+-- what is made where an item and a warehouse were found has what each of these has
+made : (item : Option (ItemNo × Method)) (store : Option (StoreNo × AccountNo)) (make : ItemNo × Method → StoreNo × AccountNo → Entry) (P : Entry → Type 0) (e : Entry)
+    → option_and_then (λ i. option_map (make i) store) item ≡ Some e → ((i : ItemNo × Method) (s : StoreNo × AccountNo) → P (make i s)) → P e
+made None store make P e is all = cc
+made (Some i) None make P e is all = cc
+made (Some i) (Some s) make P e is all = let same : make i s ≡ e = cc in subst P same (all i s)
+
+received_line-own : (journal : List Record) (n : ℕ) (at : Moment) → MakesOwn n (received_line journal n at)
+received_line-own journal n at k line e is =
+    made (item_with journal line.item) (store_with journal line.store) (received n at (k, line)) (λ e. (e.place.voucher.0 ≡ n) × (e.place.line ≡ k)) e is (λ i s. (refl, refl))
+
+issued_line-own : (journal : List Record) (n : ℕ) (at : Moment) (purpose : Purpose) → MakesOwn n (issued_line journal n at purpose)
+issued_line-own journal n at purpose k line e is =
+    made (item_with journal line.item) (store_with journal line.store) (issued n at purpose (k, line)) (λ e. (e.place.voucher.0 ≡ n) × (e.place.line ≡ k)) e is (λ i s. (refl, refl))
 
 -- the movements of the lines from k on
-lines-is_from_line : (journal : List Record) (n k : ℕ) (at : Moment) (lines : List ReceiptLine) → Each (IsFromLine n k) (filter_map (received_line journal n at) (enumerate_from k lines))
-lines-is_from_line journal n k at [] = tt
-lines-is_from_line journal n k at (line ∷ lines) =
-    cons-is_from_line (item_with journal line.item) (store_with journal line.store) n k at line _ (lines-is_from_line journal n (k + 1) at lines)
+lines-is_from_line : {X : Type 0} (by : ℕ × X → Option Entry) (n k : ℕ) (lines : List X) → MakesOwn n by → Each (IsFromLine n k) (filter_map by (enumerate_from k lines))
+lines-is_from_line by n k [] own = tt
+lines-is_from_line by n k (line ∷ lines) own =
+    let later = Each-weaker (IsFromLine n (k + 1)) (IsFromLine n k) (λ e p. (p.0, omega arith)) _ (lines-is_from_line by n (k + 1) lines own) in
+    let step : (o : Option Entry) → by (k, line) ≡ o → Each (IsFromLine n k) (cons_option o (filter_map by (enumerate_from (k + 1) lines))) =
+    λ o. elim o as (λ v. by (k, line) ≡ v → Each (IsFromLine n k) (cons_option v (filter_map by (enumerate_from (k + 1) lines)))) [
+      | None ↦ λ is. later
+      | Some e ↦ λ is. (((own k line e is).0, omega (arith, (own k line e is).1)), later)
+    ] in
+    step (by (k, line)) refl
 
-lines-Pairwise : (journal : List Record) (n k : ℕ) (at : Moment) (lines : List ReceiptLine) → Pairwise Differ (filter_map (received_line journal n at) (enumerate_from k lines))
-lines-Pairwise journal n k at [] = tt
-lines-Pairwise journal n k at (line ∷ lines) =
-    cons-Pairwise (item_with journal line.item) (store_with journal line.store) n k at line _ (lines-is_from_line journal n (k + 1) at lines) (lines-Pairwise journal n (k + 1) at lines)
+lines-Pairwise : {X : Type 0} (by : ℕ × X → Option Entry) (n k : ℕ) (lines : List X) → MakesOwn n by → Pairwise Differ (filter_map by (enumerate_from k lines))
+lines-Pairwise by n k [] own = tt
+lines-Pairwise by n k (line ∷ lines) own =
+    let later = lines-Pairwise by n (k + 1) lines own in
+    let step : (o : Option Entry) → by (k, line) ≡ o → Pairwise Differ (cons_option o (filter_map by (enumerate_from (k + 1) lines))) =
+    λ o. elim o as (λ v. by (k, line) ≡ v → Pairwise Differ (cons_option v (filter_map by (enumerate_from (k + 1) lines)))) [
+      | None ↦ λ is. later
+      | Some e ↦ λ is. (
+        Precedes-from_Each Differ (IsFromLine n (k + 1)) e (λ f q same_voucher same_line. omega (arith, (own k line e is).1, same_line, q.1)) _ (lines-is_from_line by n (k + 1) lines own),
+        later,
+      )
+    ] in
+    step (by (k, line)) refl
 
 -- the movements of one record
 movements-is_of : (journal : List Record) (n : ℕ) (what : What) → Each (IsOf n) (movements journal n what)
 movements-is_of journal n (Item code method) = tt
 movements-is_of journal n (Store code account) = tt
 movements-is_of journal n (Receipt at lines) =
-    Each-weaker (IsFromLine n 1) (IsOf n) (λ e p. p.0) _ (lines-is_from_line journal n 1 at lines)
+    Each-weaker (IsFromLine n 1) (IsOf n) (λ e p. p.0) _ (lines-is_from_line (received_line journal n at) n 1 lines (received_line-own journal n at))
+movements-is_of journal n (Issue at purpose lines) =
+    Each-weaker (IsFromLine n 1) (IsOf n) (λ e p. p.0) _ (lines-is_from_line (issued_line journal n at purpose) n 1 lines (issued_line-own journal n at purpose))
 
 movements-Pairwise : (journal : List Record) (n : ℕ) (what : What) → Pairwise Differ (movements journal n what)
 movements-Pairwise journal n (Item code method) = tt
 movements-Pairwise journal n (Store code account) = tt
-movements-Pairwise journal n (Receipt at lines) = lines-Pairwise journal n 1 at lines
+movements-Pairwise journal n (Receipt at lines) = lines-Pairwise (received_line journal n at) n 1 lines (received_line-own journal n at)
+movements-Pairwise journal n (Issue at purpose lines) = lines-Pairwise (issued_line journal n at purpose) n 1 lines (issued_line-own journal n at purpose)
 
 -- the movements of further records
 entries_after-is_since : (journal records : List Record) → Each (IsSince (length journal + 1)) (entries_after journal records)

@@ -119,7 +119,7 @@ some_from past (e ∷ es) s enough covered some =
     step (is_short past e) refl some
 
 -- nothing moved, and all is covered
-IsEnough-nil : IsEnough []
+pub IsEnough-nil : IsEnough []
 IsEnough-nil zero key = omega arith
 IsEnough-nil (suc n) key = omega arith
 

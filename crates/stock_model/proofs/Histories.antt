@@ -1,9 +1,9 @@
 -- How a history grows.
-use Rattle.std.proofs.Common.{◌≡◌, ℕ, ◌+◌, ◌<◌, ◌≤◌, List, [], ◌∷◌, ◌++◌, length, refl, sym, ap, ◌∙◌, subst, append_assoc, append-nil, length-append, arith}
+use Rattle.std.proofs.Common.{◌≡◌, ℕ, ◌≤◌, List, [], ◌∷◌, ◌++◌, length, refl, sym, ap, subst, append_assoc, append-nil, length-append, arith}
 use Rattle.stock_model.specs.declared.records.Record.{Record}
 use Rattle.stock_model.specs.declared.deeds.Deed.{Deed}
 use Rattle.stock_model.specs.declared.deeds.Deed.TheVariants.{Kept, Published}
-use Rattle.stock_model.specs.History.{records, accepted, covered_after, IsLegalAfter}
+use Rattle.stock_model.specs.History.{records, covered_after, IsLegalAfter}
 
 -- the records of two stretches are those of the first and then those of the second
 pub records-append : (old more : List Deed) → records (old ++ more) ≡ records old ++ records more

@@ -96,12 +96,12 @@ same_lacking true held units out in_ out_after in_after h i o t = absurd (false�
 same_lacking false held units out in_ out_after in_after h i o t = omega arith
 
 -- what entered under the key of the last movement
-entered-own : (past : List Entry) (e : Entry) → entered (past ++ e ∷ []) (entry_key e) ≡ entered past (entry_key e) + cond (is_entering e.place.side) e.qty.0 0
+pub entered-own : (past : List Entry) (e : Entry) → entered (past ++ e ∷ []) (entry_key e) ≡ entered past (entry_key e) + cond (is_entering e.place.side) e.qty.0 0
 entered-own past e =
     entered-snoc past e (entry_key e)
     ∙ ap (λ (b : Bool). entered past (entry_key e) + units_where (b && is_entering e.place.side) e) (is_same_key-refl (entry_key e))
 
-departed-own : (past : List Entry) (e : Entry) → departed (past ++ e ∷ []) (entry_key e) ≡ departed past (entry_key e) + cond (not (is_entering e.place.side)) e.qty.0 0
+pub departed-own : (past : List Entry) (e : Entry) → departed (past ++ e ∷ []) (entry_key e) ≡ departed past (entry_key e) + cond (not (is_entering e.place.side)) e.qty.0 0
 departed-own past e =
     departed-snoc past e (entry_key e)
     ∙ ap (λ (b : Bool). departed past (entry_key e) + units_where (b && not (is_entering e.place.side)) e) (is_same_key-refl (entry_key e))

@@ -6,3 +6,5 @@ pub mod PostingLine
 pub mod Histories
 pub mod Enough
 pub mod Holdings
+pub mod VoucherLines
+pub mod Valuation

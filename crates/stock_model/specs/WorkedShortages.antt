@@ -17,11 +17,11 @@ abbrev pub moved_by : Side → Cause
 moved_by Enters = Receipt (record { 0 = pos 0 })
 moved_by Leaves = Issue true
 
-moved_by-sides : (side : Side) → IsTrue (has_side (moved_by side) side)
+pub moved_by-sides : (side : Side) → IsTrue (has_side (moved_by side) side)
 moved_by-sides Enters = refl
 moved_by-sides Leaves = refl
 
-moved_by-amounts : (side : Side) → IsTrue (has_amounts_in_range (moved_by side))
+pub moved_by-amounts : (side : Side) → IsTrue (has_amounts_in_range (moved_by side))
 moved_by-amounts Enters = refl
 moved_by-amounts Leaves = refl
 

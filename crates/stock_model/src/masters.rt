@@ -88,10 +88,10 @@ fn head_made(alloc: Global, number: u32, what: &What) -> Result<Option<Head>, No
 }
 
 /// The code of the item or warehouse that this record makes, or the empty code.
-pub fn record_code(alloc: Global, record: &Record) -> Result<Code, NoMemory>
-    ensures { IfOk result (λ code. code ≡ unwrap_or (code_made record.now.what) []) }
+pub fn record_code(alloc: Global, item: &Record) -> Result<Code, NoMemory>
+    ensures { IfOk result (λ code. code ≡ unwrap_or (code_made item.now.what) []) }
 {
-    match &record.what {
+    match &item.what {
         What::Item { code, method: _ } => code.copy(alloc),
         What::Store { code, account: _ } => code.copy(alloc),
         What::Receipt { at: _, lines: _ } => Code::of(alloc, ""),

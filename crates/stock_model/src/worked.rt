@@ -23,7 +23,7 @@ pub fn three_lines()
 {}
 
 /// An item, a warehouse and a receipt into it are accepted, one after another.
-#[tactic(auto, unfolding(crate::specs::Faults::fault, crate::specs::Entries::all_entries))]
+#[tactic(auto, unfolding(crate::specs::Faults::fault, crate::specs::Entries::all_entries, crate::specs::PostingOrder::posting_line, crate::specs::Enough::shortage))]
 pub fn first_records()
     ensures item { fault [] item_b ≡ None }
     ensures store { fault (item_b ∷ []) store_w1 ≡ None }

@@ -12,11 +12,16 @@ use Rattle.stock_model.specs.declared.faults.PostFault.TheVariants.{NoMemory}
 use Rattle.stock_model.specs.declared.requests.Request.{Request}
 use Rattle.stock_model.specs.declared.requests.Request.TheVariants.{Post}
 use Rattle.stock_model.specs.declared.replies.Reply.{Reply}
-use Rattle.stock_model.specs.declared.replies.Reply.TheVariants.{Accepted, Refused, Settled}
+use Rattle.stock_model.specs.declared.replies.Reply.TheVariants.{Accepted, Refused, Pending, NoSuchRecord, Settled}
+use Rattle.stock_model.specs.declared.queries.Need.{Need}
+use Rattle.stock_model.specs.declared.queries.Need.TheVariants as need
+use Rattle.stock_model.specs.declared.queries.Query.{Query}
+use Rattle.stock_model.specs.declared.queries.SelectFault.TheVariants as unmet
+use Rattle.stock_model.specs.Answers.{unmet_need, report_by, refusal}
 use Rattle.stock_model.specs.Faults.{fault}
 use Rattle.stock_model.specs.History.{records, accepted, covered, IsLegal, settled}
 use Rattle.stock_model.specs.Run.{RunState, Run, Answers, Settles}
-use Rattle.voucher_json.specs.ReplyText.{IsTold, IsPrinted}
+use Rattle.voucher_json.specs.ReplyText.{IsPrinted}
 use Rattle.stock_model.proofs.Histories.{records-append, covered_after-append, covered_after-within}
 
 -- a run over more lines from where one ended
@@ -38,20 +43,33 @@ Answers-accepted old new item n desk sound kept is =
 
 -- a record that was refused has that fault first, and nothing changed
 pub Answers-refused : (old new : List Deed) (item : Record) (f : PostFault) → item.desk.0 ≡ 0 → fault (records old) item ≡ Some f
-    → new ≡ old → Answers old (Post item.what) (Refused f) new
+    → new ≡ old → Answers old (Post item.what) (refusal (records old) f) new
 Answers-refused old new item f desk is same = (item, refl, record { desk = desk; answer = rw is (refl, same) })
 
-IsTold-memory : (f : PostFault) → IsTold f → f ≡ NoMemory → ⊥
-IsTold-memory f told is = subst IsTold is told
+-- want of memory is not printed
+not_printed : (journal : List Record) (f : PostFault) (reply : Reply) → reply ≡ refusal journal f → IsPrinted reply → f ≡ NoMemory → ⊥
+not_printed journal f reply is printed memory =
+    subst IsPrinted (is ∙ ap (refusal journal) memory) printed
 
 -- where a refusal is told, it tells the first fault, since want of memory is not told
 pub Answers-told : (old new : List Deed) (item : Record) (f : PostFault) (r : Result Reply memory.NoMemory) → item.desk.0 ≡ 0
-    → (f ≡ NoMemory) ⊎ (fault (records old) item ≡ Some f) → new ≡ old → IfOk r (λ reply. reply ≡ Refused f) → IfOk r IsPrinted
+    → (f ≡ NoMemory) ⊎ (fault (records old) item ≡ Some f) → new ≡ old → IfOk r (λ reply. reply ≡ refusal (records new) f) → IfOk r IsPrinted
     → IfOk r (λ reply. Answers old (Post item.what) reply new)
 Answers-told old new item f (Err e) desk first same is told = tt
-Answers-told old new item f (Ok reply) desk (inl memory) same is told = absurd (IsTold-memory f (subst IsPrinted is told) memory)
+Answers-told old new item f (Ok reply) desk (inl memory) same is told = absurd (not_printed (records new) f reply is told memory)
 Answers-told old new item f (Ok reply) desk (inr first) same is told =
-    subst (λ (r : Reply). Answers old (Post item.what) r new) (sym is) (Answers-refused old new item f desk first same)
+    subst (λ (r : Reply). Answers old (Post item.what) r new) (sym (is ∙ ap (λ (history : List Deed). refusal (records history) f) same)) (Answers-refused old new item f desk first same)
+
+-- a report whose need isn't met tells why
+pub report-pending : (n : Need) (history : List Deed) (query : Query) (c w : RecordNo) → unmet_need n ≡ Some (unmet.Pending c w) → report_by n history query ≡ Pending c w
+report-pending need.Ready history query c w is = cc
+report-pending (need.Pending covered wanted) history query c w is = cc
+report-pending (need.NoSuchRecord accepted wanted) history query c w is = cc
+
+pub report-none : (n : Need) (history : List Deed) (query : Query) (a w : RecordNo) → unmet_need n ≡ Some (unmet.NoSuchRecord a w) → report_by n history query ≡ NoSuchRecord a w
+report-none need.Ready history query a w is = cc
+report-none (need.Pending covered wanted) history query a w is = cc
+report-none (need.NoSuchRecord accepted wanted) history query a w is = cc
 
 Settles-by_test : (old new : List Deed) (n : RecordNo) (test : Bool) → ltb (covered old) (accepted old) ≡ test → IsLegal new
     → new ≡ cond test (old ++ Published (record { 0 = accepted old }) ∷ []) old → n.0 ≡ accepted old → Settles old (Settled n) new

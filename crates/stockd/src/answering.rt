@@ -1,5 +1,5 @@
 //! The answer to a request, over the book.
-ghost use Rattle.std.specs.Prelude.{◌≡◌, ℕ, List, IfOk, OnErr, IsTrue};
+ghost use Rattle.std.specs.Prelude.{◌≡◌, ℕ, List, IfOk, IsTrue};
 ghost use Rattle.stock_model.specs.Limits.{is_within_limits};
 ghost use Rattle.stock_model.specs.History.{IsLegal};
 ghost use Rattle.stock_model.specs.Run.{Answers, Step};
@@ -9,10 +9,10 @@ ghost use Rattle.stockd.specs.OpenLines.{StandsForLine};
 ghost use Rattle.stockd.specs.Replies.{state_of};
 
 use crate::open_line::OpenLine;
+use crate::refusing::refused;
 use generation_book::book::Book;
 use std::alloc::Global;
-use stock_model::faults::PostFault;
-use stock_model::queries::Query;
+use stock_model::queries::{Query, SelectFault};
 use stock_model::records::Record;
 use stock_model::replies::Reply;
 use stock_model::requests::Request;
@@ -62,25 +62,7 @@ fn post(alloc: Global, book: &mut Book, what: What) -> Result<Reply, NoMemory>
     };
     match book.post(alloc, item) {
         Ok(number) => Ok(Reply::Accepted(number)),
-        Err(fault) => refused(fault),
-    }
-}
-
-/// The reply that tells a fault. Want of memory is not told.
-fn refused(fault: PostFault) -> Result<Reply, NoMemory>
-    ensures reply { IfOk result (λ reply. reply ≡ Reply.Refused fault) }
-    ensures printed { IfOk result IsPrinted }
-    ensures memory { OnErr result (fault ≡ PostFault.NoMemory) }
-{
-    match fault {
-        PostFault::NoMemory => Err(NoMemory),
-        PostFault::CodeTaken => Ok(Reply::Refused(fault)),
-        PostFault::UnknownItem { line: _ } => Ok(Reply::Refused(fault)),
-        PostFault::UnknownStore { line: _ } => Ok(Reply::Refused(fault)),
-        PostFault::Full {
-            records: _,
-            entries: _,
-        } => Ok(Reply::Refused(fault)),
+        Err(fault) => refused(alloc, book, fault),
     }
 }
 
@@ -96,9 +78,15 @@ fn report(alloc: Global, book: &Book, query: &Query) -> Result<Reply, NoMemory>
     ensures answers { IfOk result (λ reply. Answers book.now.history (Request.Report query.now) reply book.now.history) }
     ensures printed { IfOk result IsPrinted }
 {
-    let selected = book.select(alloc, query)?;
-    Ok(Reply::Balance {
-        covered: selected.covered,
-        rows: sheets::balance(alloc, &selected)?,
-    })
+    match book.select(alloc, query) {
+        Ok(chosen) => Ok(Reply::Balance {
+            covered: chosen.covered,
+            rows: sheets::balance(alloc, &chosen)?,
+        }),
+        Err(SelectFault::Pending { covered, wanted }) => Ok(Reply::Pending { covered, wanted }),
+        Err(SelectFault::NoSuchRecord { accepted, wanted }) => {
+            Ok(Reply::NoSuchRecord { accepted, wanted })
+        }
+        Err(SelectFault::NoMemory) => Err(NoMemory),
+    }
 }

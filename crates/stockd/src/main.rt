@@ -6,6 +6,7 @@ mod batch;
 mod blank;
 mod end;
 mod open_line;
+mod refusing;
 mod split;
 #[cfg(test)]
 mod tests;

@@ -1,6 +1,6 @@
-use Rattle.std.proofs.Common.{◌≡◌, drop, fold}
-use Rattle.stock_model.specs.Replay.{value_next, rows_of}
+-- The movements so far were valued.
+use Rattle.stock_model.proofs.Valuation.{Valuing}
 use Rattle.stock_model.proofs.replay.rows_of.Given as goal
 
 abbrev pub invariant-loop-entry : goal.invariant-loop-entry
-invariant-loop-entry l = fold value_next l.rows (drop l.entry-index l.line) ≡ rows_of l.line
+invariant-loop-entry l = Valuing l.line l.rows l.entry-index

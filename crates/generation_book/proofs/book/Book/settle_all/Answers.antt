@@ -1,5 +1,8 @@
 -- Everything is covered already, or all records are published.
-use Rattle.std.proofs.Common.{[], ◌∷◌, ◌++◌, ◌≡◌, sym, ap, ◌∙◌, arith, List}
+use Rattle.std.proofs.Common.{[], ◌∷◌, ◌++◌, ◌≡◌, sym, ap, ◌∙◌, subst, arith, List}
+use Rattle.stock_nums.specs.declared.entry.Entry.{Entry}
+use Rattle.stock_model.specs.Bounds.{AreBounded}
+use Rattle.stock_model.specs.Replay.{rows_of}
 use Rattle.generation_book.specs.State.{BookState}
 use Rattle.generation_book.specs.Book.{deeds}
 use Rattle.generation_book.specs.declared.events.Event.{Event}
@@ -23,7 +26,8 @@ pub invariant_of-self-2 : goal.invariant_of-self-2
 invariant_of-self-2 c =
     let events = c.push_reserved.ensures.items ∙ ap (λ (es : List Event). es ++ Published (record { 0 = c.count.result }) ∷ []) c.in_ok-reserve.ensures.items in
     rw events
-    (IsBook-published c.self.inside.events.items c.self.inside.journal c.self.inside.entries c.self.inside.covered.0 c.self.inside.rows (record { 0 = c.count.result }) c.in_ok-rows.rows c.self.invariant c.count.ensures.count (omega arith) (rw (← c.records.ensures.records) c.in_ok-rows.ensures))
+    (IsBook-published c.self.inside.events.items c.self.inside.journal c.self.inside.line c.self.inside.covered.0 c.self.inside.rows (record { 0 = c.count.result }) c.in_ok-rows.rows c.self.invariant c.count.ensures.count (omega arith)
+    (c.in_ok-rows.ensures.rows ∙ ap rows_of c.as_slice.ensures) (subst (λ (line : List Entry). AreBounded (rows_of line)) c.as_slice.ensures c.rows_of.ensures.bounded))
 
 pub returns-clause-settled : goal.returns-clause-settled
 returns-clause-settled c =

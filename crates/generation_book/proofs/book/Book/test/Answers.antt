@@ -1,0 +1,26 @@
+-- The numbers of the history are those that the book keeps.
+use Rattle.std.proofs.Common.{◌≡◌, sym, ap, ◌∙◌, arith}
+use Rattle.generation_book.specs.State.{BookState}
+use Rattle.generation_book.specs.Book.{deeds}
+use Rattle.generation_book.proofs.Books.{history-accepted, history-covered, need_at-ready, need_at-pending, need_at-none}
+use Rattle.generation_book.proofs.book.Book.test.Goals as goal
+
+pub returns-then-wanted-self : goal.returns-then-wanted-self
+returns-then-wanted-self c =
+    let told : deeds c.self.inside.events.items c.self.inside.journal ≡ c.args.self.now.history = ap (λ (b : BookState). b.history) c.self.view_is in
+    let covers = history-covered _ _ _ _ _ c.args.self.now.history c.self.invariant told in
+    sym (need_at-ready c.args.self.now.history c.args.query.now _ covers (omega arith))
+
+pub returns-then-wanted-accepted : goal.returns-then-wanted-accepted
+returns-then-wanted-accepted c =
+    let told : deeds c.self.inside.events.items c.self.inside.journal ≡ c.args.self.now.history = ap (λ (b : BookState). b.history) c.self.view_is in
+    let covers = history-covered _ _ _ _ _ c.args.self.now.history c.self.invariant told in
+    let all = history-accepted _ _ _ _ _ c.args.self.now.history c.self.invariant told ∙ sym c.count.ensures.count in
+    sym (need_at-pending c.args.self.now.history c.args.query.now _ _ covers all (omega arith) (omega arith))
+
+pub returns-else-wanted-accepted : goal.returns-else-wanted-accepted
+returns-else-wanted-accepted c =
+    let told : deeds c.self.inside.events.items c.self.inside.journal ≡ c.args.self.now.history = ap (λ (b : BookState). b.history) c.self.view_is in
+    let covers = history-covered _ _ _ _ _ c.args.self.now.history c.self.invariant told in
+    let all = history-accepted _ _ _ _ _ c.args.self.now.history c.self.invariant told ∙ sym c.count.ensures.count in
+    sym (need_at-none c.args.self.now.history c.args.query.now _ _ covers all (omega arith) (omega arith))
