@@ -194,7 +194,7 @@ Kept-next rows e kept held few =
                 (Stock-weaker (take n rows) (length rows * 1_000_000_000_000) (length (rows ++ row ∷ []) * 1_000_000_000_000) key (omega (arith, longer)) (kept.stock n key))
           ];
       in_range = list_all-append has_value_in_range rows (row ∷ [])
-      ∙ both kept.in_range (both (value_by-in_range rows row e.cause refl e.amounts e.sides held (omega (arith, own.below, few))) refl);
+          ∙ both kept.in_range (both (value_by-in_range rows row e.cause refl e.amounts e.sides held (omega (arith, own.below, few))) refl);
     }
 
 Kept-nil : Kept []
@@ -234,9 +234,9 @@ Valuing-next line rows index e valuing within is enough few =
       kept = Kept-next rows e valuing.kept (Valuing-HasUnits line rows index e valuing within is enough) (omega (arith, valuing.count, within, few));
       count = omega (arith, length-append rows (valued rows e ∷ []), valuing.count);
       split = ap (λ (es : List Entry). es ++ drop (index + 1) line) (map-append row_entry rows (valued rows e ∷ []))
-      ∙ append_assoc (map row_entry rows) (e ∷ []) (drop (index + 1) line)
-      ∙ ap (λ (es : List Entry). map row_entry rows ++ es) (sym here)
-      ∙ valuing.split;
+          ∙ append_assoc (map row_entry rows) (e ∷ []) (drop (index + 1) line)
+          ∙ ap (λ (es : List Entry). map row_entry rows ++ es) (sym here)
+          ∙ valuing.split;
       rest = ap (fold value_next rows) (sym here) ∙ valuing.rest;
     }
 

@@ -17,3 +17,4 @@ pub mod InOrder
 pub mod Enough
 pub mod Holdings
 pub mod WorkedShortages
+pub mod WorkedIssues

@@ -27,4 +27,5 @@ pub mod stock_lines;
 pub mod sums;
 pub mod vouchers;
 pub mod worked;
+pub mod worked_issues;
 pub mod worked_shortages;

@@ -1,17 +1,18 @@
 //! A journal from its posting line to its balance sheet.
-ghost use Rattle.std.specs.Prelude.{◌≡◌, ◌<◌, IsTrue};
-ghost use Rattle.std.specs.List.{list_all};
+ghost use Rattle.std.specs.Prelude.{◌^◌, ◌<◌, length, IsTrue, IfOk, IfSome};
 ghost use Rattle.stock_nums.specs.Calendar.{IsCalendarDate};
-ghost use Rattle.stock_model.specs.Bounds.{has_value_in_range, AreBounded};
+ghost use Rattle.stock_model.specs.Bounds.{AreBounded};
 ghost use Rattle.stock_model.specs.Limits.{is_within_limits};
 
+use crate::enough_laws::no_shortage_is_enough;
 use crate::masters::heads;
 use crate::posting::posting_line;
 use crate::queries::Selected;
 use crate::records::Record;
 use crate::replay::replay;
 use crate::sheets::balance;
-use crate::vouchers::{ReceiptLine, What};
+use crate::shortages::first_shortage;
+use crate::vouchers::{IssueLine, Purpose, ReceiptLine, What};
 use std::alloc::Global;
 use std::test::Fail;
 use stock_nums::cause::Method;
@@ -58,46 +59,62 @@ fn journal(alloc: Global) -> Result<Lines<Record>, NoMemory> {
         account: AccountNo(100),
     }))?;
     records.push(receipt(alloc, 20_260_102, 10)?)?;
+    records.push(sale(alloc, 20_260_103)?)?;
     records.push(receipt(alloc, 20_260_101, 5)?)?;
     Ok(records)
 }
 
-fn has_value_in_range(row: &Row) -> bool
-    ensures { result ≡ has_value_in_range row.now }
+// One unit of B out of W1.
+fn sale(alloc: Global, date: u32) -> Result<Record, NoMemory>
+    requires { IsCalendarDate date }
 {
-    let value = row.worth.value.0;
-    0 <= value && value <= 1_000_000_000_000
+    let mut lines = Lines::new(alloc);
+    lines.push(IssueLine {
+        item: Code::of(alloc, "B")?,
+        store: Code::of(alloc, "W1")?,
+        qty: Qty(1),
+    })?;
+    let at = Moment { date, second: 0 };
+    let purpose = Purpose::Sold;
+    Ok(record_of(What::Issue { at, purpose, lines }))
 }
 
-fn have_values_in_range(rows: &[Row]) -> bool
-    ensures { result ≡ list_all has_value_in_range rows.now }
+// The rows of the records, where these are few and there is always enough.
+fn rows_of_all(alloc: Global, records: &[Record]) -> Result<Option<Lines<Row>>, NoMemory>
+    requires { length records.now < 2 ^ 32 }
+    ensures { IfOk result (λ found. IfSome found AreBounded) }
 {
-    rows.iter().all(|row| has_value_in_range(row))
+    let line = posting_line(alloc, records)?;
+    if line.len() > 4000 || first_shortage(alloc, line.as_slice())?.is_some() {
+        return Ok(None);
+    }
+    no_shortage_is_enough();
+    Ok(Some(replay(alloc, records)?))
 }
 
-// Whether there are few rows and their values are small.
-fn are_bounded(rows: &[Row]) -> bool
-    ensures { IsTrue result → AreBounded rows.now }
-{
-    rows.len() <= 4000 && have_values_in_range(rows)
+// The record of each movement, and its value.
+fn told(rows: &[Row]) -> Option<[(u32, i64); 3]> {
+    match rows {
+        [a, b, c] => Some([a, b, c].map(|row| (row.entry.place.voucher.0, row.worth.value.0))),
+        _ => None,
+    }
 }
 
 #[test]
 fn a_receipt_of_the_day_before(rt: HostRuntime) -> Result<(), Fail> {
     let alloc = rt.alloc();
     let records = journal(alloc)?;
-    assert_eq!(rt; records.len(), 4);
-    let line = posting_line(alloc, records.as_slice())?;
-    assert_eq!(rt; line.len(), 2);
-    assert_eq!(rt; line.as_slice()[0].place.voucher, RecordNo(4));
-    assert_eq!(rt; line.as_slice()[1].place.voucher, RecordNo(3));
-    let rows = replay(alloc, records.as_slice())?;
-    assert_eq!(rt; rows.len(), 2);
-    assert_eq!(rt; rows.as_slice()[0].worth.value, Minor(500));
-    assert_eq!(rt; rows.as_slice()[1].worth.value, Minor(1000));
-    assert!(rt; are_bounded(rows.as_slice()));
+    assert_eq!(rt; records.len(), 5);
+    let Some(rows) = rows_of_all(alloc, records.as_slice())? else {
+        assert!(rt; false);
+        return Ok(());
+    };
+    assert_eq!(rt;
+        told(rows.as_slice()),
+        Some([(5, 500), (3, 1000), (4, 100)])
+    );
     let selected = Selected {
-        covered: RecordNo(4),
+        covered: RecordNo(5),
         rows,
         heads: heads(alloc, records.as_slice())?,
     };
@@ -106,7 +123,7 @@ fn a_receipt_of_the_day_before(rt: HostRuntime) -> Result<(), Fail> {
     let row = &sheet.as_slice()[0];
     assert_eq!(rt; row.item.text(), "B");
     assert_eq!(rt; row.store.text(), "W1");
-    assert_eq!(rt; row.qty, Qty(15));
-    assert_eq!(rt; row.value, Minor(1500));
+    assert_eq!(rt; row.qty, Qty(14));
+    assert_eq!(rt; row.value, Minor(1400));
     Ok(())
 }
