@@ -1,0 +1,245 @@
+"""Answers the lines of standard input as the rules of the ledger say, slowly, and with nothing of the program in it.
+
+It is the judge of bench/run: the rules are stated here once more, in plain words of their own. Nothing is kept from one
+answer to the next but the masters, the accepted movements, and how many records there are and are covered. Each post sorts
+and goes through all movements, and each report values them from nothing.
+"""
+import collections
+import datetime
+import json
+import re
+import sys
+from typing import NamedTuple
+
+LONGEST_LINE = 65_536
+MOST_RECORDS = 50_000
+MOST_MOVEMENTS = 4_000
+BAD = {"fault": "bad-field", "field": "request", "line": 0, "status": "bad"}
+
+# What is a request. A form says what each of its fields has to be; no other field may stand in it.
+
+
+def whole(low, high):
+    return lambda it: type(it) is int and low <= it <= high
+
+
+def text(*words):
+    return lambda it: it in words
+
+
+def is_code(it):
+    return type(it) is str and re.fullmatch("[A-Za-z0-9._-]{1,24}", it) is not None
+
+
+def is_moment(it):
+    if type(it) is not str or not re.fullmatch("[0-9]{4}-[0-9]{2}-[0-9]{2}T[0-9]{2}:[0-9]{2}:[0-9]{2}", it):
+        return False
+    try:
+        datetime.datetime(*(int(part) for part in re.split("[-T:]", it)))
+    except ValueError:
+        return False
+    return True
+
+
+def has_form(it, form):
+    return type(it) is dict and it.keys() == form.keys() and all(holds(it[name]) for name, holds in form.items())
+
+
+def lines_of(form):
+    return lambda it: type(it) is list and 1 <= len(it) <= 100 and all(has_form(line, form) for line in it)
+
+
+GOODS = {"item": is_code, "store": is_code, "qty": whole(1, 10**9)}
+FORMS = {
+    "item": {"code": is_code, "method": text("average")},
+    "store": {"code": is_code, "account": whole(100, 9999)},
+    "receipt": {"at": is_moment, "lines": lines_of({**GOODS, "amount": whole(0, 10**12)})},
+    "issue": {"at": is_moment, "use": text("sold", "used"), "lines": lines_of(GOODS)},
+    "settle": {},
+    "report": {"of": text("balance"), "need": whole(0, 2**32 - 1)},
+}
+
+
+def read_whole(digits):
+    return float(digits) if digits == "-0" else int(digits)
+
+
+def read_float(digits):
+    number = float(digits)
+    if number in (float("inf"), float("-inf")):
+        raise ValueError(digits)
+    return number
+
+
+def read_word(word):
+    # Python would read NaN and Infinity, which are no JSON.
+    raise ValueError(word)
+
+
+def request_of(line):
+    """Returns the request that the line is, with the need 0 where a report names none; or None."""
+    if len(line) > LONGEST_LINE:
+        return None
+    try:
+        it = json.loads(line.decode(), parse_int=read_whole, parse_float=read_float, parse_constant=read_word)
+    except (ValueError, RecursionError):
+        return None
+    if type(it) is not dict or type(it.get("do")) is not str or it["do"] not in FORMS:
+        return None
+    if it["do"] == "report":
+        it = {"need": 0, **it}
+    return it if has_form(it, {"do": text(it["do"]), **FORMS[it["do"]]}) else None
+
+
+# Movements. The first four fields are the place; movements are compared by it, since no two have the same. A moment is text
+# of one length with the largest unit first, so the order of texts is the order of time.
+
+LEAVES, ENTERS = 0, 1
+
+
+class Movement(NamedTuple):
+    at: str
+    record: int
+    line: int
+    side: int
+    item: int
+    store: int
+    qty: int
+    amount: int  # the purchase price of what enters, and 0 of what leaves
+
+    def key(self):
+        return self.item, self.store
+
+
+def first_shortage(movements):
+    """Returns the first movement, in posting order, with which more had left a warehouse than had entered it, and how much
+    more; or None."""
+    held = collections.Counter()
+    for it in sorted(movements):
+        held[it.key()] += it.qty if it.side == ENTERS else -it.qty
+        if held[it.key()] < 0:
+            return it, -held[it.key()]
+    return None
+
+
+def half_up(worth, taken, stock):
+    """Returns what so many of the units in stock cost that are worth so much together, rounded half up."""
+    return worth if taken == stock else (2 * worth * taken + stock) // (2 * stock)
+
+
+def stock_and_worth(rows, key):
+    """Returns the units that the rows leave of an item in a warehouse, and what they are worth."""
+    signed = [(1 if it.side == ENTERS else -1, it, value) for it, value in rows if it.key() == key]
+    return sum(sign * it.qty for sign, it, _ in signed), sum(sign * value for sign, _, value in signed)
+
+
+def valued(movements):
+    """Returns the movements in posting order, each with its value, found from the rows before it."""
+    rows = []
+    for it in sorted(movements):
+        if it.side == ENTERS:
+            value = it.amount
+        else:
+            stock, worth = stock_and_worth(rows, it.key())
+            value = half_up(worth, it.qty, stock)
+        rows.append((it, value))
+    return rows
+
+
+# The ledger.
+
+
+def refused(fault, **data):
+    return {"fault": fault, **data, "status": "refused"}
+
+
+def first_unknown(lines, field, known):
+    """Returns the number of the first line whose code in this field is not known; or None."""
+    return next((number for number, line in enumerate(lines, 1) if line[field] not in known), None)
+
+
+class Ledger:
+    def __init__(self):
+        self.items, self.stores = {}, {}  # the record's number by the code
+        self.records = self.covered = 0
+        self.movements = []
+
+    def answer(self, line):
+        """Returns the reply to a line that is not blank."""
+        it = request_of(line)
+        if it is None:
+            return BAD
+        if it["do"] == "settle":
+            self.covered = self.records
+            return {"covered": self.covered, "status": "settled"}
+        return self.report(it["need"]) if it["do"] == "report" else self.post(it)
+
+    def masters_of(self, it):
+        return {"item": self.items, "store": self.stores}.get(it["do"])
+
+    def voucher_fault(self, it):
+        """Returns the refusal for the first fault of what is posted, whatever room and goods there are; or None."""
+        masters = self.masters_of(it)
+        if masters is not None:
+            return refused("code-taken") if it["code"] in masters else None
+        for fault, field, known in (("unknown-item", "item", self.items), ("unknown-store", "store", self.stores)):
+            number = first_unknown(it["lines"], field, known)
+            if number is not None:
+                return refused(fault, line=number)
+        return None
+
+    def post(self, it):
+        fault = self.voucher_fault(it)
+        if fault is not None:
+            return fault
+        new = [self.movement(it, number, line) for number, line in enumerate(it.get("lines", []), 1)]
+        if self.records >= MOST_RECORDS or len(self.movements) + len(new) > MOST_MOVEMENTS:
+            return refused("full", records=self.records, entries=len(self.movements))
+        found = first_shortage(self.movements + new)
+        if found is not None:
+            return self.short(*found)
+        self.movements += new
+        self.records += 1
+        masters = self.masters_of(it)
+        if masters is not None:
+            masters[it["code"]] = self.records
+        return {"record": self.records, "status": "accepted"}
+
+    def movement(self, it, number, line):
+        """Returns the movement that the line with this number makes of the next record."""
+        side = ENTERS if it["do"] == "receipt" else LEAVES
+        item, store = self.items[line["item"]], self.stores[line["store"]]
+        return Movement(it["at"], self.records + 1, number, side, item, store, line["qty"], line.get("amount", 0))
+
+    def short(self, it, lacking):
+        """Returns the refusal that names the movement with which so many units are lacking."""
+        item, store = self.codes_of(it.key())
+        return refused("short", at=it.at, item=item, lacking=lacking, line=it.line, record=it.record, store=store)
+
+    def codes_of(self, key):
+        item, store = key
+        return ({number: code for code, number in self.items.items()}[item],
+                {number: code for code, number in self.stores.items()}[store])
+
+    def report(self, need):
+        if need > self.records:
+            return {"accepted": self.records, "need": need, "status": "no-such-record"}
+        if need > self.covered:
+            return {"covered": self.covered, "need": need, "status": "pending"}
+        rows, shown = valued([it for it in self.movements if it.record <= self.covered]), []
+        for key in sorted({it.key() for it, _ in rows}):
+            item, store = self.codes_of(key)
+            stock, worth = stock_and_worth(rows, key)
+            shown.append({"item": item, "qty": stock, "store": store, "value": worth})
+        return {"covered": self.covered, "report": "balance", "rows": shown, "status": "ok"}
+
+
+def replies(given):
+    """Returns the replies to the lines of an input, in their order, as texts."""
+    lines, ledger = given.split(b"\n"), Ledger()
+    return [json.dumps(ledger.answer(line), separators=(",", ":"), sort_keys=True) for line in lines if line.strip(b" \t\r")]
+
+
+if __name__ == "__main__":
+    for reply in replies(sys.stdin.buffer.read()):
+        print(reply)
