@@ -141,14 +141,11 @@ impl Book {
         ensures { result ≡ need_at self.now.history query.now }
     {
         let wanted = query.need;
-        let accepted = RecordNo(self.journal.count());
-        if wanted.0 <= self.covered.0 {
+        let (covered, accepted) = (self.covered, RecordNo(self.journal.count()));
+        if wanted.0 <= covered.0 {
             Need::Ready
         } else if wanted.0 <= accepted.0 {
-            Need::Pending {
-                covered: self.covered,
-                wanted,
-            }
+            Need::Pending { covered, wanted }
         } else {
             Need::NoSuchRecord { accepted, wanted }
         }
@@ -240,7 +237,7 @@ mod tests {
     use super::*;
     use std::test::Fail;
     use stock_model::queries::Sheet;
-    use stock_model::vouchers::{ReceiptLine, What};
+    use stock_model::vouchers::{IssueLine, Purpose, ReceiptLine, What};
     use stock_nums::cause::Method;
     use stock_nums::code::Code;
     use stock_nums::moment::Moment;
@@ -287,6 +284,29 @@ mod tests {
         })
     }
 
+    // An issue of units of B out of W1, a day later.
+    fn issue(alloc: Global, units: u8) -> Result<Record, NoMemory>
+        requires { 0 < units }
+    {
+        let mut lines = Lines::new(alloc);
+        lines.push(IssueLine {
+            item: Code::of(alloc, "B")?,
+            store: Code::of(alloc, "W1")?,
+            qty: Qty(u64::from(units)),
+        })?;
+        Ok(Record {
+            desk: DeskNo(0),
+            what: What::Issue {
+                at: Moment {
+                    date: 20_260_103,
+                    second: 32_400,
+                },
+                purpose: Purpose::Sold,
+                lines,
+            },
+        })
+    }
+
     fn post_three(alloc: Global, book: &mut Book) -> Result<[u32; 3], Fail> {
         let first = book.post(alloc, item(alloc)?)?;
         let second = book.post(alloc, store(alloc)?)?;
@@ -320,11 +340,37 @@ mod tests {
         ])
     }
 
-    // The quantity and the value of the first movement that a report is made from.
-    fn first_row(alloc: Global, book: &Book) -> Option<(u64, i64)> {
+    // The quantity and the value of the last movement that a report is made from.
+    fn last_row(alloc: Global, book: &Book) -> Option<(u64, i64)> {
         let chosen = select(alloc, book).ok()?;
-        let row = chosen.rows.as_slice().first()?;
+        let row = chosen.rows.as_slice().last()?;
         Some((row.entry.qty.0, row.worth.value.0))
+    }
+
+    // The record and the units that lack, where an issue of so many units is short.
+    fn lacking(alloc: Global, book: &mut Book, units: u8) -> Option<(u32, u64)>
+        requires { 0 < units }
+    {
+        match book.post(alloc, issue(alloc, units).ok()?) {
+            Err(
+                PostFault::Short {
+                    place,
+                    item: _,
+                    store: _,
+                    lacking,
+                },
+            ) => { Some((place.voucher.0, lacking.0)) }
+            _ => None,
+        }
+    }
+
+    fn needs(book: &Book) -> [Need; 3] {
+        [3, 4, 5].map(|number| {
+            book.test(&Query {
+                sheet: Sheet::Balance,
+                need: RecordNo(number),
+            })
+        })
     }
 
     #[derive(Clone, Copy)]
@@ -335,6 +381,12 @@ mod tests {
         refused: Option<PostFault>,
         after: [usize; 5],
         row: Option<(u64, i64)>,
+        issued: RecordNo,
+        lacking: Option<(u32, u64)>,
+        needs: [Need; 3],
+        held: [bool; 3],
+        resettled: RecordNo,
+        cost: Option<(u64, i64)>,
     }
 
     fn run(alloc: Global) -> Result<Seen, Fail> {
@@ -345,7 +397,13 @@ mod tests {
             settled: book.settle_all(alloc)?,
             refused: refused(alloc, &mut book),
             after: sizes(alloc, &book)?,
-            row: first_row(alloc, &book),
+            row: last_row(alloc, &book),
+            issued: book.post(alloc, issue(alloc, 4)?)?,
+            lacking: lacking(alloc, &mut book, 7),
+            needs: needs(&book),
+            held: [0, 4, 5].map(|number| book.at(RecordNo(number)).is_some()),
+            resettled: book.settle_all(alloc)?,
+            cost: last_row(alloc, &book),
         })
     }
 
@@ -358,6 +416,20 @@ mod tests {
         assert_eq!(rt; seen.refused, Some(PostFault::CodeTaken));
         assert_eq!(rt; seen.after, [3, 3, 3, 1, 2]);
         assert_eq!(rt; seen.row, Some((10, 1000)));
+        assert_eq!(rt; seen.issued, RecordNo(4));
+        assert_eq!(rt; seen.lacking, Some((5, 1)));
+        let pending = Need::Pending {
+            covered: RecordNo(3),
+            wanted: RecordNo(4),
+        };
+        let none = Need::NoSuchRecord {
+            accepted: RecordNo(4),
+            wanted: RecordNo(5),
+        };
+        assert_eq!(rt; seen.needs, [Need::Ready, pending, none]);
+        assert_eq!(rt; seen.held, [false, true, false]);
+        assert_eq!(rt; seen.resettled, RecordNo(4));
+        assert_eq!(rt; seen.cost, Some((4, 400)));
         Ok(())
     }
 }

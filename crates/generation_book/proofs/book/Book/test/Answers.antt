@@ -5,8 +5,8 @@ use Rattle.generation_book.specs.Book.{deeds}
 use Rattle.generation_book.proofs.Books.{history-accepted, history-covered, need_at-ready, need_at-pending, need_at-none}
 use Rattle.generation_book.proofs.book.Book.test.Goals as goal
 
-pub returns-then-wanted-self : goal.returns-then-wanted-self
-returns-then-wanted-self c =
+pub returns-then-wanted-covered : goal.returns-then-wanted-covered
+returns-then-wanted-covered c =
     let told : deeds c.self.inside.events.items c.self.inside.journal ≡ c.args.self.now.history = ap (λ (b : BookState). b.history) c.self.view_is in
     let covers = history-covered _ _ _ _ _ c.args.self.now.history c.self.invariant told in
     sym (need_at-ready c.args.self.now.history c.args.query.now _ covers (omega arith))
