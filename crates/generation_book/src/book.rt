@@ -1,4 +1,4 @@
-ghost use Rattle.std.specs.Prelude.{◌≡◌, ◌⊎◌, ◌≤◌, [], ◌∷◌, ◌++◌, IfOk, OnOk, OnErr, IfErr, Some, None};
+ghost use Rattle.std.specs.Prelude.{◌≡◌, ◌⊎◌, ◌<◌, ◌≤◌, [], ◌∷◌, ◌++◌, IfOk, OnOk, OnErr, IfErr, Some, None};
 ghost use Rattle.std.specs.Option.{option_copied};
 ghost use Rattle.stock_model.specs.declared.deeds.Deed.TheVariants as deed;
 ghost use Rattle.stock_model.specs.Answers.{need_at, unmet_need, selected};

@@ -53,6 +53,29 @@ const FIRST_REPLIES: &str = r#"{"record":1,"status":"accepted"}
 {"covered":3,"report":"balance","rows":[{"item":"B","qty":10,"store":"W1","value":1000}],"status":"ok"}
 "#;
 
+// Goods are sold, a sale is typed late, and a report asks for the last record.
+const SALES: &str = r#"{"do":"item","code":"B","method":"average"}
+{"do":"store","code":"W1","account":100}
+{"do":"receipt","at":"2026-01-02T09:00:00","lines":[{"item":"B","store":"W1","qty":3,"amount":100}]}
+{"do":"issue","at":"2026-01-05T09:00:00","use":"sold","lines":[{"item":"B","store":"W1","qty":2}]}
+{"do":"issue","at":"2026-01-03T09:00:00","use":"used","lines":[{"item":"B","store":"W1","qty":2}]}
+{"do":"report","of":"balance","need":4}
+{"do":"report","of":"balance","need":5}
+{"do":"settle"}
+{"do":"report","of":"balance","need":4}
+"#;
+
+const SALES_REPLIES: &str = r#"{"record":1,"status":"accepted"}
+{"record":2,"status":"accepted"}
+{"record":3,"status":"accepted"}
+{"record":4,"status":"accepted"}
+{"at":"2026-01-05T09:00:00","fault":"short","item":"B","lacking":1,"line":1,"record":4,"status":"refused","store":"W1"}
+{"covered":0,"need":4,"status":"pending"}
+{"accepted":4,"need":5,"status":"no-such-record"}
+{"covered":4,"status":"settled"}
+{"covered":4,"report":"balance","rows":[{"item":"B","qty":1,"store":"W1","value":33}],"status":"ok"}
+"#;
+
 const SETTLE: &str = r#"{"do":"settle"}"#;
 
 const SETTLED: &str = "{\"covered\":0,\"status\":\"settled\"}\n";
@@ -122,7 +145,7 @@ fn a_first_run_is_answered_in_any_pieces(rt: HostRuntime) -> Result<(), Fail> {
         let setup = Setup { piece, ..WELL };
         check(&rt, alloc, setup, FIRST.as_bytes(), (0, FIRST_REPLIES, ""))?;
     }
-    Ok(())
+    check(&rt, alloc, WELL, SALES.as_bytes(), (0, SALES_REPLIES, ""))
 }
 
 #[test]

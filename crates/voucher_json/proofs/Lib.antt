@@ -1,4 +1,5 @@
+pub mod Moments
 pub mod OneReading
-pub mod ReceiptLines
 pub mod ReplyTexts
 pub mod Requests
+pub mod VoucherLines

@@ -1,6 +1,6 @@
 -- A line is at most one request.
-use Rattle.std.proofs.Common.{◌≡◌, ℕ, ℤ, List, [], ◌∷◌, Some, IsTrue, refl, ap, ◌∙◌, subst}
-use Rattle.serde_json.specs.Data.{Data, object, Items, no_items, item, Members}
+use Rattle.std.proofs.Common.{◌≡◌, ℕ, ℤ, List, [], ◌∷◌, Some, IsTrue, ◌≢◌, get_or, arith, inl, inr, codes, refl, ap, ◌∙◌, subst}
+use Rattle.serde_json.specs.Data.{Data, string, object, Items, no_items, item, Members, member}
 use Rattle.serde_json.specs.Read.{read}
 use Rattle.stock_nums.specs.MomentText.{SpellsMoment}
 use Rattle.stock_nums.specs.Quantities.{IsLineQuantity, is_line_amount}
@@ -13,10 +13,13 @@ use Rattle.stock_model.specs.declared.queries.Sheet.{Sheet}
 use Rattle.stock_model.specs.declared.queries.Sheet.TheVariants.{Balance}
 use Rattle.stock_model.specs.declared.requests.Request.{Request}
 use Rattle.stock_model.specs.declared.requests.Request.TheVariants.{Post, Settle, Report}
+use Rattle.stock_model.specs.declared.vouchers.IssueLine.{IssueLine}
+use Rattle.stock_model.specs.declared.vouchers.Purpose.{Purpose}
+use Rattle.stock_model.specs.declared.vouchers.Purpose.TheVariants.{Sold, Used}
 use Rattle.stock_model.specs.declared.vouchers.ReceiptLine.{ReceiptLine}
 use Rattle.stock_model.specs.declared.vouchers.What.{What}
-use Rattle.stock_model.specs.declared.vouchers.What.TheVariants.{Item, Store, Receipt}
-use Rattle.voucher_json.specs.FirstForm.{IsLineOf, AreLinesOf, settle_members, IsStoreForm, IsReceiptForm, IsWhatForm, IsReportForm, IsRequestForm, IsRequest}
+use Rattle.stock_model.specs.declared.vouchers.What.TheVariants.{Item, Store, Receipt, Issue}
+use Rattle.voucher_json.specs.FirstForm.{IsReceiptLine, IsIssueLine, AreLines, purpose_text, settle_members, IsStoreForm, IsReceiptForm, IsIssueForm, IsWhatForm, IsBalanceForm, IsReportForm, IsRequestForm, IsRequest}
 use denote.Struct.Props.{props}
 
 -- values made of the same number, each with a fact that holds in one way only, are the same
@@ -31,39 +34,54 @@ IsLineQuantity-prop qty = hlevel props
 is_line_amount-prop : (amount : ℤ) → IsProp (IsTrue (is_line_amount amount))
 is_line_amount-prop amount = hlevel props
 
--- a line from its parts
-abbrev line_of : List ℕ → List ℕ → (qty : ℕ) → IsLineQuantity qty → (amount : ℤ) → IsTrue (is_line_amount amount) → ReceiptLine
-line_of code store qty quantity amount price =
+-- a receipt's line from its parts
+abbrev receipt_line_of : List ℕ → List ℕ → (qty : ℕ) → IsLineQuantity qty → (amount : ℤ) → IsTrue (is_line_amount amount) → ReceiptLine
+receipt_line_of code store qty quantity amount price =
     record { item = code; store = store; qty = record { 0 = qty }; amount = record { 0 = amount }; quantity = quantity; price = price }
 
--- lines with the same parts are one line
-line-same : (a b : ReceiptLine) → a.item ≡ b.item → a.store ≡ b.store → a.qty.0 ≡ b.qty.0 → a.amount.0 ≡ b.amount.0 → a ≡ b
-line-same a b item_is store_is qty_is amount_is =
-    ap (λ (x : List ℕ). line_of x a.store a.qty.0 a.quantity a.amount.0 a.price) item_is
-    ∙ ap (λ (x : List ℕ). line_of b.item x a.qty.0 a.quantity a.amount.0 a.price) store_is
-    ∙ made-same IsLineQuantity IsLineQuantity-prop (λ (x : ℕ) (q : IsLineQuantity x). line_of b.item b.store x q a.amount.0 a.price) a.qty.0 b.qty.0 qty_is a.quantity b.quantity
-    ∙ made-same (λ (x : ℤ). IsTrue (is_line_amount x)) is_line_amount-prop (line_of b.item b.store b.qty.0 b.quantity) a.amount.0 b.amount.0 amount_is a.price b.price
+-- receipt lines with the same parts are one line
+receipt_line-same : (a b : ReceiptLine) → a.item ≡ b.item → a.store ≡ b.store → a.qty.0 ≡ b.qty.0 → a.amount.0 ≡ b.amount.0 → a ≡ b
+receipt_line-same a b item_is store_is qty_is amount_is =
+    ap (λ (x : List ℕ). receipt_line_of x a.store a.qty.0 a.quantity a.amount.0 a.price) item_is
+    ∙ ap (λ (x : List ℕ). receipt_line_of b.item x a.qty.0 a.quantity a.amount.0 a.price) store_is
+    ∙ made-same IsLineQuantity IsLineQuantity-prop (λ (x : ℕ) (q : IsLineQuantity x). receipt_line_of b.item b.store x q a.amount.0 a.price) a.qty.0 b.qty.0 qty_is a.quantity b.quantity
+    ∙ made-same (λ (x : ℤ). IsTrue (is_line_amount x)) is_line_amount-prop (receipt_line_of b.item b.store b.qty.0 b.quantity) a.amount.0 b.amount.0 amount_is a.price b.price
 
--- a value is at most one line
-one_line : (value : Data) (a b : ReceiptLine) → IsLineOf value a → IsLineOf value b → a ≡ b
-one_line value a b is_a is_b =
+-- a value is at most one line of a receipt
+one_receipt_line : (value : Data) (a b : ReceiptLine) → IsReceiptLine value a → IsReceiptLine value b → a ≡ b
+one_receipt_line value a b is_a is_b =
     let number : is_a.amount ≡ is_b.amount = cc in
     let item_is : a.item ≡ b.item = cc in
     let store_is : a.store ≡ b.store = cc in
     let qty_is : a.qty.0 ≡ b.qty.0 = cc in
     let amount_is : a.amount.0 ≡ b.amount.0 = cc in
-    line-same a b item_is store_is qty_is amount_is
+    receipt_line-same a b item_is store_is qty_is amount_is
 
--- the same values are the same lines
-one_list : (values : Items) (a b : List ReceiptLine) → AreLinesOf values a → AreLinesOf values b → a ≡ b
-one_list no_items [] [] are_a are_b = refl
-one_list no_items [] (y ∷ b) are_a are_b = absurd are_b
-one_list no_items (x ∷ a) b are_a are_b = absurd are_a
-one_list (item value values) [] b are_a are_b = absurd are_a
-one_list (item value values) (x ∷ a) [] are_a are_b = absurd are_b
-one_list (item value values) (x ∷ a) (y ∷ b) are_a are_b =
-    let first = one_line value x y are_a.0 are_b.0 in
-    let others = one_list values a b are_a.1 are_b.1 in
+-- an issue's line from its parts
+abbrev issue_line_of : List ℕ → List ℕ → (qty : ℕ) → IsLineQuantity qty → IssueLine
+issue_line_of code store qty quantity = record { item = code; store = store; qty = record { 0 = qty }; quantity = quantity }
+
+-- a value is at most one line of an issue
+one_issue_line : (value : Data) (a b : IssueLine) → IsIssueLine value a → IsIssueLine value b → a ≡ b
+one_issue_line value a b is_a is_b =
+    let item_is : a.item ≡ b.item = cc in
+    let store_is : a.store ≡ b.store = cc in
+    let qty_is : a.qty.0 ≡ b.qty.0 = cc in
+    ap (λ (x : List ℕ). issue_line_of x a.store a.qty.0 a.quantity) item_is
+    ∙ ap (λ (x : List ℕ). issue_line_of b.item x a.qty.0 a.quantity) store_is
+    ∙ made-same IsLineQuantity IsLineQuantity-prop (issue_line_of b.item b.store) a.qty.0 b.qty.0 qty_is a.quantity b.quantity
+
+-- where a value is at most one line, the same values are the same lines
+one_list : {Line : Type 0} (is_line : Data → Line → Type 0) → ((value : Data) (a b : Line) → is_line value a → is_line value b → a ≡ b)
+    → (values : Items) (a b : List Line) → AreLines is_line values a → AreLines is_line values b → a ≡ b
+one_list is_line one no_items [] [] are_a are_b = refl
+one_list is_line one no_items [] (y ∷ b) are_a are_b = absurd are_b
+one_list is_line one no_items (x ∷ a) b are_a are_b = absurd are_a
+one_list is_line one (item value values) [] b are_a are_b = absurd are_a
+one_list is_line one (item value values) (x ∷ a) [] are_a are_b = absurd are_b
+one_list is_line one (item value values) (x ∷ a) (y ∷ b) are_a are_b =
+    let first = one value x y are_a.0 are_b.0 in
+    let others = one_list is_line one values a b are_a.1 are_b.1 in
     cc
 
 -- accounts with the same number are one account
@@ -84,9 +102,33 @@ one_receipt form at until a b is_a is_b =
     let text_is : is_a.text ≡ is_b.text = cc in
     let values_are : is_a.values ≡ is_b.values = cc in
     let P : List ℕ → Type 0 = λ text. SpellsMoment text at in
-    let Q : Items → Type 0 = λ values. AreLinesOf values a in
+    let Q : Items → Type 0 = λ values. AreLines IsReceiptLine values a in
     let moment_is = one_moment is_b.text at until (subst P text_is is_a.spells) is_b.spells in
-    let lines_are = one_list is_b.values a b (subst Q values_are is_a.lines_are) is_b.lines_are in
+    let lines_are = one_list IsReceiptLine one_receipt_line is_b.values a b (subst Q values_are is_a.lines_are.each) is_b.lines_are.each in
+    cc
+
+-- texts that begin with different bytes are different
+texts-apart : (a b : List ℕ) → get_or a 0 0 ≢ get_or b 0 0 → a ≡ b → ⊥
+texts-apart a b differ same = differ (ap (λ (text : List ℕ). get_or text 0 0) same)
+
+-- a text spells at most one purpose
+one_purpose : (a b : Purpose) → purpose_text a ≡ purpose_text b → a ≡ b
+one_purpose Sold Sold is = refl
+one_purpose Sold Used is = absurd (texts-apart _ _ (omega arith) is)
+one_purpose Used Sold is = absurd (texts-apart _ _ (omega arith) is)
+one_purpose Used Used is = refl
+
+-- members are at most one issue
+one_issue : (form : Members) (at until : Moment) (p q : Purpose) (a b : List IssueLine) → IsIssueForm form at p a → IsIssueForm form until q b → Issue at p a ≡ Issue until q b
+one_issue form at until p q a b is_a is_b =
+    let text_is : is_a.text ≡ is_b.text = cc in
+    let values_are : is_a.values ≡ is_b.values = cc in
+    let spelled : purpose_text p ≡ purpose_text q = cc in
+    let P : List ℕ → Type 0 = λ text. SpellsMoment text at in
+    let Q : Items → Type 0 = λ values. AreLines IsIssueLine values a in
+    let moment_is = one_moment is_b.text at until (subst P text_is is_a.spells) is_b.spells in
+    let purpose_is = one_purpose p q spelled in
+    let lines_are = one_list IsIssueLine one_issue_line is_b.values a b (subst Q values_are is_a.lines_are.each) is_b.lines_are.each in
     cc
 
 -- members say at most one thing
@@ -96,50 +138,81 @@ one_what form (Item code Average) (Item other Fifo) is_a is_b = absurd is_b
 one_what form (Item code Average) (Item other Average) is_a is_b = cc
 one_what form (Item code Average) (Store other account) is_a is_b = cc
 one_what form (Item code Average) (Receipt at lines) is_a is_b = cc
+one_what form (Item code Average) (Issue at purpose lines) is_a is_b = cc
 one_what form (Store code account) (Item other Fifo) is_a is_b = absurd is_b
 one_what form (Store code account) (Item other Average) is_a is_b = cc
 one_what form (Store code account) (Store other number) is_a is_b = one_store form code other account number is_a is_b
 one_what form (Store code account) (Receipt at lines) is_a is_b = cc
+one_what form (Store code account) (Issue at purpose lines) is_a is_b = cc
 one_what form (Receipt at lines) (Item other Fifo) is_a is_b = absurd is_b
 one_what form (Receipt at lines) (Item other Average) is_a is_b = cc
 one_what form (Receipt at lines) (Store other account) is_a is_b = cc
 one_what form (Receipt at lines) (Receipt until others) is_a is_b = one_receipt form at until lines others is_a is_b
+one_what form (Receipt at lines) (Issue until purpose others) is_a is_b = cc
+one_what form (Issue at purpose lines) (Item other Fifo) is_a is_b = absurd is_b
+one_what form (Issue at purpose lines) (Item other Average) is_a is_b = cc
+one_what form (Issue at purpose lines) (Store other account) is_a is_b = cc
+one_what form (Issue at purpose lines) (Receipt until others) is_a is_b = cc
+one_what form (Issue at purpose lines) (Issue until meant others) is_a is_b = one_issue form at until purpose meant lines others is_a is_b
 
--- what is posted is no settlement
-no_settle : (form : Members) (what : What) → IsWhatForm form what → form ≡ settle_members → ⊥
-no_settle form (Item code Fifo) is settles = is
-no_settle form (Item code Average) is settles = cc
-no_settle form (Store code account) is settles = cc
-no_settle form (Receipt at lines) is settles = cc
+-- members have one first key, and do one thing
+one_key : (form : Members) (k l : List ℕ) (v w : Data) (r s : Members) → form ≡ member k v r → form ≡ member l w s → k ≡ l
+one_key form k l v w r s is_k is_l = cc
+
+one_deed : (form : Members) (k : List ℕ) (a b : List ℕ) (r s : Members) → form ≡ member k (string a) r → form ≡ member k (string b) s → a ≡ b
+one_deed form k a b r s is_a is_b = cc
+
+-- what is posted does not begin with what is done
+no_deed : (form : Members) (what : What) (value : Data) (rest : Members) → IsWhatForm form what → form ≡ member (codes "do") value rest → ⊥
+no_deed form (Item code Fifo) value rest is deed = is
+no_deed form (Item code Average) value rest is deed = texts-apart _ _ (omega arith) (one_key form _ _ _ _ _ _ is.0 deed)
+no_deed form (Store code account) value rest is deed = texts-apart _ _ (omega arith) (one_key form _ _ _ _ _ _ is.members_are deed)
+no_deed form (Receipt at lines) value rest is deed = texts-apart _ _ (omega arith) (one_key form _ _ _ _ _ _ is.members_are deed)
+no_deed form (Issue at purpose lines) value rest is deed = texts-apart _ _ (omega arith) (one_key form _ _ _ _ _ _ is.members_are deed)
+
+-- the members of a report begin with what is done
+report_starts : (form : Members) (sheet : Sheet) (need : ℕ) → IsReportForm form sheet need → (rest : Members) × (form ≡ member (codes "do") (string (codes "report")) rest)
+report_starts form Balance need (inl whole) = (_, whole.0)
+report_starts form Balance need (inr needs) = (_, needs.0)
 
 -- what is posted is no report
-no_report : (form : Members) (what : What) (sheet : Sheet) → IsWhatForm form what → IsReportForm form sheet → ⊥
-no_report form (Item code Fifo) sheet is reports = is
-no_report form (Item code Average) Balance is reports = cc
-no_report form (Store code account) Balance is reports = cc
-no_report form (Receipt at lines) Balance is reports = cc
+no_report : (form : Members) (what : What) (query : Query) → IsWhatForm form what → IsRequestForm form (Report query) → ⊥
+no_report form what query is reports = no_deed form what _ _ is (report_starts form query.sheet query.need.0 reports).1
 
 -- a settlement is no report
-settle_or_report : (form : Members) (sheet : Sheet) → form ≡ settle_members → IsReportForm form sheet → ⊥
-settle_or_report form Balance settles reports = cc
+settle_or_report : (form : Members) (query : Query) → form ≡ settle_members → IsRequestForm form (Report query) → ⊥
+settle_or_report form query settles reports =
+    texts-apart (codes "settle") (codes "report") (omega arith) (one_deed form _ _ _ _ _ settles (report_starts form query.sheet query.need.0 reports).1)
 
-one_sheet : (a b : Sheet) → a ≡ b
-one_sheet Balance Balance = refl
+-- a balance has at most one need
+one_need : (form : Members) (a b : ℕ) → IsBalanceForm form a → IsBalanceForm form b → a ≡ b
+one_need form a b (inl is_a) (inl is_b) = cc
+one_need form a b (inl is_a) (inr is_b) = cc
+one_need form a b (inr is_a) (inl is_b) = cc
+one_need form a b (inr is_a) (inr is_b) = cc
 
-query-same : (a b : Query) → a.sheet ≡ b.sheet → a ≡ b
-query-same a b same = let of : Sheet → Query = λ sheet. record { sheet = sheet } in ap of same
+-- a query from its parts
+abbrev query_of : Sheet → ℕ → Query
+query_of sheet need = record { sheet = sheet; need = record { 0 = need } }
+
+-- members are at most one report
+one_report : (form : Members) (a b : Query) → IsReportForm form a.sheet a.need.0 → IsReportForm form b.sheet b.need.0 → a ≡ b
+one_report form a b is_a is_b = one_sheet form a.sheet b.sheet a.need.0 b.need.0 is_a is_b
+  where
+    one_sheet : (form : Members) (s t : Sheet) (m n : ℕ) → IsReportForm form s m → IsReportForm form t n → query_of s m ≡ query_of t n
+    one_sheet form Balance Balance m n is_m is_n = ap (query_of Balance) (one_need form m n is_m is_n)
 
 -- members are at most one request
 one_form : (form : Members) (a b : Request) → IsRequestForm form a → IsRequestForm form b → a ≡ b
 one_form form (Post what) (Post other) is_a is_b = ap Post (one_what form what other is_a is_b)
-one_form form (Post what) Settle is_a is_b = absurd (no_settle form what is_a is_b)
-one_form form (Post what) (Report query) is_a is_b = absurd (no_report form what query.sheet is_a is_b)
-one_form form Settle (Post what) is_a is_b = absurd (no_settle form what is_b is_a)
+one_form form (Post what) Settle is_a is_b = absurd (no_deed form what _ _ is_a is_b)
+one_form form (Post what) (Report query) is_a is_b = absurd (no_report form what query is_a is_b)
+one_form form Settle (Post what) is_a is_b = absurd (no_deed form what _ _ is_b is_a)
 one_form form Settle Settle is_a is_b = refl
-one_form form Settle (Report query) is_a is_b = absurd (settle_or_report form query.sheet is_a is_b)
-one_form form (Report query) (Post what) is_a is_b = absurd (no_report form what query.sheet is_b is_a)
-one_form form (Report query) Settle is_a is_b = absurd (settle_or_report form query.sheet is_b is_a)
-one_form form (Report query) (Report other) is_a is_b = ap Report (query-same query other (one_sheet query.sheet other.sheet))
+one_form form Settle (Report query) is_a is_b = absurd (settle_or_report form query is_a is_b)
+one_form form (Report query) (Post what) is_a is_b = absurd (no_report form what query is_b is_a)
+one_form form (Report query) Settle is_a is_b = absurd (settle_or_report form query is_b is_a)
+one_form form (Report query) (Report other) is_a is_b = ap Report (one_report form query other is_a is_b)
 
 -- a line is at most one request
 pub one_request : (line : List ℕ) (a b : Request) → IsRequest line a → IsRequest line b → a ≡ b

@@ -4,10 +4,10 @@ use Rattle.serde_json.specs.Find.{of_integer, is_float}
 use Rattle.serde_json.specs.View.{items_of}
 use Rattle.serde_json.specs.Written.{has_float, items_have_float}
 use Rattle.stock_model.specs.declared.faults.PostFault.{PostFault}
-use Rattle.stock_model.specs.declared.faults.PostFault.TheVariants.{CodeTaken, UnknownItem, UnknownStore, Full, NoMemory}
+use Rattle.stock_model.specs.declared.faults.PostFault.TheVariants as fault_of
 use Rattle.stock_model.specs.declared.replies.BalanceRow.{BalanceRow}
 use Rattle.stock_model.specs.declared.replies.Reply.{Reply}
-use Rattle.stock_model.specs.declared.replies.Reply.TheVariants.{Accepted, Refused, Settled, Balance, Bad}
+use Rattle.stock_model.specs.declared.replies.Reply.TheVariants.{Accepted, Refused, Short, Pending, NoSuchRecord, Settled, Balance, Bad}
 use Rattle.voucher_json.specs.ReplyText.{row_data, refusal_data, reply_data}
 
 is_float-of_integer : (z : ℤ) → is_float (of_integer z) ≡ false
@@ -19,16 +19,20 @@ has_float-rows [] = refl
 has_float-rows (row ∷ rows) = rw (is_float-of_integer row.value.0, has_float-rows rows)
 
 has_float-refusal : (fault : PostFault) → has_float (refusal_data fault) ≡ false
-has_float-refusal CodeTaken = refl
-has_float-refusal (UnknownItem line) = refl
-has_float-refusal (UnknownStore line) = refl
-has_float-refusal (Full records entries) = refl
-has_float-refusal NoMemory = refl
+has_float-refusal fault_of.CodeTaken = refl
+has_float-refusal (fault_of.UnknownItem line) = refl
+has_float-refusal (fault_of.UnknownStore line) = refl
+has_float-refusal (fault_of.Full records entries) = refl
+has_float-refusal (fault_of.Short place item store lacking) = refl
+has_float-refusal fault_of.NoMemory = refl
 
 -- no reply has a float
 pub has_float-reply : (reply : Reply) → has_float (reply_data reply) ≡ false
 has_float-reply (Accepted n) = refl
 has_float-reply (Refused fault) = has_float-refusal fault
+has_float-reply (Short place item store lacking) = refl
+has_float-reply (Pending covered wanted) = refl
+has_float-reply (NoSuchRecord accepted wanted) = refl
 has_float-reply (Settled covered) = refl
 has_float-reply (Balance covered rows) = rw (has_float-rows rows)
 has_float-reply Bad = refl

@@ -1,33 +1,35 @@
 -- What a line that has been read says of the requests that it may be.
-use Rattle.std.proofs.Common.{◌≡◌, ℕ, ◌≤◌, List, length, Option, Some, None, Result, IfOk, IfNone, subst, arith}
+use Rattle.std.proofs.Common.{◌≡◌, ℕ, List, Option, Some, None, Result, IfOk, IfNone, ap, ◌∙◌, subst}
 use Rattle.std.proofs.lemmas.Result.{IfOk-weaker}
-use Rattle.serde_json.specs.Data.{Data, Items, Members}
+use Rattle.serde_json.specs.Data.{Data, Members}
+use Rattle.serde_json.specs.Find.{as_object}
 use Rattle.serde_json.specs.Read.{read}
-use Rattle.serde_json.specs.View.{items_view}
-use Rattle.serde_json.specs.declared.value.Value.{Value}
-use Rattle.stock_nums.specs.declared.moment.Moment.{Moment}
+use Rattle.stock_model.specs.declared.queries.Sheet.{Sheet}
+use Rattle.stock_model.specs.declared.queries.Sheet.TheVariants.{Balance}
 use Rattle.stock_model.specs.declared.requests.Request.{Request}
-use Rattle.stock_model.specs.declared.vouchers.ReceiptLine.{ReceiptLine}
-use Rattle.voucher_json.specs.FirstForm.{AreLinesOf, receipt_members, IsReceiptForm, IsFormOf, IsRequest}
-use Rattle.voucher_json.proofs.ReceiptLines.{length-lines}
+use Rattle.stock_model.specs.declared.requests.Request.TheVariants.{Post, Settle, Report}
+use Rattle.stock_model.specs.declared.vouchers.What.{What}
+use Rattle.voucher_json.specs.FirstForm.{settle_members, IsWhatForm, IsBalanceForm, IsReportForm, IsRequestForm, IsFormOf, IsRequest}
 
--- the lines of a receipt are those of the values that it has
-pub receipt_lines : (members : Members) (text : List ℕ) (values : List Value) (at : Moment) (lines : List ReceiptLine) → members ≡ receipt_members text (items_view values)
-    → IsReceiptForm members at lines → AreLinesOf (items_view values) lines
-receipt_lines members text values at lines is form =
-    let written : members ≡ receipt_members form.text form.values = form.members_are in
-    let same : form.values ≡ items_view values = cc in
-    let P : Items → Type 0 = λ items. AreLinesOf items lines in
-    subst P same form.lines_are
+-- the balance sheet is the one report
+needs_balance : (form : Members) (sheet : Sheet) (need : ℕ) → IsReportForm form sheet need → IsBalanceForm form need
+needs_balance form Balance need is = is
 
--- a receipt has 1 to 100 values
-pub few_values : (members : Members) (text : List ℕ) (values : List Value) (at : Moment) (lines : List ReceiptLine) → members ≡ receipt_members text (items_view values)
-    → IsReceiptForm members at lines → (1 ≤ length values) × (length values ≤ 100)
-few_values members text values at lines is form =
-    let same : length lines ≡ length values = length-lines values lines (receipt_lines members text values at lines is form) in
-    let least : 1 ≤ length lines = form.least in
-    let most : length lines ≤ 100 = form.most in
-    (omega arith, omega arith)
+-- members that do none of the three things are no request
+no_deed : (form : Members) → (form ≡ settle_members → ⊥) → ((need : ℕ) → IsBalanceForm form need → ⊥) → ((what : What) → IsWhatForm form what → ⊥)
+    → (request : Request) → IsRequestForm form request → ⊥
+no_deed form settles reports posts (Post what) is = posts what is
+no_deed form settles reports posts Settle is = settles is
+no_deed form settles reports posts (Report query) is = reports query.need.0 (needs_balance form query.sheet query.need.0 is)
+
+-- nor is a value with such members
+pub no_form : (value : Data) (members : Members) → Some members ≡ as_object value → (members ≡ settle_members → ⊥) → ((need : ℕ) → IsBalanceForm members need → ⊥)
+    → ((what : What) → IsWhatForm members what → ⊥) → (request : Request) → IsFormOf value request → ⊥
+no_form value members is settles reports posts request form =
+    let read : Some members ≡ Some form.0 = is ∙ ap as_object form.1 in
+    let same : form.0 ≡ members = cc in
+    let P : Members → Type 0 = λ ms. IsRequestForm ms request in
+    no_deed members settles reports posts request (subst P same form.2)
 
 not_request : (line : List ℕ) (value : Data) → read line ≡ Some value → ((request : Request) → IsFormOf value request → ⊥) → (request : Request) → IsRequest line request → ⊥
 not_request line value is none request asked =

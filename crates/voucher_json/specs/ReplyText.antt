@@ -4,11 +4,13 @@ use Rattle.serde_json.specs.Data.{Data, null, string, number, unsigned, array, o
 use Rattle.serde_json.specs.Find.{of_integer}
 use Rattle.serde_json.specs.Written.{compact_text}
 use Rattle.serde_json.specs.View.{items_of}
+use Rattle.stock_nums.specs.MomentText.{moment_text}
+use Rattle.stock_nums.specs.declared.place.Place.{Place}
 use Rattle.stock_model.specs.declared.faults.PostFault.{PostFault}
-use Rattle.stock_model.specs.declared.faults.PostFault.TheVariants.{CodeTaken, UnknownItem, UnknownStore, Full, NoMemory}
+use Rattle.stock_model.specs.declared.faults.PostFault.TheVariants as fault_of
 use Rattle.stock_model.specs.declared.replies.BalanceRow.{BalanceRow}
 use Rattle.stock_model.specs.declared.replies.Reply.{Reply}
-use Rattle.stock_model.specs.declared.replies.Reply.TheVariants.{Accepted, Refused, Settled, Balance, Bad}
+use Rattle.stock_model.specs.declared.replies.Reply.TheVariants.{Accepted, Refused, Short, Pending, NoSuchRecord, Settled, Balance, Bad}
 
 -- a fault of the whole record: {"fault":..,"status":"refused"}
 abbrev pub fault_data : List ℕ → Data
@@ -22,13 +24,27 @@ line_fault_data name line = object (member (codes "fault") (string name) (member
 abbrev pub full_data : ℕ → ℕ → Data
 full_data records entries = object (member (codes "entries") (number (unsigned entries)) (member (codes "fault") (string (codes "full")) (member (codes "records") (number (unsigned records)) (member (codes "status") (string (codes "refused")) no_members))))
 
--- want of memory has no text
+-- a shortage has a reply of its own, and want of memory has no text
 abbrev pub refusal_data : PostFault → Data
-refusal_data CodeTaken = fault_data (codes "code-taken")
-refusal_data (UnknownItem line) = line_fault_data (codes "unknown-item") line
-refusal_data (UnknownStore line) = line_fault_data (codes "unknown-store") line
-refusal_data (Full records entries) = full_data records entries
-refusal_data NoMemory = null
+refusal_data fault_of.CodeTaken = fault_data (codes "code-taken")
+refusal_data (fault_of.UnknownItem line) = line_fault_data (codes "unknown-item") line
+refusal_data (fault_of.UnknownStore line) = line_fault_data (codes "unknown-store") line
+refusal_data (fault_of.Full records entries) = full_data records entries
+refusal_data (fault_of.Short place item store lacking) = null
+refusal_data fault_of.NoMemory = null
+
+-- {"at":..,"fault":"short","item":..,"lacking":..,"line":..,"record":..,"status":"refused","store":..}
+abbrev pub short_data : Place → List ℕ → List ℕ → ℕ → Data
+short_data place item store lacking =
+    object
+    (member (codes "at") (string (moment_text place.moment))
+    (member (codes "fault") (string (codes "short"))
+    (member (codes "item") (string item)
+    (member (codes "lacking") (number (unsigned lacking))
+    (member (codes "line") (number (unsigned place.line))
+    (member (codes "record") (number (unsigned place.voucher.0))
+    (member (codes "status") (string (codes "refused"))
+    (member (codes "store") (string store) no_members))))))))
 
 -- {"item":..,"qty":..,"store":..,"value":..}
 abbrev pub row_data : BalanceRow → Data
@@ -42,6 +58,9 @@ rows_data rows = items_of (map row_data rows)
 abbrev pub reply_data : Reply → Data
 reply_data (Accepted number_of_it) = object (member (codes "record") (number (unsigned number_of_it.0)) (member (codes "status") (string (codes "accepted")) no_members))
 reply_data (Refused fault) = refusal_data fault
+reply_data (Short place item store lacking) = short_data place item store lacking.0
+reply_data (Pending covered wanted) = object (member (codes "covered") (number (unsigned covered.0)) (member (codes "need") (number (unsigned wanted.0)) (member (codes "status") (string (codes "pending")) no_members)))
+reply_data (NoSuchRecord accepted wanted) = object (member (codes "accepted") (number (unsigned accepted.0)) (member (codes "need") (number (unsigned wanted.0)) (member (codes "status") (string (codes "no-such-record")) no_members)))
 reply_data (Settled covered) = object (member (codes "covered") (number (unsigned covered.0)) (member (codes "status") (string (codes "settled")) no_members))
 reply_data (Balance covered rows) = object (member (codes "covered") (number (unsigned covered.0)) (member (codes "report") (string (codes "balance")) (member (codes "rows") (array (rows_data rows)) (member (codes "status") (string (codes "ok")) no_members))))
 reply_data Bad = object (member (codes "fault") (string (codes "bad-field")) (member (codes "field") (string (codes "request")) (member (codes "line") (number (unsigned 0)) (member (codes "status") (string (codes "bad")) no_members))))
@@ -54,18 +73,22 @@ reply_text reply = compact_text (reply_data reply)
 abbrev pub reply_line : Reply → List ℕ
 reply_line reply = reply_text reply ++ 10 ∷ []
 
--- every fault is told but want of memory
+-- every fault is told but a shortage, which has a reply of its own, and want of memory
 abbrev pub IsTold : PostFault → Type 0
-IsTold CodeTaken = Unit {0}
-IsTold (UnknownItem line) = Unit {0}
-IsTold (UnknownStore line) = Unit {0}
-IsTold (Full records entries) = Unit {0}
-IsTold NoMemory = ⊥
+IsTold fault_of.CodeTaken = Unit {0}
+IsTold (fault_of.UnknownItem line) = Unit {0}
+IsTold (fault_of.UnknownStore line) = Unit {0}
+IsTold (fault_of.Full records entries) = Unit {0}
+IsTold (fault_of.Short place item store lacking) = ⊥
+IsTold fault_of.NoMemory = ⊥
 
--- every reply is printed but the refusal for want of memory
+-- every reply is printed but a refusal for a fault that is not told
 abbrev pub IsPrinted : Reply → Type 0
 IsPrinted (Accepted number_of_it) = Unit {0}
 IsPrinted (Refused fault) = IsTold fault
+IsPrinted (Short place item store lacking) = Unit {0}
+IsPrinted (Pending covered wanted) = Unit {0}
+IsPrinted (NoSuchRecord accepted wanted) = Unit {0}
 IsPrinted (Settled covered) = Unit {0}
 IsPrinted (Balance covered rows) = Unit {0}
 IsPrinted Bad = Unit {0}

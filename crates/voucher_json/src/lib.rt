@@ -5,3 +5,4 @@ mod forms;
 mod members;
 pub mod reading;
 pub mod replying;
+mod voucher_lines;

@@ -44,13 +44,21 @@ pub fn next_is(members: &mut Iter<'_, String, Value>, key: &str, text: &str) -> 
     }
 }
 
+/// The next member's text, if the member has this key.
+pub fn next_text<'a>(members: &mut Iter<'a, String, Value>, key: &str) -> Option<&'a str>
+    ensures some { IfSome result (λ text. members_view members.old ≡ member key.now (string text.now) (members_view members.new)) }
+    ensures none { IfNone result ((text : List ℕ) (rest : Members) → members_view members.old ≡ member key.now (string text) rest → ⊥) }
+{
+    next_value(members, key)?.as_str()
+}
+
 /// The next member's code, if the member has this key.
 pub fn next_code<'a>(members: &mut Iter<'a, String, Value>, key: &str) -> Option<&'a str>
     ensures some { IfSome result (λ code. members_view members.old ≡ member key.now (string code.now) (members_view members.new)) }
     ensures code { IfSome result (λ code. IsTrue (is_code code.now)) }
     ensures none { IfNone result ((code : List ℕ) (rest : Members) → members_view members.old ≡ member key.now (string code) rest → IsTrue (is_code code) → ⊥) }
 {
-    let code = next_value(members, key)?.as_str()?;
+    let code = next_text(members, key)?;
     if has_code_shape(code) {
         Some(code)
     } else {
@@ -82,7 +90,7 @@ pub fn next_moment(members: &mut Iter<'_, String, Value>, key: &str) -> Option<M
     ensures some { IfSome result (λ moment. (text : List ℕ) × (members_view members.old ≡ member key.now (string text) (members_view members.new)) × SpellsMoment text moment) }
     ensures none { IfNone result ((text : List ℕ) (moment : Moment) (rest : Members) → members_view members.old ≡ member key.now (string text) rest → SpellsMoment text moment → ⊥) }
 {
-    let text = next_value(members, key)?.as_str()?;
+    let text = next_text(members, key)?;
     read_moment(text.as_bytes()).ok()
 }
 

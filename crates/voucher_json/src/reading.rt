@@ -1,33 +1,30 @@
 //! A line of input as the request that it is.
 ghost use Rattle.std.specs.Prelude.{◌≡◌, ◌≤◌, ℕ, List, IsTrue, IfSome, IfNone, IfOk, length, IsUtf8};
-ghost use Rattle.serde_json.specs.Data.{Data, array};
-ghost use Rattle.serde_json.specs.View.{view, items_view, members_view};
+ghost use Rattle.serde_json.specs.View.{view, members_view};
 ghost use Rattle.stock_nums.specs.declared.moment.Moment.{Moment};
 ghost use Rattle.stock_model.specs.Limits.{is_within_limits};
 ghost use Rattle.stock_model.specs.declared.requests.Request.{Request};
 ghost use Rattle.stock_model.specs.declared.vouchers.What.{What};
+ghost use Rattle.stock_model.specs.declared.vouchers.IssueLine.{IssueLine};
+ghost use Rattle.stock_model.specs.declared.vouchers.Purpose.{Purpose};
 ghost use Rattle.stock_model.specs.declared.vouchers.ReceiptLine.{ReceiptLine};
-ghost use Rattle.voucher_json.specs.FirstForm.{IsLineOf, AreLinesOf, IsReceiptForm, IsWhatForm, IsFormOf, IsRequest, IsWithinLimits};
+ghost use Rattle.voucher_json.specs.FirstForm.{IsReceiptForm, IsIssueForm, IsWhatForm, IsFormOf, IsRequest, IsWithinLimits};
 
 use crate::forms::{
-    is_balance_report, is_settle, item_code, line_fields, receipt_fields, store_fields,
+    balance_need, is_settle, issue_fields, item_code, receipt_fields, store_fields,
 };
+use crate::voucher_lines::read_lines;
 use serde_json::{Map, Value};
 use std::alloc::Global;
 use stock_model::queries::{Query, Sheet};
 use stock_model::requests::Request;
-use stock_model::vouchers::{ReceiptLine, What};
+use stock_model::vouchers::What;
 use stock_nums::cause::Method;
 use stock_nums::code::Code;
-use stock_nums::lines::Lines;
 use stock_nums::memory::NoMemory;
-use stock_nums::numbers::{Minor, Qty};
 
 /// The most bytes that a line may have.
 pub const MAX_LINE_BYTES: usize = 65_536;
-
-/// The most lines that a receipt may have.
-const MAX_RECEIPT_LINES: usize = 100;
 
 /// The request that a line of input is. None exactly where it is no request: where it is too long, is no
 /// text or no JSON value, or has no request's form.
@@ -63,9 +60,10 @@ fn request_of(alloc: Global, value: &Value) -> Result<Option<Request>, NoMemory>
     if is_settle(object) {
         return Ok(Some(Request::Settle));
     }
-    if is_balance_report(object) {
+    if let Some(need) = balance_need(object) {
         return Ok(Some(Request::Report(Query {
             sheet: Sheet::Balance,
+            need,
         })));
     }
     match read_what(alloc, object)? {
@@ -92,7 +90,10 @@ fn read_what(alloc: Global, object: &Map<String, Value>) -> Result<Option<What>,
             account,
         }));
     }
-    read_receipt(alloc, object)
+    if let Some(receipt) = read_receipt(alloc, object)? {
+        return Ok(Some(receipt));
+    }
+    read_issue(alloc, object)
 }
 
 /// The receipt that an object posts.
@@ -104,54 +105,32 @@ fn read_receipt(alloc: Global, object: &Map<String, Value>) -> Result<Option<Wha
     let Some((at, values)) = receipt_fields(object) else {
         return Ok(None);
     };
-    if values.is_empty() || values.len() > MAX_RECEIPT_LINES {
-        return Ok(None);
-    }
     match read_lines(alloc, values)? {
         Some(lines) => Ok(Some(What::Receipt { at, lines })),
         None => Ok(None),
     }
 }
 
-/// The lines of a receipt.
-fn read_lines(alloc: Global, values: &[Value]) -> Result<Option<Lines<ReceiptLine>>, NoMemory>
-    ensures some { IfOk result (λ found. IfSome found (AreLinesOf (items_view values.now))) }
-    ensures none { IfOk result (λ found. IfNone found ((lines : List ReceiptLine) → AreLinesOf (items_view values.now) lines → ⊥)) }
-    ensures each { IfOk result (λ found. IfSome found (λ lines. length lines ≡ length values.now)) }
+/// The issue that an object posts.
+fn read_issue(alloc: Global, object: &Map<String, Value>) -> Result<Option<What>, NoMemory>
+    ensures some { IfOk result (λ found. IfSome found (IsWhatForm (members_view object.now.entries))) }
+    ensures none { IfOk result (λ found. IfNone found ((at : Moment) (purpose : Purpose) (lines : List IssueLine) → IsIssueForm (members_view object.now.entries) at purpose lines → ⊥)) }
+    ensures limits { IfOk result (λ found. IfSome found (λ what. IsTrue (is_within_limits what))) }
 {
-    let mut lines = Lines::new(alloc);
-    for value in values {
-        match read_line(alloc, value)? {
-            Some(line) => lines.push(line)?,
-            None => return Ok(None),
-        }
+    let Some((at, purpose, values)) = issue_fields(object) else {
+        return Ok(None);
+    };
+    match read_lines(alloc, values)? {
+        Some(lines) => Ok(Some(What::Issue { at, purpose, lines })),
+        None => Ok(None),
     }
-    Ok(Some(lines))
-}
-
-/// A line of a receipt.
-fn read_line(alloc: Global, value: &Value) -> Result<Option<ReceiptLine>, NoMemory>
-    ensures some { IfOk result (λ found. IfSome found (IsLineOf (view value.now))) }
-    ensures none { IfOk result (λ found. IfNone found ((line : ReceiptLine) → IsLineOf (view value.now) line → ⊥)) }
-{
-    let Some(object) = value.as_object() else {
-        return Ok(None);
-    };
-    let Some(fields) = line_fields(object) else {
-        return Ok(None);
-    };
-    Ok(Some(ReceiptLine {
-        item: Code::of(alloc, fields.item)?,
-        store: Code::of(alloc, fields.store)?,
-        qty: Qty(fields.qty),
-        amount: Minor(fields.amount as i64),
-    }))
 }
 
 #[cfg(test)]
 mod tests {
     use super::*;
     use std::test::Fail;
+    use stock_model::vouchers::{IssueLine, ReceiptLine};
 
     /// The fields of a request, in words.
     fn told(alloc: Global, request: &Request) -> Result<String, Fail> {
@@ -169,14 +148,28 @@ mod tests {
                 }
                 Ok(text)
             }
+            Request::Post(What::Issue { at, purpose, lines }) => {
+                let mut text = format!(in alloc; "issue {} {} {purpose:?}", at.date, at.second)?;
+                for line in lines.as_slice() {
+                    text.push_str(told_goods(alloc, line)?.as_str())?;
+                }
+                Ok(text)
+            }
             Request::Settle => Ok(String::from_str(alloc, "settle")?),
-            Request::Report(query) => Ok(format!(in alloc; "report {:?}", query.sheet)?),
+            Request::Report(query) => {
+                Ok(format!(in alloc; "report {:?} {}", query.sheet, query.need.0)?)
+            }
         }
     }
 
     fn told_line(alloc: Global, line: &ReceiptLine) -> Result<String, Fail> {
         let (item, store) = (line.item.text(), line.store.text());
         Ok(format!(in alloc; ", {item} {store} {} {}", line.qty.0, line.amount.0)?)
+    }
+
+    fn told_goods(alloc: Global, line: &IssueLine) -> Result<String, Fail> {
+        let (item, store) = (line.item.text(), line.store.text());
+        Ok(format!(in alloc; ", {item} {store} {}", line.qty.0)?)
     }
 
     fn read(alloc: Global, line: &[u8]) -> Result<String, Fail> {
@@ -199,10 +192,26 @@ mod tests {
             ),
             (r#"{"do":"settle"}"#, "settle"),
             (r#"{"do":"fly","do":"settle"}"#, "settle"),
-            (r#"{"of":"balance","do":"report"}"#, "report Balance"),
+            (r#"{"of":"balance","do":"report"}"#, "report Balance 0"),
+            (
+                r#"{"of":"balance","do":"report","need":0}"#,
+                "report Balance 0",
+            ),
+            (
+                r#"{"of":"balance","do":"report","need":4294967295}"#,
+                "report Balance 4294967295",
+            ),
             (
                 r#"{"do":"receipt","at":"2026-01-03T07:08:09","lines":[{"item":"B","store":"W1","qty":1,"amount":0},{"item":"C","store":"W2","qty":1000000000,"amount":1000000000000}]}"#,
                 "receipt 20260103 25689, B W1 1 0, C W2 1000000000 1000000000000",
+            ),
+            (
+                r#"{"do":"issue","at":"2026-01-03T07:08:09","use":"used","lines":[{"item":"B","store":"W1","qty":1},{"item":"C","store":"W2","qty":1000000000}]}"#,
+                "issue 20260103 25689 Used, B W1 1, C W2 1000000000",
+            ),
+            (
+                r#"{"do":"issue","at":"2026-01-03T07:08:09","use":"sold","lines":[{"item":"B","store":"W1","qty":5}]}"#,
+                "issue 20260103 25689 Sold, B W1 5",
             ),
         ];
         for (line, want) in table {
@@ -226,6 +235,13 @@ mod tests {
             r#"{"do":"settle","now":true}"#,
             r#"{"do":"settle"} {}"#,
             r#"{"do":"report","of":"balance","at":"2026-01-01T00:00:00"}"#,
+            r#"{"do":"report","of":"balance","need":4294967296}"#,
+            r#"{"do":"report","of":"balance","need":1.0}"#,
+            r#"{"do":"report","need":1}"#,
+            r#"{"do":"issue","at":"2026-01-01T00:00:00","use":"sold","lines":[]}"#,
+            r#"{"do":"issue","at":"2026-01-01T00:00:00","use":"lost","lines":[{"item":"B","store":"W1","qty":1}]}"#,
+            r#"{"do":"issue","at":"2026-01-01T00:00:00","lines":[{"item":"B","store":"W1","qty":1}]}"#,
+            r#"{"do":"issue","at":"2026-01-01T00:00:00","use":"sold","lines":[{"item":"B","store":"W1","qty":1,"amount":1}]}"#,
             r#"{"do":"receipt","at":"2026-01-01T00:00:00","lines":[]}"#,
             r#"{"do":"receipt","at":"2026-02-29T00:00:00","lines":[{"item":"B","store":"W1","qty":1,"amount":1}]}"#,
         ];

@@ -1,15 +1,21 @@
 //! The texts of the replies.
-ghost use Rattle.std.specs.Prelude.{◌≡◌, map, IfOk};
+ghost use Rattle.std.specs.Prelude.{◌≡◌, map, IfOk, string_bytes};
 ghost use Rattle.serde_json.specs.View.{view};
+ghost use Rattle.stock_nums.specs.MomentText.{moment_text};
 ghost use Rattle.stock_model.specs.declared.replies.Reply.{Reply};
-ghost use Rattle.voucher_json.specs.ReplyText.{refusal_data, row_data, reply_data, reply_text, IsTold, IsPrinted};
+ghost use Rattle.voucher_json.specs.ReplyText.{refusal_data, short_data, row_data, reply_data, reply_text, IsTold, IsPrinted};
 
 use serde_json::{Value, json};
 use std::alloc::{AllocError, Global};
 use stock_model::faults::PostFault;
 use stock_model::replies::{BalanceRow, Reply};
+use stock_nums::code::Code;
 use stock_nums::lines::Lines;
 use stock_nums::memory::NoMemory;
+use stock_nums::moment::Moment;
+use stock_nums::moment_text::moment_text;
+use stock_nums::numbers::{Qty, RecordNo};
+use stock_nums::place::Place;
 
 const BAD_REPLY: &[u8] =
     b"{\"fault\":\"bad-field\",\"field\":\"request\",\"line\":0,\"status\":\"bad\"}";
@@ -38,6 +44,14 @@ fn reply_value(alloc: Global, reply: &Reply) -> Result<Value, AllocError>
     match reply {
         Reply::Accepted(number) => json!(in alloc; {"record": number.0, "status": "accepted"}),
         Reply::Refused(fault) => refusal_value(alloc, *fault),
+        Reply::Short {
+            place,
+            item,
+            store,
+            lacking,
+        } => short_value(alloc, *place, item, store, *lacking),
+        Reply::Pending { covered, wanted } => pending_value(alloc, *covered, *wanted),
+        Reply::NoSuchRecord { accepted, wanted } => missing_value(alloc, *accepted, *wanted),
         Reply::Settled(covered) => json!(in alloc; {"covered": covered.0, "status": "settled"}),
         Reply::Balance { covered, rows } => {
             let rows = rows_value(alloc, rows.as_slice())?;
@@ -65,8 +79,55 @@ fn refusal_value(alloc: Global, fault: PostFault) -> Result<Value, AllocError>
         PostFault::Full { records, entries } => {
             json!(in alloc; {"entries": entries, "fault": "full", "records": records, "status": "refused"})
         }
-        PostFault::NoMemory => unreachable!(),
+        PostFault::Short { .. } | PostFault::NoMemory => unreachable!(),
     }
+}
+
+/// The JSON value of a shortage.
+fn short_value(
+    alloc: Global,
+    place: Place,
+    item: &Code,
+    store: &Code,
+    lacking: Qty,
+) -> Result<Value, AllocError>
+    ensures { IfOk result (λ value. view value ≡ short_data place item.now store.now lacking.0) }
+{
+    let at = moment_string(alloc, place.moment)?;
+    json!(in alloc; {
+        "at": at,
+        "fault": "short",
+        "item": item.text(),
+        "lacking": lacking.0,
+        "line": place.line,
+        "record": place.voucher.0,
+        "status": "refused",
+        "store": store.text()
+    })
+}
+
+/// The text of a moment. It is ASCII, so nothing of it is lost.
+fn moment_string(alloc: Global, moment: Moment) -> Result<String, AllocError>
+    ensures { IfOk result (λ text. string_bytes text ≡ moment_text moment) }
+{
+    let Ok(text) = moment_text(alloc, moment) else {
+        return Err(AllocError);
+    };
+    String::from_utf8_lossy(alloc, text.as_slice())
+}
+
+/// The JSON value of the reply that the wanted record is not covered yet.
+fn pending_value(alloc: Global, covered: RecordNo, wanted: RecordNo) -> Result<Value, AllocError>
+    ensures { IfOk result (λ value. view value ≡ reply_data (Reply.Pending covered wanted)) }
+{
+    json!(in alloc; {"covered": covered.0, "need": wanted.0, "status": "pending"})
+}
+
+/// The JSON value of the reply that there is no such record as the wanted one.
+fn missing_value(alloc: Global, accepted: RecordNo, wanted: RecordNo) -> Result<Value, AllocError>
+    ensures { IfOk result (λ value. view value ≡ reply_data (Reply.NoSuchRecord accepted wanted)) }
+{
+    json!(in alloc; {"accepted": accepted.0, "need": wanted.0, "status": "no-such-record"})
 }
 
 /// The JSON values of the rows of a balance sheet.
@@ -97,8 +158,8 @@ mod tests {
     use super::*;
     use std::process::Abort;
     use std::test::Fail;
-    use stock_nums::code::Code;
-    use stock_nums::numbers::{Minor, Qty, RecordNo};
+    use stock_nums::numbers::Minor;
+    use stock_nums::place::Side;
 
     fn check(rt: &impl Abort, alloc: Global, reply: &Reply, want: &str) -> Result<(), Fail>
         requires { IsPrinted reply.now }
@@ -122,6 +183,24 @@ mod tests {
             alloc,
             &Reply::Settled(RecordNo(7)),
             r#"{"covered":7,"status":"settled"}"#,
+        )?;
+        check(
+            &rt,
+            alloc,
+            &Reply::Pending {
+                covered: RecordNo(4),
+                wanted: RecordNo(5),
+            },
+            r#"{"covered":4,"need":5,"status":"pending"}"#,
+        )?;
+        check(
+            &rt,
+            alloc,
+            &Reply::NoSuchRecord {
+                accepted: RecordNo(6),
+                wanted: RecordNo(9),
+            },
+            r#"{"accepted":6,"need":9,"status":"no-such-record"}"#,
         )?;
         let bad = r#"{"fault":"bad-field","field":"request","line":0,"status":"bad"}"#;
         check(&rt, alloc, &Reply::Bad, bad)?;
@@ -162,6 +241,32 @@ mod tests {
             alloc,
             &full,
             r#"{"entries":4000,"fault":"full","records":44,"status":"refused"}"#,
+        )
+    }
+
+    #[test]
+    fn prints_a_shortage(rt: HostRuntime) -> Result<(), Fail> {
+        let alloc = rt.alloc();
+        let place = Place {
+            moment: Moment {
+                date: 20_260_105,
+                second: 32_400,
+            },
+            voucher: RecordNo(6),
+            line: 1,
+            side: Side::Leaves,
+        };
+        let short = Reply::Short {
+            place,
+            item: Code::of(alloc, "A")?,
+            store: Code::of(alloc, "W1")?,
+            lacking: Qty(1),
+        };
+        check(
+            &rt,
+            alloc,
+            &short,
+            r#"{"at":"2026-01-05T09:00:00","fault":"short","item":"A","lacking":1,"line":1,"record":6,"status":"refused","store":"W1"}"#,
         )
     }
 

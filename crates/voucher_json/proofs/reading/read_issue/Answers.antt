@@ -1,0 +1,4 @@
+use Rattle.voucher_json.proofs.reading.read_issue.Goals as goal
+
+pub returns-in_default-clause-none : goal.returns-in_default-clause-none
+returns-in_default-clause-none c = λ at purpose lines form. c.in_default.ensures.none form.text at purpose form.values form.members_are form.spells
