@@ -1,5 +1,5 @@
 -- The rows of the generation are the replay of the covered records.
-use Rattle.std.proofs.Common.{◌≡◌, ap, ◌∙◌, arith, refl, take}
+use Rattle.std.proofs.Common.{◌≡◌, ap, ◌∙◌, refl}
 use Rattle.generation_book.specs.State.{BookState}
 use Rattle.generation_book.specs.Book.{deeds}
 use Rattle.stock_model.specs.Answers.{selected}

@@ -1,10 +1,9 @@
 -- The faults in their order, and the line where there is none.
 use Rattle.std.proofs.Common.{◌≡◌, ◌+◌, ◌<◌, ◌≤◌, ◌⊎◌, List, [], ◌∷◌, ◌++◌, length, Some, None, inl, inr, sym, ap, ◌∙◌, subst, arith}
 use Rattle.stock_nums.specs.declared.entry.Entry.{Entry}
-use Rattle.stock_model.specs.declared.records.Record.{Record}
 use Rattle.stock_model.specs.Enough.{shortage}
 use Rattle.stock_model.specs.Entries.{entries, all_entries}
-use Rattle.stock_model.specs.Faults.{max_records, max_entries, fault, short_of}
+use Rattle.stock_model.specs.Faults.{max_records, max_entries}
 use Rattle.stock_model.specs.PostingOrder.{posting_line}
 use Rattle.stock_model.proofs.Growth.{length-posting_line}
 use Rattle.generation_book.specs.State.{BookState}

@@ -1,5 +1,5 @@
 -- A record without a fault is kept.
-use Rattle.std.proofs.Common.{◌≡◌, [], ◌∷◌, ◌++◌, length-append, sym, ap, ◌∙◌, subst, arith, length, None, List}
+use Rattle.std.proofs.Common.{◌≡◌, [], ◌∷◌, ◌++◌, length-append, ap, ◌∙◌, subst, arith, length, None, List}
 use Rattle.stock_model.specs.declared.records.Record.{Record}
 use Rattle.stock_model.specs.Faults.{fault}
 use Rattle.stock_model.specs.History as history
