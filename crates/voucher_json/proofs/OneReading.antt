@@ -19,7 +19,7 @@ use Rattle.stock_model.specs.declared.vouchers.Purpose.TheVariants.{Sold, Used}
 use Rattle.stock_model.specs.declared.vouchers.ReceiptLine.{ReceiptLine}
 use Rattle.stock_model.specs.declared.vouchers.What.{What}
 use Rattle.stock_model.specs.declared.vouchers.What.TheVariants.{Item, Store, Receipt, Issue}
-use Rattle.voucher_json.specs.FirstForm.{IsReceiptLine, IsIssueLine, AreLines, purpose_text, settle_members, IsStoreForm, IsReceiptForm, IsIssueForm, IsWhatForm, IsBalanceForm, IsReportForm, IsRequestForm, IsRequest}
+use Rattle.voucher_json.specs.FirstForm.{IsReceiptLine, IsIssueLine, AreLines, AreVoucherLines, purpose_text, settle_members, IsStoreForm, IsReceiptForm, IsIssueForm, IsWhatForm, IsBalanceForm, IsReportForm, IsRequestForm, IsRequest}
 use denote.Struct.Props.{props}
 
 -- values made of the same number, each with a fact that holds in one way only, are the same
@@ -96,15 +96,21 @@ one_store form code other a b is_a is_b =
     let account_is = account-same a b number_is in
     cc
 
+-- the same text and the same values are the same moment and the same lines
+one_voucher : {Line : Type 0} (is_line : Data → Line → Type 0) → ((value : Data) (a b : Line) → is_line value a → is_line value b → a ≡ b)
+    → (text other : List ℕ) (values more : Items) (at until : Moment) (a b : List Line) → text ≡ other → values ≡ more → SpellsMoment text at → SpellsMoment other until
+    → AreVoucherLines is_line values a → AreVoucherLines is_line more b → (at ≡ until) × (a ≡ b)
+one_voucher is_line one text other values more at until a b text_is values_are spells_a spells_b are_a are_b =
+    let P : List ℕ → Type 0 = λ text. SpellsMoment text at in
+    let Q : Items → Type 0 = λ values. AreLines is_line values a in
+    (one_moment other at until (subst P text_is spells_a) spells_b, one_list is_line one more a b (subst Q values_are are_a.each) are_b.each)
+
 -- members are at most one receipt
 one_receipt : (form : Members) (at until : Moment) (a b : List ReceiptLine) → IsReceiptForm form at a → IsReceiptForm form until b → Receipt at a ≡ Receipt until b
 one_receipt form at until a b is_a is_b =
     let text_is : is_a.text ≡ is_b.text = cc in
     let values_are : is_a.values ≡ is_b.values = cc in
-    let P : List ℕ → Type 0 = λ text. SpellsMoment text at in
-    let Q : Items → Type 0 = λ values. AreLines IsReceiptLine values a in
-    let moment_is = one_moment is_b.text at until (subst P text_is is_a.spells) is_b.spells in
-    let lines_are = one_list IsReceiptLine one_receipt_line is_b.values a b (subst Q values_are is_a.lines_are.each) is_b.lines_are.each in
+    let same = one_voucher IsReceiptLine one_receipt_line _ _ _ _ at until a b text_is values_are is_a.spells is_b.spells is_a.lines_are is_b.lines_are in
     cc
 
 -- texts that begin with different bytes are different
@@ -124,11 +130,8 @@ one_issue form at until p q a b is_a is_b =
     let text_is : is_a.text ≡ is_b.text = cc in
     let values_are : is_a.values ≡ is_b.values = cc in
     let spelled : purpose_text p ≡ purpose_text q = cc in
-    let P : List ℕ → Type 0 = λ text. SpellsMoment text at in
-    let Q : Items → Type 0 = λ values. AreLines IsIssueLine values a in
-    let moment_is = one_moment is_b.text at until (subst P text_is is_a.spells) is_b.spells in
     let purpose_is = one_purpose p q spelled in
-    let lines_are = one_list IsIssueLine one_issue_line is_b.values a b (subst Q values_are is_a.lines_are.each) is_b.lines_are.each in
+    let same = one_voucher IsIssueLine one_issue_line _ _ _ _ at until a b text_is values_are is_a.spells is_b.spells is_a.lines_are is_b.lines_are in
     cc
 
 -- members say at most one thing

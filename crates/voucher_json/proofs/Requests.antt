@@ -16,20 +16,20 @@ needs_balance : (form : Members) (sheet : Sheet) (need : ℕ) → IsReportForm f
 needs_balance form Balance need is = is
 
 -- members that do none of the three things are no request
-no_deed : (form : Members) → (form ≡ settle_members → ⊥) → ((need : ℕ) → IsBalanceForm form need → ⊥) → ((what : What) → IsWhatForm form what → ⊥)
+no_request : (form : Members) → (form ≡ settle_members → ⊥) → ((need : ℕ) → IsBalanceForm form need → ⊥) → ((what : What) → IsWhatForm form what → ⊥)
     → (request : Request) → IsRequestForm form request → ⊥
-no_deed form settles reports posts (Post what) is = posts what is
-no_deed form settles reports posts Settle is = settles is
-no_deed form settles reports posts (Report query) is = reports query.need.0 (needs_balance form query.sheet query.need.0 is)
+no_request form settles reports posts (Post what) is = posts what is
+no_request form settles reports posts Settle is = settles is
+no_request form settles reports posts (Report query) is = reports query.need.0 (needs_balance form query.sheet query.need.0 is)
 
--- nor is a value with such members
+-- nor is a value that has them
 pub no_form : (value : Data) (members : Members) → Some members ≡ as_object value → (members ≡ settle_members → ⊥) → ((need : ℕ) → IsBalanceForm members need → ⊥)
     → ((what : What) → IsWhatForm members what → ⊥) → (request : Request) → IsFormOf value request → ⊥
 no_form value members is settles reports posts request form =
     let read : Some members ≡ Some form.0 = is ∙ ap as_object form.1 in
     let same : form.0 ≡ members = cc in
     let P : Members → Type 0 = λ ms. IsRequestForm ms request in
-    no_deed members settles reports posts request (subst P same form.2)
+    no_request members settles reports posts request (subst P same form.2)
 
 not_request : (line : List ℕ) (value : Data) → read line ≡ Some value → ((request : Request) → IsFormOf value request → ⊥) → (request : Request) → IsRequest line request → ⊥
 not_request line value is none request asked =

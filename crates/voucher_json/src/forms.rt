@@ -118,7 +118,7 @@ pub struct Goods<'a> {
 }
 
 /// The goods of a line, if the remaining members are those of goods.
-fn last_goods<'a>(members: &mut Iter<'a, String, Value>) -> Option<Goods<'a>>
+pub fn last_goods<'a>(members: &mut Iter<'a, String, Value>) -> Option<Goods<'a>>
     ensures some { IfSome result (λ goods. members_view members.old ≡ goods_members goods.item.now goods.qty goods.store.now) }
     ensures codes { IfSome result (λ goods. IsTrue (is_code goods.item.now) × IsTrue (is_code goods.store.now)) }
     ensures qty { IfSome result (λ goods. IsLineQuantity goods.qty) }
@@ -132,16 +132,6 @@ fn last_goods<'a>(members: &mut Iter<'a, String, Value>) -> Option<Goods<'a>>
     } else {
         None
     }
-}
-
-/// The goods of an issue's line, if this is one.
-pub fn issue_line_fields<'a>(object: &'a Map<String, Value>) -> Option<Goods<'a>>
-    ensures some { IfSome result (λ goods. members_view object.now.entries ≡ goods_members goods.item.now goods.qty goods.store.now) }
-    ensures codes { IfSome result (λ goods. IsTrue (is_code goods.item.now) × IsTrue (is_code goods.store.now)) }
-    ensures qty { IfSome result (λ goods. IsLineQuantity goods.qty) }
-    ensures none { IfNone result ((item : List ℕ) (qty : ℕ) (store : List ℕ) → members_view object.now.entries ≡ goods_members item qty store → IsTrue (is_code item) → IsLineQuantity qty → IsTrue (is_code store) → ⊥) }
-{
-    last_goods(&mut object.iter())
 }
 
 /// The amount, from 0 to 10^12 minor units, and the goods of a receipt's line, if this is one.

@@ -1,10 +1,10 @@
 //! The lines of a voucher.
-ghost use Rattle.std.specs.Prelude.{ℕ, List, IfSome, IfNone, IfOk};
+ghost use Rattle.std.specs.Prelude.{List, IfSome, IfNone, IfOk};
 ghost use Rattle.serde_json.specs.Data.{Data};
 ghost use Rattle.serde_json.specs.View.{view, items_view};
 ghost use Rattle.voucher_json.specs.FirstForm.{IsReceiptLine, IsIssueLine, AreVoucherLines};
 
-use crate::forms::{issue_line_fields, receipt_line_fields};
+use crate::forms::{last_goods, receipt_line_fields};
 use serde_json::Value;
 use std::alloc::Global;
 use stock_model::vouchers::{IssueLine, ReceiptLine};
@@ -52,7 +52,7 @@ impl VoucherLine for IssueLine {
         let Some(object) = value.as_object() else {
             return Ok(None);
         };
-        let Some(goods) = issue_line_fields(object) else {
+        let Some(goods) = last_goods(&mut object.iter()) else {
             return Ok(None);
         };
         Ok(Some(IssueLine {
