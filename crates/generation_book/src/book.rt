@@ -1,7 +1,7 @@
-ghost use Rattle.std.specs.Prelude.{◌≡◌, ◌⊎◌, ◌<◌, ◌≤◌, [], ◌∷◌, ◌++◌, IfOk, OnOk, OnErr, IfErr, Some, None};
+ghost use Rattle.std.specs.Prelude.{◌≡◌, ◌⊎◌, ◌<◌, ◌≤◌, [], ◌∷◌, ◌++◌, filter, IfOk, OnOk, OnErr, IfErr, Some, None};
 ghost use Rattle.std.specs.Option.{option_copied};
 ghost use Rattle.stock_model.specs.declared.deeds.Deed.TheVariants as deed;
-ghost use Rattle.stock_model.specs.Answers.{need_at, unmet_need, selected};
+ghost use Rattle.stock_model.specs.Answers.{need_at, unmet_need, is_later, is_until, selected};
 ghost use Rattle.stock_model.specs.Bounds.{AreBounded};
 ghost use Rattle.stock_model.specs.Faults.{fault, short_of};
 ghost use Rattle.stock_model.specs.History as history;
@@ -20,6 +20,7 @@ use stock_model::{masters, replay};
 use stock_nums::entry::{Entry, Row};
 use stock_nums::lines::Lines;
 use stock_nums::memory::NoMemory;
+use stock_nums::moment::Moment;
 use stock_nums::numbers::RecordNo;
 use voucher_kinds::journal::{Journal, MAX_RECORDS};
 
@@ -174,7 +175,7 @@ impl Book {
         ensures memory { IfErr result (λ f. f ≡ SelectFault.NoMemory) }
     {
         let records = self.journal.records();
-        let Ok(rows) = Vec::from_slice(alloc, self.rows.as_slice()) else {
+        let Ok(rows) = rows_until(alloc, self.rows.as_slice(), query.until) else {
             return Err(SelectFault::NoMemory);
         };
         let Ok(heads) = masters::heads(alloc, &records[..self.covered.0 as usize]) else {
@@ -182,7 +183,7 @@ impl Book {
         };
         Ok(Selected {
             covered: self.covered,
-            rows: Lines::from_vec(rows),
+            rows,
             heads,
         })
     }
@@ -221,6 +222,38 @@ fn merged(alloc: Global, line: &[Entry], entries: &[Entry]) -> Result<Lines<Entr
     Ok(all)
 }
 
+// The rows whose moment is not after this one, where there is one.
+fn rows_until(
+    alloc: Global,
+    rows: &[Row],
+    until: Option<Moment>,
+) -> Result<Lines<Row>, NoMemory>
+    ensures { IfOk result (λ kept. kept ≡ filter (is_until until) rows.now) }
+{
+    let mut kept = Lines::new(alloc);
+    for row in rows {
+        if is_until(until, row) {
+            kept.push(*row)?;
+        }
+    }
+    Ok(kept)
+}
+
+fn is_until(until: Option<Moment>, row: &Row) -> bool
+    ensures { result ≡ is_until until row.now }
+{
+    match until {
+        Some(until) => !is_later(row.entry.place.moment, until),
+        None => true,
+    }
+}
+
+fn is_later(a: Moment, b: Moment) -> bool
+    ensures { result ≡ is_later a b }
+{
+    a > b
+}
+
 fn short_of(shortage: Shortage) -> PostFault
     ensures { result ≡ short_of shortage }
 {
@@ -240,7 +273,6 @@ mod tests {
     use stock_model::vouchers::{IssueLine, Purpose, ReceiptLine, What};
     use stock_nums::cause::Method;
     use stock_nums::code::Code;
-    use stock_nums::moment::Moment;
     use stock_nums::numbers::{AccountNo, DeskNo, Minor, Qty};
 
     fn item(alloc: Global) -> Result<Record, NoMemory> {
@@ -323,6 +355,9 @@ mod tests {
         let query = Query {
             sheet: Sheet::Balance,
             need: RecordNo(0),
+            until: None,
+            item: None,
+            store: None,
         };
         book.select(alloc, &query)
     }
@@ -369,6 +404,9 @@ mod tests {
             book.test(&Query {
                 sheet: Sheet::Balance,
                 need: RecordNo(number),
+                until: None,
+                item: None,
+                store: None,
             })
         })
     }

@@ -8,3 +8,4 @@ pub mod Enough
 pub mod Holdings
 pub mod VoucherLines
 pub mod Valuation
+pub mod Until

@@ -1,5 +1,8 @@
 -- What is answered at a point of the history. Every answer is a function of the history and the request.
-use Rattle.std.specs.Prelude.{◌+◌, ◌≡◌, List, ◌∷◌, [], ◌++◌, nat_le, if◌then◌else◌, Option, Some, None, MatchOption}
+use Rattle.std.specs.Prelude.{◌+◌, ◌≡◌, Bool, true, not, List, ◌∷◌, [], ◌++◌, filter, nat_lt, nat_le, if◌then◌else◌, Option, Some, None, MatchOption}
+use Rattle.stock_nums.specs.Places.{first_by}
+use Rattle.stock_nums.specs.declared.entry.Row.{Row}
+use Rattle.stock_nums.specs.declared.moment.Moment.{Moment}
 use Rattle.stock_nums.specs.declared.numbers.RecordNo.{RecordNo}
 use Rattle.stock_model.specs.declared.records.Record.{Record}
 use Rattle.stock_model.specs.declared.deeds.Deed.{Deed}
@@ -15,17 +18,31 @@ use Rattle.stock_model.specs.declared.queries.SelectFault.TheVariants as unmet
 use Rattle.stock_model.specs.declared.faults.PostFault.{PostFault}
 use Rattle.stock_model.specs.declared.faults.PostFault.TheVariants as fault_of
 use Rattle.stock_model.specs.declared.replies.Reply.{Reply}
-use Rattle.stock_model.specs.declared.replies.Reply.TheVariants.{Accepted, Refused, Short, Pending, NoSuchRecord, Balance}
+use Rattle.stock_model.specs.declared.replies.Reply.TheVariants.{Accepted, Refused, Short, Pending, NoSuchRecord, Balance, StoreFailed, MemoryFailed}
 use Rattle.stock_model.specs.Masters.{heads, code_at}
 use Rattle.stock_model.specs.Replay.{replay}
 use Rattle.stock_model.specs.Faults.{fault}
 use Rattle.stock_model.specs.History.{records, accepted, covered, covered_records}
 use Rattle.stock_model.specs.Sheets.{balance}
 
--- what a report is made from: the replay of the covered records, and their items and warehouses
+-- the first moment is after the second
+abbrev pub is_later : Moment → Moment → Bool
+is_later a b = first_by b.date a.date (nat_lt b.second a.second)
+
+-- the movement's moment is not after this one, where there is one
+abbrev pub is_until : Option Moment → Row → Bool
+is_until None row = true
+is_until (Some until) row = not (is_later row.entry.place.moment until)
+
+-- what a report is made from: the replay of the covered records up to the last moment that is asked for, and the
+-- items and warehouses of these records
 unfoldable pub selected : List Deed → Query → Selected
 selected history query =
-    record { covered = record { 0 = covered history }; rows = replay (covered_records history); heads = heads (covered_records history) }
+    record {
+      covered = record { 0 = covered history };
+      rows = filter (is_until query.until) (replay (covered_records history));
+      heads = heads (covered_records history);
+    }
 
 -- the record that a report has to cover, 0 for none
 abbrev pub need_of : Query → RecordNo
@@ -46,12 +63,12 @@ unmet_need need.Ready = None
 unmet_need (need.Pending covered wanted) = Some (unmet.Pending covered wanted)
 unmet_need (need.NoSuchRecord accepted wanted) = Some (unmet.NoSuchRecord accepted wanted)
 
-abbrev pub sheet_reply : Sheet → Selected → Reply
-sheet_reply sheet.Balance chosen = Balance chosen.covered (balance chosen)
+abbrev pub sheet_reply : Query → Sheet → Selected → Reply
+sheet_reply query sheet.Balance chosen = Balance chosen.covered (balance query chosen)
 
 -- the answer to a report whose need is so met
 abbrev pub report_by : Need → List Deed → Query → Reply
-report_by need.Ready history query = sheet_reply query.sheet (selected history query)
+report_by need.Ready history query = sheet_reply query query.sheet (selected history query)
 report_by (need.Pending covered wanted) history query = Pending covered wanted
 report_by (need.NoSuchRecord accepted wanted) history query = NoSuchRecord accepted wanted
 
@@ -62,11 +79,20 @@ report history query = report_by (need_at history query) history query
 -- the answer to a record with this fault: where it is short, the item and the warehouse are told by their codes
 abbrev pub refusal : List Record → PostFault → Reply
 refusal journal fault_of.CodeTaken = Refused fault_of.CodeTaken
+refusal journal fault_of.CodeShape = Refused fault_of.CodeShape
+refusal journal fault_of.AccountRange = Refused fault_of.AccountRange
 refusal journal (fault_of.UnknownItem line) = Refused (fault_of.UnknownItem line)
 refusal journal (fault_of.UnknownStore line) = Refused (fault_of.UnknownStore line)
+refusal journal (fault_of.SameStore line) = Refused (fault_of.SameStore line)
+refusal journal (fault_of.UnknownTarget line) = Refused (fault_of.UnknownTarget line)
+refusal journal (fault_of.LinkLater line) = Refused (fault_of.LinkLater line)
+refusal journal (fault_of.RepeatedTarget line) = Refused (fault_of.RepeatedTarget line)
+refusal journal (fault_of.OverReturn line asked left) = Refused (fault_of.OverReturn line asked left)
+refusal journal fault_of.NoBasis = Refused fault_of.NoBasis
 refusal journal (fault_of.Full records entries) = Refused (fault_of.Full records entries)
 refusal journal (fault_of.Short place item store lacking) = Short place (code_at journal item.0) (code_at journal store.0) lacking
-refusal journal fault_of.NoMemory = Refused fault_of.NoMemory
+refusal journal fault_of.KeeperFailed = StoreFailed
+refusal journal fault_of.NoMemory = MemoryFailed
 
 -- the answer to a record that is posted, and the history after it: refused for its first fault and nothing
 -- changed, or accepted under the next number and kept

@@ -1,8 +1,9 @@
 -- Why a record is refused: the first fault in the one order of faults, with its data.
-use Rattle.std.specs.Prelude.{ℕ, ◌+◌, Bool, ◌||◌, List, [], ◌∷◌, ◌++◌, length, map, nat_lt, nat_le, if◌then◌else◌, Option, Some, None, is_some, is_none}
+use Rattle.std.specs.Prelude.{ℕ, ◌+◌, Bool, ◌&&◌, ◌||◌, List, [], ◌∷◌, ◌++◌, length, map, nat_lt, nat_le, if◌then◌else◌, Option, Some, None, is_some, is_none}
 use Rattle.std.specs.Option.{option_map, option_or}
+use Rattle.stock_nums.specs.Codes.{is_code}
 use Rattle.stock_model.specs.declared.faults.PostFault.{PostFault}
-use Rattle.stock_model.specs.declared.faults.PostFault.TheVariants.{CodeTaken, UnknownItem, UnknownStore, Full, Short}
+use Rattle.stock_model.specs.declared.faults.PostFault.TheVariants.{CodeTaken, CodeShape, AccountRange, UnknownItem, UnknownStore, Full, Short}
 use Rattle.stock_model.specs.declared.vouchers.What.{What}
 use Rattle.stock_model.specs.declared.vouchers.What.TheVariants.{Item, Store, Receipt, Issue}
 use Rattle.stock_model.specs.declared.vouchers.ReceiptLine.{ReceiptLine}
@@ -66,6 +67,20 @@ code_taken journal (Store code account) = if is_some (store_with journal code) t
 code_taken journal (Receipt at lines) = None
 code_taken journal (Issue at purpose lines) = None
 
+-- the new code is not of the stated shape
+abbrev pub code_shape : What → Option PostFault
+code_shape (Item code method) = if is_code code then None else Some CodeShape
+code_shape (Store code account) = if is_code code then None else Some CodeShape
+code_shape (Receipt at lines) = None
+code_shape (Issue at purpose lines) = None
+
+-- the new warehouse's account is not from 100 to 9999
+abbrev pub account_range : What → Option PostFault
+account_range (Item code method) = None
+account_range (Store code account) = if nat_le 100 account.0 && nat_le account.0 9999 then None else Some AccountRange
+account_range (Receipt at lines) = None
+account_range (Issue at purpose lines) = None
+
 -- a line names an item that there is not
 abbrev pub unknown_item : List Record → What → Option PostFault
 unknown_item journal what = option_map UnknownItem (first_line (lacks_item journal) 1 (item_codes what))
@@ -76,7 +91,8 @@ unknown_store journal what = option_map UnknownStore (first_line (lacks_store jo
 
 -- the faults of what the record says, whatever room there is
 abbrev pub voucher_fault : List Record → What → Option PostFault
-voucher_fault journal what = option_or (code_taken journal what) (option_or (unknown_item journal what) (unknown_store journal what))
+voucher_fault journal what =
+    option_or (code_taken journal what) (option_or (code_shape what) (option_or (account_range what) (option_or (unknown_item journal what) (unknown_store journal what))))
 
 -- there is no room for the record or its movements
 abbrev pub full : List Record → Record → Option PostFault

@@ -1,12 +1,13 @@
 -- A run over the lines of an input: each line has one reply, the answer at its point of one history.
-use Rattle.std.specs.Prelude.{ℕ, ◌≡◌, ◌⊎◌, List, [], ◌∷◌, ◌++◌}
+use Rattle.std.specs.Prelude.{ℕ, ◌≡◌, ◌<◌, ◌≤◌, ◌⊎◌, Result, Ok, Err, length, List, [], ◌∷◌, ◌++◌}
 use Rattle.stock_model.specs.declared.deeds.Deed.{Deed}
 use Rattle.stock_model.specs.declared.deeds.Deed.TheVariants.{Kept, Published}
+use Rattle.stock_model.specs.declared.read_faults.ReadFault.{ReadFault}
 use Rattle.stock_model.specs.declared.records.Record.{Record}
 use Rattle.stock_model.specs.declared.requests.Request.{Request}
 use Rattle.stock_model.specs.declared.requests.Request.TheVariants.{Post, Settle, Report}
 use Rattle.stock_model.specs.declared.replies.Reply.{Reply}
-use Rattle.stock_model.specs.declared.replies.Reply.TheVariants.{Settled, Bad}
+use Rattle.stock_model.specs.declared.replies.Reply.TheVariants.{Settled, Long, Bad}
 use Rattle.stock_model.specs.History.{accepted, covered}
 use Rattle.stock_model.specs.Answers.{report, IsPostAnswer}
 
@@ -39,14 +40,24 @@ Answers old (Post what) reply new = (item : Record) × (item.what ≡ what) × P
 Answers old Settle reply new = Settles old reply new
 Answers old (Report query) reply new = (reply ≡ report old query) × (new ≡ old)
 
--- One line, where reads says which request a line is: its answer, or Bad where it is none.
-abbrev pub Step : (List ℕ → Request → Type 0) → RunState → List ℕ → Reply → RunState → Type 0
+-- the most bytes that a line may have
+abbrev pub max_line : ℕ
+max_line = 65_536
+
+-- what a line of at most so many bytes is answered, where reads says which request it is, or why it is none
+abbrev pub IsRead : (List ℕ → Result Request ReadFault → Type 0) → RunState → List ℕ → Reply → RunState → Type 0
+IsRead reads old line reply new =
+    ((request : Request) × reads line (Ok request) × Answers old.history request reply new.history)
+    ⊎ ((f : ReadFault) × reads line (Err f) × (reply ≡ Bad f) × (new.history ≡ old.history))
+
+-- One line: a longer one is long.
+abbrev pub Step : (List ℕ → Result Request ReadFault → Type 0) → RunState → List ℕ → Reply → RunState → Type 0
 Step reads old line reply new =
-    ((request : Request) × reads line request × Answers old.history request reply new.history)
-    ⊎ (((request : Request) → reads line request → ⊥) × (reply ≡ Bad) × (new.history ≡ old.history))
+    ((max_line < length line) × (reply ≡ Long) × (new.history ≡ old.history))
+    ⊎ ((length line ≤ max_line) × IsRead reads old line reply new)
 
 -- the replies to the lines, one after another
-abbrev pub Run : (List ℕ → Request → Type 0) → RunState → List (List ℕ) → List Reply → RunState → Type 0
+abbrev pub Run : (List ℕ → Result Request ReadFault → Type 0) → RunState → List (List ℕ) → List Reply → RunState → Type 0
 Run reads old [] [] new = new ≡ old
 Run reads old (line ∷ lines) (reply ∷ replies) new = (mid : RunState) × Step reads old line reply mid × Run reads mid lines replies new
 Run reads old [] (reply ∷ replies) new = ⊥

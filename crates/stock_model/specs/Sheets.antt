@@ -1,11 +1,13 @@
 -- The sheets of a report, made from what was selected.
-use Rattle.std.specs.Prelude.{ℕ, Bool, ◌==◌, pos, List, [], ◌∷◌, map, fold, if◌then◌else◌, unwrap_or, nat_lt}
+use Rattle.std.specs.Prelude.{ℕ, Bool, true, ◌&&◌, ◌==◌, pos, Option, Some, None, List, [], ◌∷◌, map, filter, fold, nat_eq, if◌then◌else◌, unwrap_or, nat_lt}
 use Rattle.std.specs.Option.{option_map}
 use Rattle.std.specs.List.{find}
+use Rattle.std.specs.Cmp.Lexicographic.{pointwise}
 use Rattle.stock_nums.specs.Places.{first_by}
 use Rattle.stock_nums.specs.declared.entry.Key.{Key}
 use Rattle.stock_nums.specs.declared.entry.Row.{Row}
 use Rattle.stock_nums.specs.declared.head.Head.{Head}
+use Rattle.stock_model.specs.declared.queries.Query.{Query}
 use Rattle.stock_model.specs.declared.queries.Selected.{Selected}
 use Rattle.stock_model.specs.declared.replies.BalanceRow.{BalanceRow}
 use Rattle.stock_model.specs.Sums.{stock_units, stock_value}
@@ -49,5 +51,16 @@ balance_row heads rows key =
       value = record { 0 = pos (stock_value rows key) };
     }
 
-unfoldable pub balance : Selected → List BalanceRow
-balance selected = map (balance_row selected.heads selected.rows) (keys_of selected.rows)
+-- the code is the one that is asked for, where one is
+abbrev pub is_asked_code : Option (List ℕ) → List ℕ → Bool
+is_asked_code None code = true
+is_asked_code (Some asked) code = pointwise nat_eq code asked
+
+-- the key is of the item and the warehouse that are asked for
+abbrev pub is_asked_key : Query → List Head → Key → Bool
+is_asked_key query heads key = is_asked_code query.item (code_of heads key.item.0) && is_asked_code query.store (code_of heads key.store.0)
+
+-- a row for each item and warehouse with a movement that are asked for
+unfoldable pub balance : Query → Selected → List BalanceRow
+balance query selected =
+    map (balance_row selected.heads selected.rows) (filter (is_asked_key query selected.heads) (keys_of selected.rows))

@@ -1,5 +1,5 @@
 -- A first run, as an example: one item, one warehouse, one receipt.
-use Rattle.std.specs.Prelude.{ℕ, pos, List, [], ◌∷◌, refl}
+use Rattle.std.specs.Prelude.{ℕ, pos, List, [], ◌∷◌, None, refl}
 use Rattle.std.proofs.Common.{lit<, lit≤}
 use Rattle.stock_nums.specs.Calendar.{IsCalendarDate}
 use Rattle.stock_nums.specs.declared.cause.Method.TheVariants.{Average}
@@ -64,7 +64,7 @@ first_history = Kept item_b ∷ Kept store_w1 ∷ Kept (receipt_of (66 ∷ [])) 
 
 -- the balance sheet
 abbrev pub balance_sheet : Query
-balance_sheet = record { sheet = sheet.Balance; need = record { 0 = 0 } }
+balance_sheet = record { sheet = sheet.Balance; need = record { 0 = 0 }; until = None; item = None; store = None }
 
 -- W1 holds 10 units of B worth 1000
 abbrev pub ten_b : BalanceRow

@@ -1,5 +1,5 @@
 -- Issues by moving average, as an example: three units that cost 100 together, and are sold one a day.
-use Rattle.std.specs.Prelude.{ℕ, pos, List, [], ◌∷◌, ◌++◌, refl}
+use Rattle.std.specs.Prelude.{ℕ, pos, List, [], ◌∷◌, ◌++◌, None, refl}
 use Rattle.std.proofs.Common.{lit<, lit≤}
 use Rattle.stock_nums.specs.Calendar.{IsCalendarDate}
 use Rattle.stock_nums.specs.declared.moment.Moment.{Moment}
@@ -121,4 +121,4 @@ published records n = kept_all records ++ Published (record { 0 = n }) ∷ []
 
 -- the balance sheet that has to cover a record
 abbrev pub balance_of : ℕ → Query
-balance_of need = record { sheet = sheet.Balance; need = record { 0 = need } }
+balance_of need = record { sheet = sheet.Balance; need = record { 0 = need }; until = None; item = None; store = None }

@@ -7,6 +7,10 @@ use stock_nums::place::Place;
 pub enum PostFault {
     /// The new item's (warehouse's) code is that of an accepted item (warehouse).
     CodeTaken,
+    /// The new code is not 1 to 24 of `A-Z a-z 0-9 . _ -`.
+    CodeShape,
+    /// The new warehouse's account is not from 100 to 9999.
+    AccountRange,
     /// The line's item code is of no accepted item.
     UnknownItem {
         line: u32,
@@ -15,6 +19,30 @@ pub enum PostFault {
     UnknownStore {
         line: u32,
     },
+    /// The line moves goods within one warehouse. No record of today has such a line.
+    SameStore {
+        line: u32,
+    },
+    /// The line's target is no line of an accepted voucher of the right kind. No record of today has one.
+    UnknownTarget {
+        line: u32,
+    },
+    /// The record's moment is before that of the line's target. No record of today has one.
+    LinkLater {
+        line: u32,
+    },
+    /// An earlier line has the same target. No record of today has one.
+    RepeatedTarget {
+        line: u32,
+    },
+    /// More is asked to be returned than is left of the target. No record of today has one.
+    OverReturn {
+        line: u32,
+        asked: Qty,
+        left: Qty,
+    },
+    /// The weights of all targets sum to 0. No record of today has any.
+    NoBasis,
     /// 50,000 records are held, or the movements held and the new ones are more than 4,000. The numbers
     /// are those held.
     Full {
@@ -30,6 +58,8 @@ pub enum PostFault {
         store: StoreNo,
         lacking: Qty,
     },
+    /// The keeper failed. No book of today has one.
+    KeeperFailed,
     /// Memory was wanting. This can come at any time.
     NoMemory,
 }

@@ -11,6 +11,7 @@ pub mod masters;
 pub mod movements;
 pub mod posting;
 pub mod queries;
+pub mod read_faults;
 pub mod received;
 pub mod records;
 pub mod refusals;

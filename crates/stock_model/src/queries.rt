@@ -1,6 +1,8 @@
+use stock_nums::code::Code;
 use stock_nums::entry::Row;
 use stock_nums::head::Head;
 use stock_nums::lines::Lines;
+use stock_nums::moment::Moment;
 use stock_nums::numbers::RecordNo;
 
 /// Which sheet a report shows.
@@ -16,6 +18,12 @@ pub struct Query {
     pub sheet: Sheet,
     /// The record that the report has to cover. 0 asks for none.
     pub need: RecordNo,
+    /// The last moment whose movements are shown, or all of them.
+    pub until: Option<Moment>,
+    /// The code of the one item that is shown, or all.
+    pub item: Option<Code>,
+    /// The code of the one warehouse that is shown, or all.
+    pub store: Option<Code>,
 }
 
 /// Whether a report covers the record that it has to cover.

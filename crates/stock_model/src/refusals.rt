@@ -1,5 +1,6 @@
 //! Why a record is refused, whatever room there is.
-ghost use Rattle.std.specs.Prelude.{◌≡◌, ◌^◌, ◌<◌, ◌≤◌, length, map};
+ghost use Rattle.std.specs.Prelude.{◌≡◌, ◌^◌, ◌<◌, ◌≤◌, length, map, if◌then◌else◌, nat_le, ◌&&◌, Some, None};
+ghost use Rattle.stock_nums.specs.Codes.{is_code};
 ghost use Rattle.std.specs.Option.{option_map, option_or};
 ghost use Rattle.stock_model.specs.Faults.{first_line, lacks_item, lacks_store, voucher_fault};
 
@@ -8,16 +9,20 @@ use crate::masters::{item_with, store_with};
 use crate::records::Record;
 use crate::stock_lines::StockLine;
 use crate::vouchers::What;
+use stock_nums::code::Code;
+use stock_nums::numbers::AccountNo;
 
 /// The first fault of what a record says, read as the next one after these. It looks for a taken code,
-/// then for an unknown item, then for an unknown warehouse. None exactly where there is none.
+/// for a code and an account out of shape and range, for an unknown item, and for an unknown warehouse. None exactly where there is none.
 pub fn voucher_fault(records: &[Record], item: &Record) -> Option<PostFault>
     requires { length records.now < 2 ^ 32 }
     ensures { result ≡ voucher_fault records.now item.now.what }
 {
     match &item.what {
-        What::Item { code, method: _ } => item_with(records, code).map(|_| PostFault::CodeTaken),
-        What::Store { code, account: _ } => store_with(records, code).map(|_| PostFault::CodeTaken),
+        What::Item { code, method: _ } => code_fault(item_with(records, code).is_some(), code),
+        What::Store { code, account } => {
+            store_fault(store_with(records, code).is_some(), code, *account)
+        }
         What::Receipt { at: _, lines } => unknown_name(records, lines.as_slice()),
         What::Issue {
             at: _,
@@ -25,6 +30,32 @@ pub fn voucher_fault(records: &[Record], item: &Record) -> Option<PostFault>
             lines,
         } => unknown_name(records, lines.as_slice()),
     }
+}
+
+// The fault of a new code, which may be taken.
+fn code_fault(taken: bool, code: &Code) -> Option<PostFault>
+    ensures { result ≡ (if taken then Some PostFault.CodeTaken else (if is_code code.now then None else Some PostFault.CodeShape)) }
+{
+    if taken {
+        Some(PostFault::CodeTaken)
+    } else if code.is_well_formed() {
+        None
+    } else {
+        Some(PostFault::CodeShape)
+    }
+}
+
+// The fault of a new warehouse.
+fn store_fault(taken: bool, code: &Code, account: AccountNo) -> Option<PostFault>
+    ensures { result ≡ (if taken then Some PostFault.CodeTaken else (if is_code code.now then (if nat_le 100 account.0 && nat_le account.0 9999 then None else Some PostFault.AccountRange) else Some PostFault.CodeShape)) }
+{
+    if let Some(fault) = code_fault(taken, code) {
+        return Some(fault);
+    }
+    if account.0 < 100 || account.0 > 9999 {
+        return Some(PostFault::AccountRange);
+    }
+    None
 }
 
 // The first unknown item that the lines name, or else the first unknown warehouse.

@@ -1,4 +1,5 @@
 use crate::faults::PostFault;
+use crate::read_faults::ReadFault;
 use stock_nums::code::Code;
 use stock_nums::lines::Lines;
 use stock_nums::numbers::{Minor, Qty, RecordNo};
@@ -18,7 +19,7 @@ pub struct BalanceRow {
 pub enum Reply {
     /// The record was accepted under this number.
     Accepted(RecordNo),
-    /// The record was refused for this fault, which is neither `Short` nor want of memory.
+    /// The record was refused for this fault, which is neither `Short` nor one of the keeper or of memory.
     Refused(PostFault),
     /// The record was refused as `Short`: at this place more of the item leaves the warehouse than it has,
     /// by so many units. The item and the warehouse are told by their codes.
@@ -38,6 +39,8 @@ pub enum Reply {
         accepted: RecordNo,
         wanted: RecordNo,
     },
+    /// The reports cover this many records now, after some turns of a worker.
+    Worked(RecordNo),
     /// The reports cover this many records now: all that are accepted.
     Settled(RecordNo),
     /// The balance sheet of the first `covered` records.
@@ -45,6 +48,14 @@ pub enum Reply {
         covered: RecordNo,
         rows: Lines<BalanceRow>,
     },
-    /// The line is no request.
-    Bad,
+    /// The line has more than 65,536 bytes.
+    Long,
+    /// The line is no request, for this fault, which is not want of memory.
+    Bad(ReadFault),
+    /// The keeper failed, and nothing changed but what turns before had published.
+    StoreFailed,
+    /// Memory was wanting, and nothing changed.
+    MemoryFailed,
+    /// The bytes are no HTTP request.
+    Http,
 }

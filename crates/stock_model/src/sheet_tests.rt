@@ -7,7 +7,7 @@ ghost use Rattle.stock_model.specs.Limits.{is_within_limits};
 use crate::enough_laws::no_shortage_is_enough;
 use crate::masters::heads;
 use crate::posting::posting_line;
-use crate::queries::Selected;
+use crate::queries::{Query, Selected, Sheet};
 use crate::records::Record;
 use crate::replay::replay;
 use crate::sheets::balance;
@@ -118,7 +118,14 @@ fn a_receipt_of_the_day_before(rt: HostRuntime) -> Result<(), Fail> {
         rows,
         heads: heads(alloc, records.as_slice())?,
     };
-    let sheet = balance(alloc, &selected)?;
+    let query = Query {
+        sheet: Sheet::Balance,
+        need: RecordNo(0),
+        until: None,
+        item: Some(Code::of(alloc, "B")?),
+        store: None,
+    };
+    let sheet = balance(alloc, &query, &selected)?;
     assert_eq!(rt; sheet.len(), 1);
     let row = &sheet.as_slice()[0];
     assert_eq!(rt; row.item.text(), "B");

@@ -1,9 +1,9 @@
 //! The sheets of a report.
 ghost use Rattle.std.specs.Prelude.{◌≡◌, ◌≤◌, length, insert, IfOk, OnOk, OnErr, MatchOption, map};
 ghost use Rattle.stock_model.specs.Bounds.{AreBounded};
-ghost use Rattle.stock_model.specs.Sheets.{is_key_before, put_key, key_of, keys_of, code_of, balance_row, balance};
+ghost use Rattle.stock_model.specs.Sheets.{is_key_before, put_key, key_of, keys_of, code_of, balance_row, is_asked_code, is_asked_key, balance};
 
-use crate::queries::Selected;
+use crate::queries::{Query, Selected};
 use crate::replies::BalanceRow;
 use crate::sums::{stock_units, stock_value};
 use std::alloc::Global;
@@ -96,16 +96,43 @@ pub fn balance_row(
     })
 }
 
-/// The balance sheet: a row for each item and warehouse with a movement, by their numbers.
-pub fn balance(alloc: Global, selected: &Selected) -> Result<Lines<BalanceRow>, NoMemory>
+// Whether the code is the one that is asked for, where one is.
+fn is_asked_code(asked: &Option<Code>, code: &Code) -> bool
+    ensures { result ≡ is_asked_code asked.now code.now }
+{
+    match asked {
+        Some(asked) => code == asked,
+        None => true,
+    }
+}
+
+// Whether the key is of the item and the warehouse that are asked for.
+fn is_asked_key(alloc: Global, query: &Query, heads: &[Head], key: &Key) -> Result<bool, NoMemory>
+    ensures { IfOk result (λ asked. asked ≡ is_asked_key query.now heads.now key.now) }
+{
+    let item = code_of(alloc, heads, key.item.0)?;
+    let store = code_of(alloc, heads, key.store.0)?;
+    Ok(is_asked_code(&query.item, &item) && is_asked_code(&query.store, &store))
+}
+
+/// The balance sheet: a row for each item and warehouse with a movement that are asked for, by their
+/// numbers.
+pub fn balance(
+    alloc: Global,
+    query: &Query,
+    selected: &Selected,
+) -> Result<Lines<BalanceRow>, NoMemory>
     requires { AreBounded selected.now.rows }
-    ensures { IfOk result (λ rows. rows ≡ balance selected.now) }
+    ensures { IfOk result (λ rows. rows ≡ balance query.now selected.now) }
 {
     let rows = selected.rows.as_slice();
+    let heads = selected.heads.as_slice();
     let keys = keys_of(alloc, rows)?;
     let mut sheet = Lines::new(alloc);
     for key in keys.as_slice() {
-        sheet.push(balance_row(alloc, selected.heads.as_slice(), rows, key)?)?;
+        if is_asked_key(alloc, query, heads, key)? {
+            sheet.push(balance_row(alloc, heads, rows, key)?)?;
+        }
     }
     Ok(sheet)
 }
