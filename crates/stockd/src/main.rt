@@ -1,21 +1,10 @@
 //! `stockd`: a stock ledger. `stockd batch` answers the lines of standard input on standard output.
 #![tactic(auto)]
 
-mod answering;
-mod batch;
-mod blank;
-mod end;
-mod open_line;
-mod refusing;
-mod split;
-#[cfg(test)]
-mod tests;
-mod top;
-mod waiting;
-
 use std::env::Env;
 use std::process::ExitCode;
 use std::{env, io};
+use stock_cli::top;
 use stock_io::standard::{StdSink, StdSource};
 
 /// The words after the program's name.

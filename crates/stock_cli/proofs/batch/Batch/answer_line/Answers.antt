@@ -1,0 +1,11 @@
+-- The line is asked, and its one reply waits.
+use Rattle.std.proofs.Common.{sym, ◌∙◌}
+use Rattle.std.proofs.lemmas.Result.{on_ok_weaker}
+use Rattle.stock_cli.proofs.Batches.{AnswersLine-asked}
+use Rattle.stock_cli.proofs.batch.Batch.answer_line.Goals as goal
+
+pub returns-clause-answers : goal.returns-clause-answers
+returns-clause-answers c =
+    on_ok_weaker c.append_reply.result
+    (λ e line stands. AnswersLine-asked line _ _ _ _ c.in_ok-reply.reply (sym stands.blank ∙ c.if-self.false) (c.in_ok-reply.ensures.step line stands) e)
+    c.append_reply.ensures

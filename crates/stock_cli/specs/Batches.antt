@@ -1,0 +1,30 @@
+-- What a batch under way stands for.
+use Rattle.std.specs.Prelude.{ℕ, ◌≡◌, List, [], ◌++◌}
+use Rattle.std.specs.List.{flat_map}
+use Rattle.stock_model.specs.declared.replies.Reply.{Reply}
+use Rattle.stock_model.specs.History.{IsLegal}
+use Rattle.voucher_json.specs.ReplyText.{reply_line}
+use Rattle.stock_cli.specs.declared.batch.Batch.{Batch}
+use Rattle.stock_cli.specs.InputParts.{Parted}
+use Rattle.stock_cli.specs.OpenLines.{StandsForLine}
+use Rattle.stock_cli.specs.Replies.{RunsOver}
+
+-- these bytes were taken and this text was written: the whole lines are answered, by what was written and by
+-- what waits, and the open line stands for the rest
+pub record StandsFor (batch : Batch) (taken written : List ℕ) : Type 0 where
+  pub whole : List (List ℕ)
+  pub rest : List ℕ
+  pub replies : List Reply
+  pub parted : Parted taken whole rest
+  pub under_way : StandsForLine batch.line rest
+  pub run : RunsOver whole [] replies batch.book.history
+  pub legal : IsLegal batch.book.history
+  pub text_is : written ++ batch.waiting.items ≡ flat_map reply_line replies
+
+-- after these further bytes were taken, and nothing written
+abbrev pub GoesOn : Batch → List ℕ → Batch → Type 0
+GoesOn old piece new = (taken written : List ℕ) → StandsFor old taken written → StandsFor new (taken ++ piece) written
+
+-- after all that waited was written
+abbrev pub WritesOut : Batch → Batch → Type 0
+WritesOut old new = (taken written : List ℕ) → StandsFor old taken written → StandsFor new taken (written ++ old.waiting.items)

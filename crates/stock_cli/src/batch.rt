@@ -1,0 +1,96 @@
+use crate::answering::reply_to;
+use crate::open_line::OpenLine;
+use crate::split::split_line;
+use crate::waiting::append_reply;
+use generation_book::book::Book;
+use std::alloc::Global;
+use stock_io::failed::Failed;
+use stock_io::sink::{Sink, write_all};
+use stock_nums::memory::NoMemory;
+
+/// A batch under way: the book, the line under way, and the replies that wait to be written.
+#[derive(Drop)]
+pub struct Batch {
+    pub book: Book,
+    pub line: OpenLine,
+    pub waiting: Vec<u8>,
+}
+
+impl Batch {
+    ghost use Rattle.std.specs.Prelude.{◌≡◌, ℕ, List, [], ◌∷◌, ◌++◌, OnOk, OnErr};
+    ghost use Rattle.std.specs.Io.KnownBytes.{Appends};
+    ghost use Rattle.stock_io.specs.Counts.{Rose, NeverFalls};
+    ghost use Rattle.stock_io.specs.Streams.{AppendsFront};
+    ghost use Rattle.stock_model.specs.InputLines.{lines_of};
+    ghost use Rattle.stock_model.specs.History.{IsLegal};
+    ghost use Rattle.stock_cli.specs.OpenLines.{StandsForLine};
+    ghost use Rattle.stock_cli.specs.Replies.{Answered, AnswersLine};
+    ghost use Rattle.stock_cli.specs.Batches.{StandsFor, GoesOn, WritesOut};
+
+    /// The batch before its first byte.
+    pub fn start(alloc: Global) -> Batch
+        ensures stands { StandsFor result [] [] }
+        ensures nothing_waits { result.waiting.items ≡ [] }
+    {
+        Batch {
+            book: Book::start(alloc),
+            line: OpenLine::new(alloc),
+            waiting: Vec::new(alloc),
+        }
+    }
+
+    /// Takes the next bytes of the input, and answers each line that is whole now.
+    pub fn feed(&mut self, alloc: Global, piece: &[u8]) -> Result<(), NoMemory>
+        ensures { OnOk result (GoesOn self.old piece.now self.new) }
+    {
+        let mut rest = piece;
+        while let Some((line, after)) = split_line(rest) {
+            self.line.add(line)?;
+            self.end_line(alloc)?;
+            rest = after;
+        }
+        self.line.add(rest)?;
+        Ok(())
+    }
+
+    /// Takes the end of the input. A last line without a line feed is answered too.
+    pub fn end_input(&mut self, alloc: Global) -> Result<(), NoMemory>
+        ensures { OnOk result ((taken written : List ℕ) → StandsFor self.old taken written → Answered (lines_of taken) (written ++ self.new.waiting.items)) }
+    {
+        self.answer_line(alloc)
+    }
+
+    /// Writes the replies that wait.
+    pub fn write_out<O: Sink>(&mut self, output: &mut O) -> Result<(), Failed>
+        ensures stands { OnOk result (WritesOut self.old self.new) }
+        ensures nothing_waits { OnOk result (self.new.waiting.items ≡ []) }
+        ensures written { OnOk result (Appends (O.written output.old) (O.written output.new) self.old.waiting.items) }
+        ensures front { OnErr result (AppendsFront (O.written output.old) (O.written output.new) self.old.waiting.items) }
+        ensures never_falls { NeverFalls (O.faults output.old) (O.faults output.new) }
+        ensures cause { OnErr result (Rose (O.faults output.old) (O.faults output.new)) }
+    {
+        write_all(output, self.waiting.as_slice())?;
+        self.waiting.clear();
+        Ok(())
+    }
+
+    fn end_line(&mut self, alloc: Global) -> Result<(), NoMemory>
+        ensures { OnOk result (GoesOn self.old (10 ∷ []) self.new) }
+    {
+        self.answer_line(alloc)?;
+        self.line.clear();
+        Ok(())
+    }
+
+    /// Answers the line under way, unless it is blank.
+    fn answer_line(&mut self, alloc: Global) -> Result<(), NoMemory>
+        ensures answers { OnOk result ((line : List ℕ) → StandsForLine self.old.line line → AnswersLine line self.old.book.history self.new.book.history self.old.waiting.items self.new.waiting.items) }
+        ensures legal { OnOk result (IsLegal self.old.book.history → IsLegal self.new.book.history) }
+    {
+        if self.line.blank {
+            return Ok(());
+        }
+        let reply = reply_to(alloc, &mut self.book, &self.line)?;
+        append_reply(alloc, &mut self.waiting, &reply)
+    }
+}

@@ -1,0 +1,14 @@
+//! The command line: the lines of an input answered over a book, and how a run ends.
+#![tactic(auto)]
+
+mod answering;
+pub mod batch;
+mod blank;
+pub mod end;
+pub mod open_line;
+mod refusing;
+mod split;
+#[cfg(test)]
+mod tests;
+pub mod top;
+mod waiting;

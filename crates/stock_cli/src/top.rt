@@ -1,0 +1,166 @@
+//! The top call: what the words ask for, over an input, an output and notes.
+ghost use Rattle.std.specs.Prelude.{◌≡◌, ◌+◌, ◌^◌, ◌<◌, ◌⊎◌, ◌↔◌, ℕ, List, [], ◌∷◌, Contains, length, OnOk, OnErr, IfErr, IsTrue};
+ghost use Rattle.stock_io.specs.Counts.{Rose, NeverFalls};
+ghost use Rattle.stock_cli.specs.declared.end.End.{End};
+ghost use Rattle.stock_cli.specs.Batches.{StandsFor};
+ghost use Rattle.stock_cli.specs.Statuses.{IsBatch, status_of};
+ghost use Rattle.stock_cli.specs.Ran.{Ran, Steps, Stops, IsOutputEnd, IsLastEnd};
+
+use crate::batch::Batch;
+use crate::end::End;
+use std::alloc::Global;
+use stock_io::sink::{Sink, write_all};
+use stock_io::source::Source;
+
+/// The most bytes of input that a run takes.
+const MAX_INPUT: u64 = 1 << 32;
+
+/// The most bytes that a read takes.
+const BUFFER: usize = 65_536;
+
+/// What is noted where the words are none that this program knows.
+const USAGE: &str =
+    "stockd: words: batch [--file P] | serve --file P --port N --desks D | load N\n";
+
+/// Does what the words ask for, and answers the status. `batch` answers the lines of the input on the
+/// output; other words have status 2. A status other than 0 is told by a line of the notes.
+pub fn stockd<S: Source, O: Sink, N: Sink>(
+    alloc: Global,
+    words: &[String],
+    input: &mut S,
+    output: &mut O,
+    notes: &mut N,
+) -> u8
+    // The words are no batch exactly where the status is 2, and then nothing is taken or written.
+    ensures words { (result ≡ 2) ↔ (IsBatch words.now → ⊥) }
+    ensures nothing_taken { result ≡ 2 → input.new ≡ input.old }
+    ensures nothing_written { result ≡ 2 → output.new ≡ output.old }
+
+    // A batch ends in one of five ways, each with its status: what was read and written then, and why.
+    ensures run { IsBatch words.now → (end : End) × (result ≡ status_of end)
+        × Ran S.left S.taken S.faults O.written O.faults input.old input.new output.old output.new end }
+{
+    if !is_batch(words) {
+        note(notes, USAGE);
+        return 2;
+    }
+    let end = run(alloc, input, output);
+    note(notes, note_of(end));
+    status_of(end)
+}
+
+/// Tells that memory was wanting before the words were known, and answers the status of that.
+pub fn without_memory<N: Sink>(notes: &mut N) -> u8
+    ensures { result ≡ status_of End.NoMemory }
+{
+    note(notes, note_of(End::NoMemory));
+    status_of(End::NoMemory)
+}
+
+fn is_batch(words: &[String]) -> bool
+    ensures { IsTrue result ↔ IsBatch words.now }
+{
+    match words {
+        [word] => word.as_str() == "batch",
+        _ => false,
+    }
+}
+
+/// Writes a line to the notes. Whatever comes of it changes no status.
+fn note<N: Sink>(notes: &mut N, text: &str) {
+    let _ = write_all(notes, text.as_bytes());
+}
+
+fn note_of(end: End) -> &'static str {
+    match end {
+        End::Done => "",
+        End::NoMemory => "stockd: memory\n",
+        End::ReadFailed => "stockd: read failed\n",
+        End::WriteFailed => "stockd: write failed\n",
+        End::TooLong => "stockd: input too long\n",
+    }
+}
+
+fn status_of(end: End) -> u8
+    ensures { result ≡ status_of end }
+{
+    match end {
+        End::Done => 0,
+        End::NoMemory => 3,
+        End::ReadFailed => 4,
+        End::WriteFailed => 5,
+        End::TooLong => 8,
+    }
+}
+
+/// Answers the lines of the input on the output, over a new book.
+fn run<S: Source, O: Sink>(alloc: Global, input: &mut S, output: &mut O) -> End
+    ensures { Ran S.left S.taken S.faults O.written O.faults input.old input.new output.old output.new result }
+{
+    let Ok(mut buffer) = vec![in alloc; 0; BUFFER] else {
+        return End::NoMemory;
+    };
+    let mut batch = Batch::start(alloc);
+    pump(alloc, &mut batch, buffer.as_mut_slice(), input, output)
+}
+
+/// Takes the input in pieces. The replies to all whole lines of a piece are written before the next is read.
+fn pump<S: Source, O: Sink>(
+    alloc: Global,
+    batch: &mut Batch,
+    buffer: &mut [u8],
+    input: &mut S,
+    output: &mut O,
+) -> End
+    requires room { 0 < length buffer.old }
+    requires stands { StandsFor batch.old [] [] }
+    requires nothing_waits { batch.old.waiting.items ≡ [] }
+    ensures { Ran S.left S.taken S.faults O.written O.faults input.old input.new output.old output.new result }
+{
+    let mut taken = 0;
+    while taken < MAX_INPUT {
+        let room = (buffer.len() as u64).min(MAX_INPUT - taken) as usize;
+        let Ok(n) = input.read(&mut buffer[..room]) else {
+            return End::ReadFailed;
+        };
+        if n == 0 {
+            return finish(alloc, batch, output);
+        }
+        if let Err(end) = step(alloc, batch, &buffer[..n], output) {
+            return end;
+        }
+        taken += n as u64;
+    }
+    End::TooLong
+}
+
+/// Takes a piece of the input, and writes the replies to the lines that are whole now.
+fn step<O: Sink>(alloc: Global, batch: &mut Batch, piece: &[u8], output: &mut O) -> Result<(), End>
+    ensures steps { OnOk result (Steps O.written batch.old batch.new piece.now output.old output.new) }
+    ensures stops { IfErr result (Stops O.written batch.old piece.now output.old output.new) }
+    ensures never_falls { NeverFalls (O.faults output.old) (O.faults output.new) }
+    ensures cause { IfErr result (IsOutputEnd (O.faults output.old) (O.faults output.new)) }
+{
+    let Ok(()) = batch.feed(alloc, piece) else {
+        return Err(End::NoMemory);
+    };
+    let Ok(()) = batch.write_out(output) else {
+        return Err(End::WriteFailed);
+    };
+    Ok(())
+}
+
+/// Takes the end of the input, and writes the last reply.
+fn finish<O: Sink>(alloc: Global, batch: &mut Batch, output: &mut O) -> End
+    ensures stops { Stops O.written batch.old [] output.old output.new result }
+    ensures never_falls { NeverFalls (O.faults output.old) (O.faults output.new) }
+    ensures cause { IsLastEnd (O.faults output.old) (O.faults output.new) result }
+{
+    let Ok(()) = batch.end_input(alloc) else {
+        return End::NoMemory;
+    };
+    let Ok(()) = batch.write_out(output) else {
+        return End::WriteFailed;
+    };
+    End::Done
+}

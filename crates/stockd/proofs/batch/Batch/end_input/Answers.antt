@@ -1,6 +1,0 @@
--- The last line is answered.
-use Rattle.stockd.proofs.Batches.{Answered-end}
-use Rattle.stockd.proofs.batch.Batch.end_input.Goals as goal
-
-pub returns : goal.returns
-returns c = Answered-end c.args.self.now c.answer_line.new.self c.answer_line.result c.answer_line.ensures.answers c.answer_line.ensures.legal

@@ -1,7 +1,0 @@
--- The line under way is a whole line now, and answered.
-use Rattle.stockd.proofs.Batches.{StandsFor-ended}
-use Rattle.stockd.proofs.batch.Batch.end_line.Goals as goal
-
-pub returns : goal.returns
-returns c taken written stands =
-    StandsFor-ended c.args.self.now c.answer_line.new.self c.clear.new.self taken written c.in_ok-answer_line.ensures.answers c.in_ok-answer_line.ensures.legal c.clear.ensures stands
