@@ -11,7 +11,7 @@ use Rattle.stock_model.specs.declared.replies.Reply.{Reply}
 use Rattle.stock_model.specs.History.{IsLegal}
 use Rattle.stock_model.specs.InputLines.{is_asked, is_blank, lines_of, whole_lines_of}
 use Rattle.stock_model.specs.Run.{Step, Run}
-use Rattle.voucher_json.specs.FirstForm.{IsRequest}
+use Rattle.voucher_json.specs.Requests.{IsReadAs}
 use Rattle.voucher_json.specs.ReplyText.{reply_line}
 use Rattle.stock_cli.specs.declared.batch.Batch.{Batch}
 use Rattle.stock_cli.specs.declared.open_line.OpenLine.{OpenLine}
@@ -24,7 +24,7 @@ use Rattle.stock_cli.proofs.Runs.{Run-append}
 
 -- a line that is not blank is answered by its one reply
 pub AnswersLine-asked : (line : List ℕ) (old new : List Deed) (waiting after : List ℕ) (reply : Reply) → is_blank line ≡ false
-    → Step IsRequest (state_of old) line reply (state_of new) → after ≡ waiting ++ reply_line reply → AnswersLine line old new waiting after
+    → Step (IsReadAs false) (state_of old) line reply (state_of new) → after ≡ waiting ++ reply_line reply → AnswersLine line old new waiting after
 AnswersLine-asked line old new waiting after reply asked step is =
     record {
       replies = reply ∷ [];
@@ -34,9 +34,9 @@ AnswersLine-asked line old new waiting after reply asked step is =
 
 -- the run over some lines, and then over others
 RunsOver-append : (lines more : List (List ℕ)) (old mid new : List Deed) (replies others : List Reply) → RunsOver lines old replies mid → RunsOver more mid others new
-    → Run IsRequest (state_of old) (filter is_asked lines ++ filter is_asked more) (replies ++ others) (state_of new)
+    → Run (IsReadAs false) (state_of old) (filter is_asked lines ++ filter is_asked more) (replies ++ others) (state_of new)
 RunsOver-append lines more old mid new replies others first then =
-    Run-append IsRequest (state_of old) (state_of mid) (state_of new) (filter is_asked lines) (filter is_asked more) replies others first then
+    Run-append (IsReadAs false) (state_of old) (state_of mid) (state_of new) (filter is_asked lines) (filter is_asked more) replies others first then
 
 -- the text of more replies
 text-append : (written waiting after : List ℕ) (replies others : List Reply) → written ++ waiting ≡ flat_map reply_line replies

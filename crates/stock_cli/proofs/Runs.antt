@@ -1,6 +1,6 @@
 -- How a run goes on, and which answers make its steps.
 use Rattle.std.proofs.Common.{◌≡◌, ℕ, ◌+◌, ◌≤◌, Bool, true, false, cond, ltb, List, [], ◌∷◌, ◌++◌, length, refl, sym, ap, ◌∙◌, subst, length-append, arith, inl, inr, ◌⊎◌, None, Some, Result, Ok, Err, IfOk}
-use Rattle.std.proofs.lemmas.Bool.{ltb-false}
+use Rattle.std.proofs.lemmas.Bool.{ltb-true, ltb-false}
 use Rattle.std.proofs.lemmas.List.{append-nil}
 use Rattle.stock_nums.specs.declared.numbers.RecordNo.{RecordNo}
 use Rattle.stock_model.specs.declared.records.Record.{Record}
@@ -12,7 +12,7 @@ use Rattle.stock_model.specs.declared.faults.PostFault.TheVariants.{NoMemory}
 use Rattle.stock_model.specs.declared.requests.Request.{Request}
 use Rattle.stock_model.specs.declared.requests.Request.TheVariants.{Post}
 use Rattle.stock_model.specs.declared.replies.Reply.{Reply}
-use Rattle.stock_model.specs.declared.replies.Reply.TheVariants.{Accepted, Refused, Pending, NoSuchRecord, Settled}
+use Rattle.stock_model.specs.declared.replies.Reply.TheVariants.{Accepted, Pending, NoSuchRecord, Settled, Long, Bad}
 use Rattle.stock_model.specs.declared.queries.Need.{Need}
 use Rattle.stock_model.specs.declared.queries.Need.TheVariants as need
 use Rattle.stock_model.specs.declared.queries.Query.{Query}
@@ -20,12 +20,14 @@ use Rattle.stock_model.specs.declared.queries.SelectFault.TheVariants as unmet
 use Rattle.stock_model.specs.Answers.{unmet_need, report_by, refusal}
 use Rattle.stock_model.specs.Faults.{fault}
 use Rattle.stock_model.specs.History.{records, accepted, covered, IsLegal, settled}
-use Rattle.stock_model.specs.Run.{RunState, Run, Answers, Settles}
+use Rattle.stock_model.specs.declared.read_faults.ReadFault.{ReadFault}
+use Rattle.stock_model.specs.declared.read_faults.ReadFault.TheVariants as read_fault
+use Rattle.stock_model.specs.Run.{max_line, RunState, Step, Run, Answers, Settles}
 use Rattle.voucher_json.specs.ReplyText.{IsPrinted}
 use Rattle.stock_model.proofs.Histories.{records-append, covered_after-append, covered_after-within}
 
 -- a run over more lines from where one ended
-pub Run-append : (reads : List ℕ → Request → Type 0) (old mid new : RunState) (lines more : List (List ℕ)) (replies others : List Reply)
+pub Run-append : (reads : List ℕ → Result Request ReadFault → Type 0) (old mid new : RunState) (lines more : List (List ℕ)) (replies others : List Reply)
     → Run reads old lines replies mid → Run reads mid more others new → Run reads old (lines ++ more) (replies ++ others) new
 Run-append reads old mid new [] more [] others first then = subst (λ (s : RunState). Run reads s more others new) first then
 Run-append reads old mid new [] more (reply ∷ replies) others first then = absurd first
@@ -97,3 +99,23 @@ Settles-by_test old new n false none legal is all =
 -- publishing all that is not covered settles
 pub Settles-settled : (old new : List Deed) (n : RecordNo) → IsLegal new → new ≡ settled old → n.0 ≡ accepted old → Settles old (Settled n) new
 Settles-settled old new n legal is all = Settles-by_test old new n (ltb (covered old) (accepted old)) refl legal is all
+
+-- a line that is too long is answered so, and nothing changed
+pub Step-long : (reads : List ℕ → Result Request ReadFault → Type 0) (old new : RunState) (line : List ℕ) (long : Bool) → long ≡ ltb max_line (length line) → long ≡ true → new.history ≡ old.history
+    → Step reads old line Long new
+Step-long reads old new line long is yes same = inl (ltb-true max_line (length line) (sym is ∙ yes), refl, same)
+
+-- a line that is not too long
+pub fits : (line : List ℕ) (long : Bool) → long ≡ ltb max_line (length line) → long ≡ false → length line ≤ max_line
+fits line long is no = ltb-false max_line (length line) (sym is ∙ no)
+
+-- want of memory is no fault that is printed
+bad_memory : (f : ReadFault) (reply : Reply) → reply ≡ Bad f → IsPrinted reply → f ≡ read_fault.NoMemory → ⊥
+bad_memory f reply is printed memory = subst IsPrinted (is ∙ ap Bad memory) printed
+
+-- where a line that is no request is told, its fault is told
+pub Step-bad : (reads : List ℕ → Result Request ReadFault → Type 0) (old new : RunState) (line : List ℕ) (f : ReadFault) (r : Result Reply memory.NoMemory) → length line ≤ max_line
+    → (f ≡ read_fault.NoMemory) ⊎ reads line (Err f) → new.history ≡ old.history → IfOk r (λ reply. reply ≡ Bad f) → IfOk r IsPrinted → IfOk r (λ reply. Step reads old line reply new)
+Step-bad reads old new line f (Err e) short read same is printed = tt
+Step-bad reads old new line f (Ok reply) short (inl memory) same is printed = absurd (bad_memory f reply is printed memory)
+Step-bad reads old new line f (Ok reply) short (inr read) same is printed = inr (short, inr (f, read, is, same))

@@ -1,11 +1,8 @@
 -- The line under way as it is kept: a line that is too long is not.
 use Rattle.std.specs.Prelude.{ℕ, ◌≡◌, false, List, length, nat_lt}
 use Rattle.stock_model.specs.InputLines.{is_blank}
+use Rattle.stock_model.specs.Run.{max_line}
 use Rattle.stock_cli.specs.declared.open_line.OpenLine.{OpenLine}
-
--- the most bytes that a line may have
-abbrev pub max_line : ℕ
-max_line = 65_536
 
 -- what is kept stands for this line
 pub record StandsForLine (kept : OpenLine) (line : List ℕ) : Type 0 where

@@ -1,12 +1,12 @@
 -- The replies to lines, and their text.
-use Rattle.std.specs.Prelude.{ℕ, ◌≡◌, List, [], ◌∷◌, ◌++◌, filter}
+use Rattle.std.specs.Prelude.{false, ℕ, ◌≡◌, List, [], ◌∷◌, ◌++◌, filter}
 use Rattle.std.specs.List.{flat_map}
 use Rattle.stock_model.specs.declared.deeds.Deed.{Deed}
 use Rattle.stock_model.specs.declared.replies.Reply.{Reply}
 use Rattle.stock_model.specs.History.{IsLegal}
 use Rattle.stock_model.specs.InputLines.{is_asked}
 use Rattle.stock_model.specs.Run.{RunState, Run}
-use Rattle.voucher_json.specs.FirstForm.{IsRequest}
+use Rattle.voucher_json.specs.Requests.{IsReadAs}
 use Rattle.voucher_json.specs.ReplyText.{reply_line}
 
 abbrev pub state_of : List Deed → RunState
@@ -15,7 +15,7 @@ state_of history = record { history = history }
 -- From the history old on, the lines are answered by these replies, each the answer at its point of one
 -- history, which is the new one in the end. Blank lines have no reply.
 abbrev pub RunsOver : List (List ℕ) → List Deed → List Reply → List Deed → Type 0
-RunsOver lines old replies new = Run IsRequest (state_of old) (filter is_asked lines) replies (state_of new)
+RunsOver lines old replies new = Run (IsReadAs false) (state_of old) (filter is_asked lines) replies (state_of new)
 
 -- the text is that of the replies to these lines, from the empty book on, over one legal history
 pub record Answered (lines : List (List ℕ)) (text : List ℕ) : Type 0 where

@@ -1,9 +1,9 @@
 //! The answer to a request, over the book.
-ghost use Rattle.std.specs.Prelude.{◌≡◌, ℕ, List, IfOk, IsTrue};
+ghost use Rattle.std.specs.Prelude.{◌≡◌, ℕ, List, IfOk, IsTrue, false};
 ghost use Rattle.stock_model.specs.Limits.{is_within_limits};
 ghost use Rattle.stock_model.specs.History.{IsLegal};
 ghost use Rattle.stock_model.specs.Run.{Answers, Step};
-ghost use Rattle.voucher_json.specs.FirstForm.{IsRequest, IsWithinLimits};
+ghost use Rattle.voucher_json.specs.Requests.{IsReadAs, IsWithinLimits};
 ghost use Rattle.voucher_json.specs.ReplyText.{IsPrinted};
 ghost use Rattle.stock_cli.specs.OpenLines.{StandsForLine};
 ghost use Rattle.stock_cli.specs.Replies.{state_of};
@@ -24,7 +24,7 @@ use voucher_json::reading::read_request;
 
 /// The reply to a line that is not blank.
 pub fn reply_to(alloc: Global, book: &mut Book, line: &OpenLine) -> Result<Reply, NoMemory>
-    ensures step { IfOk result (λ reply. (text : List ℕ) → StandsForLine line.now text → Step IsRequest (state_of book.old.history) text reply (state_of book.new.history)) }
+    ensures step { IfOk result (λ reply. (text : List ℕ) → StandsForLine line.now text → Step (IsReadAs false) (state_of book.old.history) text reply (state_of book.new.history)) }
     ensures printed { IfOk result IsPrinted }
     ensures legal { IfOk result (λ _. IsLegal book.old.history → IsLegal book.new.history) }
 {

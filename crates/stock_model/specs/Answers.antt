@@ -18,7 +18,7 @@ use Rattle.stock_model.specs.declared.queries.SelectFault.TheVariants as unmet
 use Rattle.stock_model.specs.declared.faults.PostFault.{PostFault}
 use Rattle.stock_model.specs.declared.faults.PostFault.TheVariants as fault_of
 use Rattle.stock_model.specs.declared.replies.Reply.{Reply}
-use Rattle.stock_model.specs.declared.replies.Reply.TheVariants.{Accepted, Refused, Short, Pending, NoSuchRecord, Balance, StoreFailed, MemoryFailed}
+use Rattle.stock_model.specs.declared.replies.Reply.TheVariants.{Accepted, Refused, Short, Pending, NoSuchRecord, Balance, StoreFailed}
 use Rattle.stock_model.specs.Masters.{heads, code_at}
 use Rattle.stock_model.specs.Replay.{replay}
 use Rattle.stock_model.specs.Faults.{fault}
@@ -92,7 +92,7 @@ refusal journal fault_of.NoBasis = Refused fault_of.NoBasis
 refusal journal (fault_of.Full records entries) = Refused (fault_of.Full records entries)
 refusal journal (fault_of.Short place item store lacking) = Short place (code_at journal item.0) (code_at journal store.0) lacking
 refusal journal fault_of.KeeperFailed = StoreFailed
-refusal journal fault_of.NoMemory = MemoryFailed
+refusal journal fault_of.NoMemory = Refused fault_of.NoMemory
 
 -- the answer to a record that is posted, and the history after it: refused for its first fault and nothing
 -- changed, or accepted under the next number and kept
