@@ -1,0 +1,66 @@
+-- The rule of the lock: what holds between any two steps, of the words, the slot and the views of all passes.
+use Rattle.std.specs.Prelude.{◌≡◌, ◌≢◌, ℕ, ◌+◌, ◌*◌, ◌^◌, ◌<◌, ◌≤◌, List, [], ◌∷◌, length, sum_by, All, Option, Some}
+use mathlib.Core.Option.{some}
+use mathlib.Core.Option as maybe
+use lib.ListN.{get_elem?}
+use Rattle.atomic_table.specs.Table.{State}
+use Rattle.turn_lock.specs.declared.view.View.{View}
+use Rattle.turn_lock.specs.declared.view.Joined.{Joined}
+use Rattle.turn_lock.specs.declared.view.Turn.{Turn}
+use Rattle.turn_lock.specs.declared.view.Turn.TheVariants.{Rest, Drawn, Served}
+use Rattle.turn_lock.specs.Histories.{BeginsWith, past, made_by}
+use Rattle.turn_lock.specs.Views.{HasTicket, IsServed, tickets, all_turns, all_faults, joined_made, spent}
+
+-- a ticket lies from the one that is served to below the next, and what a served pass took is the value's
+abbrev pub InTurn : {E : Type 0} → List (ℕ × E) → ℕ → ℕ → ℕ → Turn E → Type 0
+InTurn log count ticket serving Rest = Unit {0}
+InTurn log count ticket serving (Drawn t) = (serving ≤ t) × (t < ticket)
+InTurn log count ticket serving (Served t taken taken_count) = (t ≡ serving) × (t < ticket) × (taken ≡ log) × (taken_count ≡ count)
+
+-- what holds of a pass in the seat j, where the value has this history and this count of faults
+pub record Fits {E : Type 0} (first : List (ℕ × E)) (first_faults : ℕ) (log : List (ℕ × E)) (count ticket serving j : ℕ) (v : View E) : Type 0 where
+  pub numbered : v.number ≡ j
+  pub began : v.first ≡ first
+  pub began_faults : v.first_faults ≡ first_faults
+  pub from_first : BeginsWith v.seen first
+  pub has_seen : BeginsWith log v.seen
+  pub no_more : v.seen_faults ≤ count
+  pub own : made_by j (past first v.seen) ≡ v.made
+  pub none_past : made_by j (past v.seen log) ≡ []
+  pub few_turns : length v.stops + tickets v.turn ≤ 2 ^ 57
+  pub few_joined : sum_by (λ k. k.gives) v.joined ≤ length v.joined * 2 ^ 57
+  pub in_turn : InTurn log count ticket serving v.turn
+  pub counts : v.passes ≡ 1 + length v.joined
+  pub only_zero : j ≢ 0 → (v.joined ≡ []) × (v.split ≡ 0)
+
+-- what holds of pass 0 beyond that
+pub record FitsZero {E : Type 0} (log : List (ℕ × E)) (views : List (View E)) (v : View E) : Type 0 where
+  pub lives : 0 < v.passes
+  pub split_off : v.split + 1 ≡ length views
+  pub saw_both : All (λ k. BeginsWith v.seen k.kept_seen × BeginsWith v.seen k.other_seen) v.joined
+  pub keeps_made : (k : ℕ) (u : View E) → get_elem? views k ≡ some u → u.passes ≡ 0 → (made_by k (past v.first v.seen) ≡ joined_made k v.joined) × (made_by k (past v.seen log) ≡ [])
+  pub keeps_others : (k : ℕ) → length views ≤ k → joined_made k v.joined ≡ []
+
+module _ {B E : Type 0} (history : B → List (ℕ × E)) (faults : B → ℕ) (about : B) where
+  -- log and count are those of the value, as the last turn that ended left it
+  pub record Turned (s : State (Option B) (View E)) : Type 0 where
+    pub log : List (ℕ × E)
+    pub count : ℕ
+    pub ticket : ℕ
+    pub serving : ℕ
+    pub home : maybe.Option (Option B)
+    pub words : s.words ≡ ticket ∷ serving ∷ []
+    pub slot : s.homes ≡ home ∷ []
+    pub few : length s.views ≤ 17
+    pub fits : (j : ℕ) (v : View E) → get_elem? s.views j ≡ some v → 0 < v.passes → Fits (history about) (faults about) log count ticket serving j v
+    pub joined_is_spent : (j : ℕ) (v : View E) → get_elem? s.views j ≡ some v → v.passes ≡ 0 → v ≡ spent
+    pub zero_fits : (v : View E) → get_elem? s.views 0 ≡ some v → FitsZero log s.views v
+    pub apart : (i j : ℕ) (u v : View E) (t : ℕ) → get_elem? s.views i ≡ some u → get_elem? s.views j ≡ some v → HasTicket u.turn t → HasTicket v.turn t → i ≡ j
+    pub later : (i j : ℕ) (u v : View E) → get_elem? s.views i ≡ some u → get_elem? s.views j ≡ some v → 0 < u.passes → 0 < v.passes → length u.seen < length v.seen → u.seen_faults ≤ v.seen_faults
+    pub latest : (j : ℕ) × (v : View E) × (get_elem? s.views j ≡ some v) × (0 < v.passes) × (v.seen ≡ log) × (v.seen_faults ≡ count)
+    pub at_home : ((j : ℕ) (v : View E) → get_elem? s.views j ≡ some v → ¬ IsServed v.turn) → (b : B) × (home ≡ some (Some b)) × (history b ≡ log) × (faults b ≡ count)
+    pub none_unmade : (k : ℕ) → length s.views ≤ k → made_by k (past (history about) log) ≡ []
+    pub all_passes_are : sum_by (λ v. v.passes) s.views ≡ length s.views
+    pub all_turns_are : sum_by all_turns s.views ≡ serving
+    pub all_tickets_are : serving + sum_by (λ v. tickets v.turn) s.views ≡ ticket
+    pub all_faults_are : faults about + sum_by all_faults s.views ≡ count

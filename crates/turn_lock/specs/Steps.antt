@@ -1,0 +1,32 @@
+-- What each step tells the pass that takes it. m is the seat before, n the number that was found, and m' the seat after.
+use Rattle.std.specs.Prelude.{◌≡◌, ◌≢◌, ℕ, ◌^◌, ◌<◌, ◌≤◌, List, [], ◌∷◌, ◌++◌, All, Option, Some}
+use Rattle.atomic_table.specs.Table.{Me, Step}
+use Rattle.turn_lock.specs.declared.view.View.{View}
+use Rattle.turn_lock.specs.Histories.{BeginsWith, past, made_by}
+use Rattle.turn_lock.specs.Views.{ticket_of, taken_of, joined_made, drawn, served, given}
+
+-- what a pass learns of the value as its turn begins
+pub record Learns {E : Type 0} (v : View E) (log : List (ℕ × E)) (count : ℕ) : Type 0 where
+  pub begins : BeginsWith log v.seen
+  pub no_less : v.seen_faults ≤ count
+  pub own : made_by v.number (past v.first log) ≡ v.made
+  pub none_past : made_by v.number (past v.seen log) ≡ []
+
+module _ {B E : Type 0} (history : B → List (ℕ × E)) (faults : B → ℕ) where
+  -- a look at the next ticket
+  abbrev pub looked : Step (Option B) → Me (Option B) (View E) → ℕ → Me (Option B) (View E) → Type 0
+  looked st m n m' = (m' ≡ m) × (n < 2 ^ 62)
+
+  -- the ticket is drawn where it is still the next one
+  abbrev pub drew : Step (Option B) → Me (Option B) (View E) → ℕ → Me (Option B) (View E) → Type 0
+  drew st m n m' = (n ≡ st.first → m' ≡ (drawn m.0 n, m.1)) × (n ≢ st.first → (m' ≡ m) × (n < 2 ^ 62))
+
+  -- where the pass finds its own ticket, the slot is in its hand, with the value as it was left
+  abbrev pub came : Step (Option B) → Me (Option B) (View E) → ℕ → Me (Option B) (View E) → Type 0
+  came st m n m' = (n ≡ ticket_of m.0.turn → (b : B) × (m' ≡ (served m.0 n (history b) (faults b), (0, Some b) ∷ m.1)) × Learns m.0 (history b) (faults b))
+      × (n ≢ ticket_of m.0.turn → m' ≡ m)
+
+  -- the slot goes home with what was put in, and the pass has seen all of it. Past the first history, what it made is all that the history has of it
+  abbrev pub raised : Step (Option B) → Me (Option B) (View E) → ℕ → Me (Option B) (View E) → Type 0
+  raised st m n m' = (b : B) × (m.1 ≡ (0, Some b) ∷ []) × (m' ≡ (given m.0 (history b) (faults b), []))
+      × (made_by m.0.number (past m.0.first (history b)) ≡ m.0.made ++ past (taken_of m.0.turn) (history b))
