@@ -14,7 +14,7 @@ use Rattle.turn_lock.specs.Histories.{BeginsWith, past, made_by}
 use Rattle.turn_lock.specs.Views.{HasTicket, IsServed, tickets, all_turns, all_faults, joined_made, spent}
 use Rattle.turn_lock.specs.Rule.{InTurn, Fits, FitsZero, Turned}
 use Rattle.turn_lock.proofs.Lists.{at_below, at_one, sum_set, begins_through, begins_self, begins_no_longer, past_self, made_through_two, none_of_others, none_in_two, made_in_first}
-use Rattle.turn_lock.proofs.Turning.{each_set, each_two}
+use Rattle.turn_lock.proofs.Turning.{each_set, each_two, still_spent}
 
 module _ {E : Type 0} where
   -- a pass whose ticket is not the one that was served stands as before
@@ -69,6 +69,7 @@ module _ {B E : Type 0} (history : B → List (ℕ × E)) (faults : B → ℕ) (
               lives = q.lives;
               split_off = q.split_off ∙ sym long;
               saw_both = λ k d lt. let both = q.saw_both k d lt in let j : Joined E = slice_index_or v.joined k d in (begins_through j.kept_seen v.seen new both.0 seen_new, begins_through j.other_seen v.seen new both.1 seen_new);
+              are_spent = λ k d lt. still_spent s.views id v w _ at lives (q.are_spent k d lt);
               keeps_made = λ k x at'' none. each_set (λ (k : ℕ) (x : View E). x.passes ≡ 0 → (made_by k (past v.first new) ≡ joined_made k v.joined) × (made_by k (past new new) ≡ [])) s.views id w
                   (λ z. let z' : v.passes ≡ 0 = z in absurd (omega arith))
                   (λ i y ne at3 n. let old = q.keeps_made i y at3 n in (
@@ -81,6 +82,7 @@ module _ {B E : Type 0} (history : B → List (ℕ × E)) (faults : B → ℕ) (
               lives = q.lives;
               split_off = q.split_off ∙ sym long;
               saw_both = q.saw_both;
+              are_spent = λ k d lt. still_spent s.views id v w _ at lives (q.are_spent k d lt);
               keeps_made = λ k x at'' none. each_set (λ (k : ℕ) (x : View E). x.passes ≡ 0 → (made_by k (past y.first y.seen) ≡ joined_made k y.joined) × (made_by k (past y.seen new) ≡ [])) s.views id w
                   (λ z. let z' : v.passes ≡ 0 = z in absurd (omega arith))
                   (λ i x ne at3 n. let old = q.keeps_made i x at3 n in (old.0, none_in_two i y.seen r.log new g.has_seen grown old.1 (others i ne))) k x at'' none;

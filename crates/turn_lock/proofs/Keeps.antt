@@ -1,5 +1,5 @@
 -- Each step of a turn keeps the rule, and tells what it is said to tell.
-use Rattle.std.proofs.Common.{◌≡◌, ◌≢◌, ℕ, suc, ◌+◌, ◌-◌, ◌*◌, ◌^◌, ◌%◌, ◌<◌, ◌≤◌, List, [], ◌∷◌, ◌++◌, length, get_or, set, eqb, sym, refl, ap, ◌∙◌, subst, arith}
+use Rattle.std.proofs.Common.{◌≡◌, ◌≢◌, ℕ, suc, ◌+◌, ◌-◌, ◌*◌, ◌^◌, ◌%◌, ◌<◌, ◌≤◌, List, [], ◌∷◌, ◌++◌, length, get_or, set, eqb, sym, refl, ap, ◌∙◌, subst, arith, eq-eqb}
 use Rattle.std.proofs.Math.Nat.{mod-eq_of_lt}
 use Rattle.std.proofs.lemmas.List.{set-get_or}
 use Rattle.std.specs.Prelude.{sum_by, All, Option, Some, None}
@@ -12,12 +12,13 @@ use prog.Atomic.{either}
 use Rattle.atomic_table.specs.Table.{State, Me, step, Act, keeps, takes, gives, Valid, carried_after, put_back, stepped, Allows, rest}
 use Rattle.atomic_table.proofs.Lists.{set_here, set_else, set_again, exchanged}
 use Rattle.turn_lock.specs.declared.view.View.{View}
+use Rattle.turn_lock.specs.declared.view.Joined.{Joined}
 use Rattle.turn_lock.specs.declared.view.Turn.{Turn}
 use Rattle.turn_lock.specs.declared.view.Turn.TheVariants.{Rest, Drawn, Served}
 use Rattle.turn_lock.specs.Histories.{BeginsWith, past, made_by}
-use Rattle.turn_lock.specs.Views.{HasTicket, IsServed, tickets, ticket_of, taken_of, taken_faults_of, all_turns, all_faults, spent, drawn, served, given}
+use Rattle.turn_lock.specs.Views.{HasTicket, IsServed, tickets, ticket_of, taken_of, taken_faults_of, all_turns, all_faults, joined_made, spent, drawn, served, given}
 use Rattle.turn_lock.specs.Rule.{InTurn, Fits, FitsZero, Turned}
-use Rattle.turn_lock.specs.Steps.{Learns, looked, drew, came, raised}
+use Rattle.turn_lock.specs.Steps.{Learns, KeepsLast, looked, drew, came, raised, checked}
 use Rattle.turn_lock.proofs.Lists.{at_below, at_one, sums_within, begins_through, made_through_two, made_in_first, made_by_all}
 use Rattle.turn_lock.proofs.Turning.{with_turn}
 use Rattle.turn_lock.proofs.Giving.{with_give}
@@ -47,6 +48,15 @@ module _ {E : Type 0} where
 
   no_turns_spent : (v : View E) → v ≡ spent → all_turns v + tickets v.turn ≤ v.passes * 2 ^ 57
   no_turns_spent v e = let P : View E → Type 0 = λ x. all_turns x + tickets x.turn ≤ x.passes * 2 ^ 57 in subst P (sym e) (omega arith)
+
+  keeps_last : (views : List (View E)) (v : View E) (js : List (Joined E)) → All (λ (j : Joined E). BeginsWith v.seen j.kept_seen × BeginsWith v.seen j.other_seen) js
+      → All (λ (j : Joined E). (u : View E) × (get_elem? views j.number ≡ some u) × (u.passes ≡ 0)) js
+      → ((k : ℕ) (u : View E) → get_elem? views k ≡ some u → u.passes ≡ 0 → made_by k (past v.first v.seen) ≡ joined_made k js) → KeepsLast v js
+  keeps_last views v [] saw gone made = tt
+  keeps_last views v (j ∷ js) saw gone made =
+      let both = saw 0 j (omega arith) in let spent_there = gone 0 j (omega arith) in
+      let m = rw (eq-eqb j.number j.number refl) at (made j.number spent_there.0 spent_there.1 spent_there.2) in
+      (both.0, both.1, m)
 
 module _ {B E : Type 0} (history : B → List (ℕ × E)) (faults : B → ℕ) (about : B) where
   abbrev pub Goes : State (Option B) (View E) → ℕ → ℕ → Me (Option B) (View E) → (ℕ → Me (Option B) (View E) → Type 0) → ℕ → Type 0
@@ -196,3 +206,15 @@ module _ {B E : Type 0} (history : B → List (ℕ × E)) (faults : B → ℕ) (
       let own' : All (λ (e : ℕ × E). e.0 ≡ v.number) (past (taken_of v.turn) (history b)) = subst (λ (x : B × List (ℕ × E) × ℕ). All (λ (e : ℕ × E). e.0 ≡ x.2) (past x.1 (history x.0))) (λ i. (sym same i, sym t i, sym k i)) own in
       let rose' : taken_faults_of v.turn ≤ faults b = subst (λ (x : B × ℕ). x.1 ≤ faults x.0) (λ i. (sym same i, sym tf i)) rose in
       subst P (sym now) (gives_back n id (v, (0, Some b) ∷ rest carried) b is lives (λ i. (0, Some b) ∷ rest (had i)) grown' own' rose')
+
+  -- after a join
+  pub checks : (n id : ℕ) (me : Me (Option B) (View E)) → me.0.number ≡ 0 → 0 < me.0.passes → Allows (Turned history faults about) n id me 0 (λ x. x) (checked history faults (step n 0 0 0 none) me)
+  checks n id me is_zero lives s r wide at _ =
+      let f = r.fits id me.0 at lives in
+      let e : id ≡ 0 = sym f.numbered ∙ is_zero in
+      let q = r.zero_fits me.0 (subst (λ (k : ℕ). get_elem? s.views k ≡ some me.0) e at) in
+      stays s r 0 id me (checked history faults (step n 0 0 0 none) me) at (
+        refl,
+        keeps_last s.views me.0 me.0.joined q.saw_both q.are_spent (λ k u at_k none. (q.keeps_made k u at_k none).0),
+        subst (λ (x : List (ℕ × E) × ℕ). made_by x.1 (past x.0 me.0.seen) ≡ me.0.made) (λ i. (sym f.began i, sym f.numbered i)) f.own,
+      )

@@ -1,5 +1,5 @@
 -- Lists: histories that begin with others, sums over the views, and elements after a change.
-use Rattle.std.proofs.Common.{◌≡◌, ◌≢◌, ℕ, zero, suc, ◌+◌, ◌*◌, ◌^◌, ◌<◌, ◌≤◌, List, [], ◌∷◌, ◌++◌, length, take, drop, set, sym, refl, ap, ◌∙◌, subst, arith, eq-eqb, ne_eqb, append_assoc, length-append}
+use Rattle.std.proofs.Common.{◌≡◌, ◌≢◌, ℕ, zero, suc, ◌+◌, ◌*◌, ◌^◌, ◌<◌, ◌≤◌, ◌⊎◌, ⊎_elim, inl, inr, List, [], ◌∷◌, ◌++◌, length, take, drop, set, sym, refl, ap, ◌∙◌, subst, arith, eq-eqb, ne_eqb, append_assoc, length-append}
 use mathlib.Core.Logic.{dite}
 use native.Mathlib.Decide.{ℕ_discrete}
 use Rattle.std.proofs.lemmas.List.{take-append-drop, take_at, drop_at, take-take, take_all, drop_all, append-nil}
@@ -108,3 +108,33 @@ sums_within f g h (x ∷ xs) each = omega (arith, each 0 x refl, sums_within f g
 pub made_by_all : {E : Type 0} (k : ℕ) (xs : List (ℕ × E)) → All (λ (e : ℕ × E). e.0 ≡ k) xs → made_by k xs ≡ xs
 made_by_all {E} k [] all = refl
 made_by_all {E} k (x ∷ xs) all = rw (eq-eqb x.0 k (all 0 x (omega arith))) (ap (λ (z : List (ℕ × E)). x ∷ z) (made_by_all k xs (λ i d lt. all (suc i) d (omega arith))))
+
+module _ {A : Type 0} where
+  pub at_some : (l : List A) (i : ℕ) → i < length l → (a : A) × (get_elem? l i ≡ some a)
+  at_some [] i h = absurd (omega arith)
+  at_some (x ∷ xs) zero h = (x, refl)
+  at_some (x ∷ xs) (suc i) h = at_some xs i (omega arith)
+
+  -- an element of a list with one more is an old one, or the new one, which is last
+  pub at_either : (l : List A) (a b : A) (j : ℕ) → get_elem? (l ++ a ∷ []) j ≡ some b → ((j < length l) × (get_elem? l j ≡ some b)) ⊎ ((j ≡ length l) × (a ≡ b))
+  at_either [] a b zero e = inr (refl, some-injective a b e)
+  at_either [] a b (suc j) e = absurd (some-ne-none b (sym e))
+  at_either (x ∷ xs) a b zero e = inl (omega arith, e)
+  at_either (x ∷ xs) a b (suc j) e = ⊎_elim (λ (h : (j < length xs) × (get_elem? xs j ≡ some b)). inl (let l = h.0 in omega arith, h.1)) (λ (h : (j ≡ length xs) × (a ≡ b)). inr (let l = h.0 in omega arith, h.1)) (at_either xs a b j e)
+
+  pub nil_parts : (xs ys : List A) → xs ++ ys ≡ [] → (xs ≡ []) × (ys ≡ [])
+  nil_parts [] ys e = (refl, e)
+  nil_parts (x ∷ xs) ys e = absurd (cc)
+
+-- where a stretch has no event of pass k, neither of its two parts has
+pub none_in_parts : {E : Type 0} (k : ℕ) (a b c : List (ℕ × E)) → BeginsWith b a → BeginsWith c b → made_by k (past a c) ≡ [] → (made_by k (past a b) ≡ []) × (made_by k (past b c) ≡ [])
+none_in_parts k a b c h g e = nil_parts (made_by k (past a b)) (made_by k (past b c)) (sym (made_through_two k a b c h g) ∙ e)
+
+sum_of_none : {A : Type 0} (f : A → ℕ) (l : List A) → ((j : ℕ) (a : A) → get_elem? l j ≡ some a → f a ≡ 0) → sum_by f l ≡ 0
+sum_of_none f [] none = refl
+sum_of_none f (x ∷ xs) none = omega (arith, none 0 x refl, sum_of_none f xs (λ j a e. none (suc j) a e), sum_by-cons f x xs)
+
+-- where only the first element counts, the sum is what it counts
+pub sum_of_one : {A : Type 0} (f : A → ℕ) (l : List A) (a : A) → get_elem? l 0 ≡ some a → ((j : ℕ) (b : A) → j ≢ 0 → get_elem? l j ≡ some b → f b ≡ 0) → sum_by f l ≡ f a
+sum_of_one f [] a e none = absurd (some-ne-none a (sym e))
+sum_of_one f (x ∷ xs) a e none = let s : f x ≡ f a = ap f (some-injective x a e) in omega (arith, sum_of_none f xs (λ j b at. none (suc j) b (λ z. omega arith) at), sum_by-cons f x xs)

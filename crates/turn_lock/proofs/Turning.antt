@@ -28,6 +28,12 @@ module _ {E : Type 0} where
       (λ (e : (j ≡ id) × (w ≡ u)). subst (λ (x : View E). P j x) e.1 (subst (λ (k : ℕ). P k w) (sym e.0) here))
       (λ (e : (j ≢ id) × (get_elem? views j ≡ some u)). other j u e.0 e.1) (at_set views id j w u at)
 
+  -- a seat whose pass was joined keeps its view where that of a live pass changes
+  pub still_spent : (views : List (View E)) (id : ℕ) (v w : View E) (k : ℕ) → get_elem? views id ≡ some v → 0 < v.passes → (u : View E) × (get_elem? views k ≡ some u) × (u.passes ≡ 0) → (u : View E) × (get_elem? (set views id w) k ≡ some u) × (u.passes ≡ 0)
+  still_spent views id v w k at lives gone = dite (ℕ_discrete k id)
+      (λ e. let same = ap (λ (x : View E). x.passes) (at_one views id gone.0 v (subst (λ (j : ℕ). get_elem? views j ≡ some gone.0) e gone.1) at) in let none : gone.0.passes ≡ 0 = gone.2 in absurd (omega arith))
+      (λ ne. (gone.0, set_else views id k w ne ∙ gone.1, gone.2))
+
   -- the same of each two passes
   pub each_two : (R : ℕ → View E → ℕ → View E → Type 0) (views : List (View E)) (id : ℕ) (w : View E) → R id w id w → ((j : ℕ) (u : View E) → j ≢ id → get_elem? views j ≡ some u → R id w j u)
       → ((j : ℕ) (u : View E) → j ≢ id → get_elem? views j ≡ some u → R j u id w) → ((i j : ℕ) (u x : View E) → i ≢ id → j ≢ id → get_elem? views i ≡ some u → get_elem? views j ≡ some x → R i u j x)
@@ -66,6 +72,7 @@ module _ {B E : Type 0} (history : B → List (ℕ × E)) (faults : B → ℕ) (
               lives = q.lives;
               split_off = q.split_off ∙ sym long;
               saw_both = q.saw_both;
+              are_spent = λ k d lt. still_spent s.views id v w _ at lives (q.are_spent k d lt);
               keeps_made = λ k x at'' none. each_set (λ (k : ℕ) (x : View E). x.passes ≡ 0 → (made_by k (past v.first v.seen) ≡ joined_made k v.joined) × (made_by k (past v.seen r.log) ≡ [])) s.views id w (λ z. let z' : v.passes ≡ 0 = z in absurd (omega arith)) (λ i y ne at3 n. q.keeps_made i y at3 n) k x at'' none;
               keeps_others = λ k le. q.keeps_others k (omega arith)
             })
@@ -73,6 +80,7 @@ module _ {B E : Type 0} (history : B → List (ℕ × E)) (faults : B → ℕ) (
               lives = q.lives;
               split_off = q.split_off ∙ sym long;
               saw_both = q.saw_both;
+              are_spent = λ k d lt. still_spent s.views id v w _ at lives (q.are_spent k d lt);
               keeps_made = λ k x at'' none. each_set (λ (k : ℕ) (x : View E). x.passes ≡ 0 → (made_by k (past y.first y.seen) ≡ joined_made k y.joined) × (made_by k (past y.seen r.log) ≡ [])) s.views id w (λ z. let z' : v.passes ≡ 0 = z in absurd (omega arith)) (λ i y ne at3 n. q.keeps_made i y at3 n) k x at'' none;
               keeps_others = λ k le. q.keeps_others k (omega arith)
             }) 0 u at' refl;

@@ -2,6 +2,7 @@
 use Rattle.std.specs.Prelude.{◌≡◌, ◌≢◌, ℕ, ◌^◌, ◌<◌, ◌≤◌, List, [], ◌∷◌, ◌++◌, All, Option, Some}
 use Rattle.atomic_table.specs.Table.{Me, Step}
 use Rattle.turn_lock.specs.declared.view.View.{View}
+use Rattle.turn_lock.specs.declared.view.Joined.{Joined}
 use Rattle.turn_lock.specs.Histories.{BeginsWith, past, made_by}
 use Rattle.turn_lock.specs.Views.{ticket_of, taken_of, joined_made, drawn, served, given}
 
@@ -11,6 +12,11 @@ pub record Learns {E : Type 0} (v : View E) (log : List (ℕ × E)) (count : ℕ
   pub no_less : v.seen_faults ≤ count
   pub own : made_by v.number (past v.first log) ≡ v.made
   pub none_past : made_by v.number (past v.seen log) ≡ []
+
+-- what a pass that was joined last made is all that pass 0 has seen of it past the first history, and what both had seen is the beginning of what pass 0 has seen
+abbrev pub KeepsLast : {E : Type 0} → View E → List (Joined E) → Type 0
+KeepsLast v [] = Unit {0}
+KeepsLast v (j ∷ js) = BeginsWith v.seen j.kept_seen × BeginsWith v.seen j.other_seen × (made_by j.number (past v.first v.seen) ≡ j.made)
 
 module _ {B E : Type 0} (history : B → List (ℕ × E)) (faults : B → ℕ) where
   -- a look at the next ticket
@@ -30,3 +36,7 @@ module _ {B E : Type 0} (history : B → List (ℕ × E)) (faults : B → ℕ) w
   abbrev pub raised : Step (Option B) → Me (Option B) (View E) → ℕ → Me (Option B) (View E) → Type 0
   raised st m n m' = (b : B) × (m.1 ≡ (0, Some b) ∷ []) × (m' ≡ (given m.0 (history b) (faults b), []))
       × (made_by m.0.number (past m.0.first (history b)) ≡ m.0.made ++ past (taken_of m.0.turn) (history b))
+
+  -- pass 0 looks, after a join
+  abbrev pub checked : Step (Option B) → Me (Option B) (View E) → ℕ → Me (Option B) (View E) → Type 0
+  checked st m n m' = (m' ≡ m) × KeepsLast m.0 m.0.joined × (made_by m.0.number (past m.0.first m.0.seen) ≡ m.0.made)
