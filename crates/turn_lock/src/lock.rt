@@ -39,11 +39,13 @@ impl<B: Logged> Model for TurnLock<B> {
 }
 
 /// There was no memory for a lock. The value comes back.
+#[derive(Drop)]
 pub struct NotMade<B> {
     pub book: B,
 }
 
 /// There was no memory for another pass. The pass comes back.
+#[derive(Drop)]
 pub struct NotSplit<B: Logged> {
     pub pass: Pass<B>,
 }
