@@ -1,5 +1,5 @@
 -- What the rule says of a lock that is closed: one pass is left, and it has seen everything.
-use Rattle.std.proofs.Common.{◌≡◌, ◌≢◌, ℕ, zero, suc, ◌+◌, ◌*◌, ◌^◌, ◌<◌, ◌≤◌, List, [], ◌∷◌, ◌++◌, length, sym, refl, ap, ◌∙◌, subst, arith, eq-eqb, ne_eqb}
+use Rattle.std.proofs.Common.{◌≡◌, ◌≢◌, ℕ, ◌+◌, ◌<◌, List, length, sym, ap, ◌∙◌, subst, arith, eq-eqb, ne_eqb}
 use Rattle.std.specs.Prelude.{sum_by, Option, Some, None}
 use mathlib.Core.Option.{some, some-injective}
 use mathlib.Core.Option as maybe
@@ -10,9 +10,9 @@ use Rattle.atomic_table.specs.Table.{State, Final, Seen}
 use Rattle.turn_lock.specs.declared.view.View.{View}
 use Rattle.turn_lock.specs.declared.view.Turn.TheVariants.{Rest}
 use Rattle.turn_lock.specs.Histories.{BeginsWith, past, made_by}
-use Rattle.turn_lock.specs.Views.{IsServed, all_faults, joined_made, made_through, spent}
-use Rattle.turn_lock.specs.Rule.{Fits, FitsZero, Turned}
-use Rattle.turn_lock.proofs.Lists.{at_below, at_one, at_some, sum_of_one, sum_of_two}
+use Rattle.turn_lock.specs.Views.{IsServed, all_faults, made_through}
+use Rattle.turn_lock.specs.Rule.{Turned}
+use Rattle.turn_lock.proofs.Lists.{at_one, at_some, sum_of_one, sum_of_two}
 
 module _ {B E : Type 0} (history : B → List (ℕ × E)) (faults : B → ℕ) (about : B) where
   -- the value that pass 0 is handed when it is the last
@@ -31,26 +31,29 @@ module _ {B E : Type 0} (history : B → List (ℕ × E)) (faults : B → ℕ) (
       let whole : v.passes ≡ length s.views = omega (arith, f.counts, q.split_off) in
       let spent_else : (j : ℕ) (u : View E) → j ≢ 0 → get_elem? s.views j ≡ some u → u.passes ≡ 0 = λ j u ne at_j. omega (arith, sum_of_two (λ (x : View E). x.passes) s.views j 0 u v ne at_j at, r.all_passes_are) in
       let book = r.at_home (λ j u at_j is. dite (ℕ_discrete j 0)
-          (λ e. let same = at_one s.views 0 u v (subst (λ (k : ℕ). get_elem? s.views k ≡ some u) e at_j) at in subst IsServed (ap (λ (x : View E). x.turn) same ∙ rests) is)
-          (λ ne. let same = r.joined_is_spent j u at_j (spent_else j u ne at_j) in subst IsServed (ap (λ (x : View E). x.turn) same) is)) in
+      (λ e. let same = at_one s.views 0 u v (subst (λ (k : ℕ). get_elem? s.views k ≡ some u) e at_j) at in subst IsServed (ap (λ (x : View E). x.turn) same ∙ rests) is)
+      (λ ne. let same = r.joined_is_spent j u at_j (spent_else j u ne at_j) in subst IsServed (ap (λ (x : View E). x.turn) same) is)) in
       let b : B = book.0 in
       let l = r.latest in
       let last : (v.seen ≡ r.log) × (v.seen_faults ≡ r.count) = dite (ℕ_discrete l.0 0)
-          (λ e. let same = at_one s.views 0 v l.1 at (subst (λ (k : ℕ). get_elem? s.views k ≡ some l.1) e l.2) in
-              let is : v.seen ≡ r.log = ap (λ (x : View E). x.seen) same ∙ l.4 in let count : v.seen_faults ≡ r.count = ap (λ (x : View E). x.seen_faults) same ∙ l.5 in (is, count))
-          (λ ne. let none = spent_else l.0 l.1 ne l.2 in let some_passes = l.3 in absurd (omega arith)) in
-      let all_of : sum_by all_faults s.views ≡ all_faults v = sum_of_one all_faults s.views v at (λ j u ne at_j. ap all_faults (r.joined_is_spent j u at_j (spent_else j u ne at_j))) in
-      (b, ap (λ (hs : List (maybe.Option (Option B))). get_elem? hs 0) r.slot ∙ ap some book.1, record {
-        seen = book.2 ∙ sym last.0;
-        counted = book.3 ∙ sym last.1;
-        begins = subst (λ (z : List (ℕ × E)). BeginsWith v.seen z) (sym f.began) f.from_first;
-        made = λ k. dite (ℕ_discrete k 0)
-            (λ e. subst (λ (i : ℕ). made_by i (past v.first v.seen) ≡ made_through i v) (sym e) (rw (eq-eqb v.number 0 f.numbered) (ap (λ (z : List (ℕ × E)). made_by 0 (past z v.seen)) f.began ∙ f.own)))
-            (λ ne. rw (ne_eqb v.number k (λ e. ne (sym e ∙ f.numbered))) (dite (dec_le (length s.views) k)
+      (λ e. let same = at_one s.views 0 v l.1 at (subst (λ (k : ℕ). get_elem? s.views k ≡ some l.1) e l.2) in
+      let is : v.seen ≡ r.log = ap (λ (x : View E). x.seen) same ∙ l.4 in let count : v.seen_faults ≡ r.count = ap (λ (x : View E). x.seen_faults) same ∙ l.5 in (is, count))
+      (λ ne. let none = spent_else l.0 l.1 ne l.2 in let some_passes = l.3 in absurd (omega arith)) in
+      let all_of : sum_by all_faults s.views ≡ all_faults v = sum_of_one all_faults s.views v at (λ j u ne at_j. ap all_faults (r.joined_is_spent j u at_j (spent_else j u ne at_j))) in (
+        b,
+        ap (λ (hs : List (maybe.Option (Option B))). get_elem? hs 0) r.slot ∙ ap some book.1,
+        record {
+          seen = book.2 ∙ sym last.0;
+          counted = book.3 ∙ sym last.1;
+          begins = subst (λ (z : List (ℕ × E)). BeginsWith v.seen z) (sym f.began) f.from_first;
+          made = λ k. dite (ℕ_discrete k 0)
+              (λ e. subst (λ (i : ℕ). made_by i (past v.first v.seen) ≡ made_through i v) (sym e) (rw (eq-eqb v.number 0 f.numbered) (ap (λ (z : List (ℕ × E)). made_by 0 (past z v.seen)) f.began ∙ f.own)))
+              (λ ne. rw (ne_eqb v.number k (λ e. ne (sym e ∙ f.numbered))) (dite (dec_le (length s.views) k)
               (λ le. ap (made_by k) (λ i. past (f.began i) (last.0 i)) ∙ r.none_unmade k le ∙ sym (q.keeps_others k le))
               (λ lt. let u = at_some s.views k (omega arith) in (q.keeps_made k u.0 u.1 (spent_else k u.0 ne u.1)).0)));
-        rose = let d = f.began_faults in let e = r.all_faults_are in let c = last.1 in omega arith
-      })
+          rose = let d = f.began_faults in let e = r.all_faults_are in let c = last.1 in omega arith;
+        },
+      )
 
   pub closes : (id : ℕ) (v : View E) (words : List ℕ) (slots : List (Option B)) → v.number ≡ 0 → 0 < v.passes → v.turn ≡ Rest → length v.joined ≡ v.split
       → Final (Seen (Turned history faults about) id v) words slots → (b : B) × (get_elem? slots 0 ≡ some (Some b)) × IsLast v b
@@ -82,5 +85,5 @@ closed {B} {E} history faults about v w b c same_view same last = subst (λ (x :
   counted = last.counted;
   begins = subst (λ (z : List (ℕ × E)). BeginsWith z v.first) (sym last.seen) last.begins;
   made = λ k. ap (λ (z : List (ℕ × E)). made_by k (past v.first z)) last.seen ∙ last.made k;
-  rose = last.rose ∙ sym last.counted
+  rose = last.rose ∙ sym last.counted;
 }

@@ -1,6 +1,6 @@
 -- The rule stays where a served pass ends its turn.
-use Rattle.std.proofs.Common.{◌≡◌, ◌≢◌, ℕ, suc, ◌+◌, ◌*◌, ◌^◌, ◌<◌, ◌≤◌, List, [], ◌∷◌, ◌++◌, length, set, sym, refl, ap, ◌∙◌, subst, arith, length-set, length-append}
-use Rattle.std.specs.Prelude.{sum_by, All, slice_index_or, Option, Some}
+use Rattle.std.proofs.Common.{◌≡◌, ◌≢◌, ℕ, ◌+◌, ◌<◌, ◌≤◌, List, [], ◌∷◌, ◌++◌, length, set, sym, refl, ap, ◌∙◌, subst, arith, length-set, length-append}
+use Rattle.std.specs.Prelude.{slice_index_or, Option, Some}
 use mathlib.Core.Option.{some}
 use mathlib.Core.Option as maybe
 use lib.ListN.{get_elem?}
@@ -11,9 +11,9 @@ use Rattle.turn_lock.specs.declared.view.Joined.{Joined}
 use Rattle.turn_lock.specs.declared.view.Turn.{Turn}
 use Rattle.turn_lock.specs.declared.view.Turn.TheVariants.{Rest, Drawn, Served}
 use Rattle.turn_lock.specs.Histories.{BeginsWith, past, made_by}
-use Rattle.turn_lock.specs.Views.{HasTicket, IsServed, tickets, all_turns, all_faults, joined_made, spent}
+use Rattle.turn_lock.specs.Views.{HasTicket, tickets, all_turns, all_faults, joined_made, spent}
 use Rattle.turn_lock.specs.Rule.{InTurn, Fits, FitsZero, Turned}
-use Rattle.turn_lock.proofs.Lists.{at_below, at_one, sum_set, begins_through, begins_self, begins_no_longer, past_self, made_through_two, none_of_others, none_in_two, made_in_first}
+use Rattle.turn_lock.proofs.Lists.{at_below, sum_set, begins_through, begins_self, begins_no_longer, past_self, made_through_two, none_of_others, none_in_two, made_in_first}
 use Rattle.turn_lock.proofs.Turning.{each_set, each_two, still_spent}
 
 module _ {E : Type 0} where
@@ -53,15 +53,34 @@ module _ {B E : Type 0} (history : B → List (ℕ × E)) (faults : B → ℕ) (
         few = omega (arith, r.few);
         fits = λ j u at' live. each_set (λ (k : ℕ) (x : View E). 0 < x.passes → Fits first (faults about) new (faults b) r.ticket (r.serving + 1) k x) s.views id w
             (λ _. record {
-              numbered = f.numbered; began = f.began; began_faults = f.began_faults; from_first = first_new; has_seen = begins_self new; no_more = omega arith;
+              numbered = f.numbered;
+              began = f.began;
+              began_faults = f.began_faults;
+              from_first = first_new;
+              has_seen = begins_self new;
+              no_more = omega arith;
               own = made_through_two id first v.seen new f.from_first seen_new ∙ (λ i. f.own i ++ (made_through_two id v.seen r.log new f.has_seen grown ∙ (λ k. f.none_past k ++ mine k)) i);
-              none_past = ap (made_by id) (past_self new); few_turns = omega (arith, f.few_turns); few_joined = f.few_joined; in_turn = tt; counts = f.counts; only_zero = f.only_zero
+              none_past = ap (made_by id) (past_self new);
+              few_turns = omega (arith, f.few_turns);
+              few_joined = f.few_joined;
+              in_turn = tt;
+              counts = f.counts;
+              only_zero = f.only_zero;
             })
             (λ k x ne at'' live'. let g = r.fits k x at'' live' in record {
-              numbered = g.numbered; began = g.began; began_faults = g.began_faults; from_first = g.from_first; has_seen = begins_through x.seen r.log new g.has_seen grown; no_more = omega (arith, g.no_more);
-              own = g.own; none_past = none_in_two k x.seen r.log new g.has_seen grown g.none_past (others k ne);
-              few_turns = g.few_turns; few_joined = g.few_joined;
-              in_turn = in_turn_raised r.log new r.count (faults b) r.ticket r.serving x.turn (λ h. ne (r.apart k id x v r.serving at'' at h has)) g.in_turn; counts = g.counts; only_zero = g.only_zero
+              numbered = g.numbered;
+              began = g.began;
+              began_faults = g.began_faults;
+              from_first = g.from_first;
+              has_seen = begins_through x.seen r.log new g.has_seen grown;
+              no_more = omega (arith, g.no_more);
+              own = g.own;
+              none_past = none_in_two k x.seen r.log new g.has_seen grown g.none_past (others k ne);
+              few_turns = g.few_turns;
+              few_joined = g.few_joined;
+              in_turn = in_turn_raised r.log new r.count (faults b) r.ticket r.serving x.turn (λ h. ne (r.apart k id x v r.serving at'' at h has)) g.in_turn;
+              counts = g.counts;
+              only_zero = g.only_zero;
             }) j u at' live;
         joined_is_spent = λ j u at' none. each_set (λ (k : ℕ) (x : View E). x.passes ≡ 0 → x ≡ spent) s.views id w (λ z. let z' : v.passes ≡ 0 = z in absurd (omega arith)) (λ k x ne at'' z. r.joined_is_spent k x at'' z) j u at' none;
         zero_fits = λ u at'. each_set (λ (k : ℕ) (x : View E). k ≡ 0 → FitsZero new (set s.views id w) x) s.views id w
@@ -76,7 +95,7 @@ module _ {B E : Type 0} (history : B → List (ℕ × E)) (faults : B → ℕ) (
                     made_in_first i v.first v.seen new (subst (λ (x : List (ℕ × E)). BeginsWith v.seen x) (sym f.began) f.from_first) seen_new (none_in_two i v.seen r.log new f.has_seen grown old.1 (others i ne)) ∙ old.0,
                     ap (made_by i) (past_self new),
                   )) k x at'' none;
-              keeps_others = λ k le. q.keeps_others k (omega arith)
+              keeps_others = λ k le. q.keeps_others k (omega arith);
             })
             (λ i y ne at2 z. let at_zero = subst (λ (k : ℕ). get_elem? s.views k ≡ some y) z at2 in let q = r.zero_fits y at_zero in let g = r.fits 0 y at_zero q.lives in record {
               lives = q.lives;
@@ -86,7 +105,7 @@ module _ {B E : Type 0} (history : B → List (ℕ × E)) (faults : B → ℕ) (
               keeps_made = λ k x at'' none. each_set (λ (k : ℕ) (x : View E). x.passes ≡ 0 → (made_by k (past y.first y.seen) ≡ joined_made k y.joined) × (made_by k (past y.seen new) ≡ [])) s.views id w
                   (λ z. let z' : v.passes ≡ 0 = z in absurd (omega arith))
                   (λ i x ne at3 n. let old = q.keeps_made i x at3 n in (old.0, none_in_two i y.seen r.log new g.has_seen grown old.1 (others i ne))) k x at'' none;
-              keeps_others = λ k le. q.keeps_others k (omega arith)
+              keeps_others = λ k le. q.keeps_others k (omega arith);
             }) 0 u at' refl;
         apart = λ i j u x t at_i at_j. each_two (λ k y l z. HasTicket y.turn t → HasTicket z.turn t → k ≡ l) s.views id w (λ _ _. refl)
             (λ k y ne at'' a b. absurd a) (λ k y ne at'' a b. absurd b) (λ k l y z _ _ at1 at2 a b. r.apart k l y z t at1 at2 a b) i j u x at_i at_j;
@@ -99,5 +118,5 @@ module _ {B E : Type 0} (history : B → List (ℕ × E)) (faults : B → ℕ) (
         all_passes_are = let e = sum_set (λ (x : View E). x.passes) s.views id v w at in omega (arith, e, r.all_passes_are);
         all_turns_are = let e = sum_set all_turns s.views id v w at in omega (arith, e, r.all_turns_are);
         all_tickets_are = let e = sum_set (λ (x : View E). tickets x.turn) s.views id v w at in omega (arith, e, r.all_tickets_are);
-        all_faults_are = let e = sum_set all_faults s.views id v w at in omega (arith, e, r.all_faults_are)
+        all_faults_are = let e = sum_set all_faults s.views id v w at in omega (arith, e, r.all_faults_are);
       }

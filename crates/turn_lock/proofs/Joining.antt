@@ -1,9 +1,9 @@
 -- The rule stays where a pass is joined into pass 0.
-use Rattle.std.proofs.Common.{◌≡◌, ◌≢◌, ℕ, zero, suc, ◌+◌, ◌*◌, ◌^◌, ◌<◌, ◌≤◌, ◌⊎◌, List, [], ◌∷◌, ◌++◌, length, set, max, sym, refl, ap, ◌∙◌, subst, ⊎_elim, arith, lt-ltb, le-ltb, eq-eqb, ne_eqb, length-set}
+use Rattle.std.proofs.Common.{◌≡◌, ◌≢◌, ℕ, ◌+◌, ◌<◌, ◌≤◌, List, [], ◌∷◌, length, set, max, sym, refl, ap, ◌∙◌, subst, arith, lt-ltb, le-ltb, eq-eqb, ne_eqb, length-set}
 use Rattle.std.proofs.lemmas.List.Elements.{All-cons}
 use Rattle.std.proofs.lemmas.List.Sums.{sum_by-cons}
-use Rattle.std.specs.Prelude.{sum_by, All, slice_index_or, Option, Some}
-use mathlib.Core.Option.{some, some-injective, some-ne-none}
+use Rattle.std.specs.Prelude.{sum_by, slice_index_or, Option}
+use mathlib.Core.Option.{some}
 use mathlib.Core.Logic.{dite}
 use native.Mathlib.Decide.{ℕ_discrete, dec_le}
 use lib.ListN.{get_elem?}
@@ -14,8 +14,8 @@ use Rattle.turn_lock.specs.declared.view.Joined.{Joined}
 use Rattle.turn_lock.specs.declared.view.Turn.TheVariants.{Rest}
 use Rattle.turn_lock.specs.Histories.{BeginsWith, past, made_by}
 use Rattle.turn_lock.specs.Views.{HasTicket, IsServed, tickets, all_turns, all_faults, joined_made, spent, longer_seen, longer_faults, kept_of, joined_view}
-use Rattle.turn_lock.specs.Rule.{InTurn, Fits, FitsZero, Turned}
-use Rattle.turn_lock.proofs.Lists.{at_below, at_one, sum_set, begins_self, begins_same, begins_whole, begins_between, begins_through, begins_no_longer, made_in_first, none_in_parts}
+use Rattle.turn_lock.specs.Rule.{Fits, FitsZero, Turned}
+use Rattle.turn_lock.proofs.Lists.{at_below, at_one, sum_set, begins_self, begins_same, begins_between, begins_through, begins_no_longer, made_in_first, none_in_parts}
 use Rattle.turn_lock.proofs.Turning.{each_set}
 
 module _ {E : Type 0} where
@@ -24,8 +24,8 @@ module _ {E : Type 0} where
       → (length v.seen ≡ length w.seen → P v.seen (max v.seen_faults w.seen_faults)) → P (longer_seen v w) (longer_faults v w)
   by_longer P v w second first same = dite (dec_le (length w.seen) (length v.seen))
       (λ le. rw (le-ltb (length v.seen) (length w.seen) le) (dite (dec_le (length v.seen) (length w.seen))
-          (λ ge. rw (le-ltb (length w.seen) (length v.seen) ge) (same (omega arith)))
-          (λ lt. rw (lt-ltb (length w.seen) (length v.seen) (omega arith)) (first (omega arith)))))
+      (λ ge. rw (le-ltb (length w.seen) (length v.seen) ge) (same (omega arith)))
+      (λ lt. rw (lt-ltb (length w.seen) (length v.seen) (omega arith)) (first (omega arith)))))
       (λ lt. rw (lt-ltb (length v.seen) (length w.seen) (omega arith)) (second (omega arith)))
 
   -- what both had seen is the beginning of the longer history, which is the beginning of the whole one
@@ -86,10 +86,19 @@ module _ {B E : Type 0} (history : B → List (ℕ × E)) (faults : B → ℕ) (
         few = omega (arith, r.few);
         fits = λ j u at' live. each_joined (λ (k : ℕ) (x : View E). 0 < x.passes → Fits first (faults about) r.log r.count r.ticket r.serving k x) s.views o both apart
             (λ _. record {
-              numbered = f.numbered; began = f.began; began_faults = f.began_faults; from_first = begins_through first v.seen seen f.from_first longer.1; has_seen = longer.0;
+              numbered = f.numbered;
+              began = f.began;
+              began_faults = f.began_faults;
+              from_first = begins_through first v.seen seen f.from_first longer.1;
+              has_seen = longer.0;
               no_more = by_longer (λ _ k. k ≤ r.count) v w (λ _. g.no_more) (λ _. f.no_more) (λ _. omega (arith, f.no_more, g.no_more));
-              own = made_in_first 0 first v.seen seen f.from_first longer.1 mine.0 ∙ f.own; none_past = mine.1; few_turns = f.few_turns;
-              few_joined = omega (arith, f.few_joined, g.few_turns); in_turn = f.in_turn; counts = omega (arith, f.counts); only_zero = λ ne. absurd (ne refl)
+              own = made_in_first 0 first v.seen seen f.from_first longer.1 mine.0 ∙ f.own;
+              none_past = mine.1;
+              few_turns = f.few_turns;
+              few_joined = omega (arith, f.few_joined, g.few_turns);
+              in_turn = f.in_turn;
+              counts = omega (arith, f.counts);
+              only_zero = λ ne. absurd (ne refl);
             })
             (λ live'. absurd (omega arith))
             (λ k x ne not_o at'' live'. r.fits k x at'' live') j u at' live;
@@ -102,10 +111,13 @@ module _ {B E : Type 0} (history : B → List (ℕ × E)) (faults : B → ℕ) (
                   (λ k d lt. let b = q.saw_both k d lt in let j : Joined E = slice_index_or v.joined k d in (begins_through j.kept_seen v.seen seen b.0 longer.1, begins_through j.other_seen v.seen seen b.1 longer.1));
               are_spent = All-cons (λ (j : Joined E). (u : View E) × (get_elem? (set (set s.views 0 both) o spent) j.number ≡ some u) × (u.passes ≡ 0)) (kept_of v w) v.joined
                   (spent, subst (λ (k : ℕ). get_elem? (set (set s.views 0 both) o spent) k ≡ some spent) (sym g.numbered) spent_at, refl)
-                  (λ k d lt. let gone = q.are_spent k d lt in let m : ℕ = (slice_index_or v.joined k d).number in
-                    (gone.0, old_at m gone.0
-                      (λ e. not_spent v gone.0 (at_one s.views 0 gone.0 v (subst (λ (i : ℕ). get_elem? s.views i ≡ some gone.0) e gone.1) at) lives gone.2)
-                      (λ e. not_spent w gone.0 (at_one s.views o gone.0 w (subst (λ (i : ℕ). get_elem? s.views i ≡ some gone.0) e gone.1) at_w) lives_w gone.2) gone.1, gone.2));
+                  (λ k d lt. let gone = q.are_spent k d lt in let m : ℕ = (slice_index_or v.joined k d).number in (
+                    gone.0,
+                    old_at m gone.0
+                        (λ e. not_spent v gone.0 (at_one s.views 0 gone.0 v (subst (λ (i : ℕ). get_elem? s.views i ≡ some gone.0) e gone.1) at) lives gone.2)
+                        (λ e. not_spent w gone.0 (at_one s.views o gone.0 w (subst (λ (i : ℕ). get_elem? s.views i ≡ some gone.0) e gone.1) at_w) lives_w gone.2) gone.1,
+                    gone.2,
+                  ));
               keeps_made = λ k x at'' none. each_joined (λ (i : ℕ) (y : View E). y.passes ≡ 0 → (made_by i (past v.first seen) ≡ joined_made i (kept_of v w ∷ v.joined)) × (made_by i (past seen r.log) ≡ [])) s.views o both apart
                   (λ z. let z' : v.passes + w.passes ≡ 0 = z in absurd (omega arith))
                   (λ _. (
@@ -116,7 +128,7 @@ module _ {B E : Type 0} (history : B → List (ℕ × E)) (faults : B → ℕ) (
                     rw (ne_eqb w.number i (λ e. not_o (sym e ∙ g.numbered))) (made_in_first i v.first v.seen seen first_seen longer.1 parts.0 ∙ old.0),
                     parts.1,
                   )) k x at'' none;
-              keeps_others = λ k le. rw (ne_eqb w.number k (λ e. let h = g.numbered in omega arith)) (q.keeps_others k (omega arith))
+              keeps_others = λ k le. rw (ne_eqb w.number k (λ e. let h = g.numbered in omega arith)) (q.keeps_others k (omega arith));
             })
             (λ z. absurd (apart z)) (λ k x ne not_o at'' z. absurd (ne z)) 0 u at' refl;
         apart = λ i j u x t at_i at_j. each_joined (λ (k : ℕ) (y : View E). HasTicket y.turn t → HasTicket x.turn t → k ≡ j) s.views o both apart
@@ -124,34 +136,34 @@ module _ {B E : Type 0} (history : B → List (ℕ × E)) (faults : B → ℕ) (
             (λ k y ne not_o at1. each_joined (λ (l : ℕ) (z : View E). HasTicket y.turn t → HasTicket z.turn t → k ≡ l) s.views o both apart (λ _ b. absurd (subst (λ z. HasTicket z t) rests b)) (λ _ b. absurd b) (λ l z ne' not_o' at2 a b. r.apart k l y z t at1 at2 a b) j x at_j) i u at_i;
         later = λ i j u x at_i at_j. each_joined (λ (k : ℕ) (y : View E). 0 < y.passes → 0 < x.passes → length y.seen < length x.seen → y.seen_faults ≤ x.seen_faults) s.views o both apart
             (each_joined (λ (l : ℕ) (z : View E). 0 < both.passes → 0 < z.passes → length seen < length z.seen → both.seen_faults ≤ z.seen_faults) s.views o both apart (λ _ _ less. absurd (omega arith)) (λ _ b. absurd (omega arith))
-                (λ l z ne not_o at2 a b less. by_longer (λ sn fs. length sn < length z.seen → fs ≤ z.seen_faults) v w (λ _ less'. r.later o l w z at_w at2 lives_w b less') (λ _ less'. r.later 0 l v z at at2 lives b less')
-                    (λ e less'. let h = r.later 0 l v z at at2 lives b less' in let h' = r.later o l w z at_w at2 lives_w b (omega arith) in omega arith) less) j x at_j)
+            (λ l z ne not_o at2 a b less. by_longer (λ sn fs. length sn < length z.seen → fs ≤ z.seen_faults) v w (λ _ less'. r.later o l w z at_w at2 lives_w b less') (λ _ less'. r.later 0 l v z at at2 lives b less')
+            (λ e less'. let h = r.later 0 l v z at at2 lives b less' in let h' = r.later o l w z at_w at2 lives_w b (omega arith) in omega arith) less) j x at_j)
             (λ a. absurd (omega arith))
             (λ k y ne not_o at1. each_joined (λ (l : ℕ) (z : View E). 0 < y.passes → 0 < z.passes → length y.seen < length z.seen → y.seen_faults ≤ z.seen_faults) s.views o both apart
-                (λ a _ less. by_longer (λ sn fs. length y.seen < length sn → y.seen_faults ≤ fs) v w (λ _ less'. r.later k o y w at1 at_w a lives_w less') (λ _ less'. r.later k 0 y v at1 at a lives less')
-                    (λ e less'. let h = r.later k 0 y v at1 at a lives less' in omega arith) less)
-                (λ _ b. absurd (omega arith)) (λ l z ne' not_o' at2 a b less. r.later k l y z at1 at2 a b less) j x at_j) i u at_i;
+            (λ a _ less. by_longer (λ sn fs. length y.seen < length sn → y.seen_faults ≤ fs) v w (λ _ less'. r.later k o y w at1 at_w a lives_w less') (λ _ less'. r.later k 0 y v at1 at a lives less')
+            (λ e less'. let h = r.later k 0 y v at1 at a lives less' in omega arith) less)
+            (λ _ b. absurd (omega arith)) (λ l z ne' not_o' at2 a b less. r.later k l y z at1 at2 a b less) j x at_j) i u at_i;
         latest = let l = r.latest in dite (ℕ_discrete l.0 0)
             (λ e. let same = at_one s.views 0 v l.1 at (subst (λ (k : ℕ). get_elem? s.views k ≡ some l.1) e l.2) in
-                let is : v.seen ≡ r.log = ap (λ (x : View E). x.seen) same ∙ l.4 in let count : v.seen_faults ≡ r.count = ap (λ (x : View E). x.seen_faults) same ∙ l.5 in let long_as = ap length is in
-                let it = by_longer (λ sn fs. (sn ≡ r.log) × (fs ≡ r.count)) v w (λ lt. let h = begins_no_longer r.log w.seen g.has_seen in absurd (omega arith)) (λ _. (is, count)) (λ _. (is, omega (arith, g.no_more))) in
-                (0, both, both_at, omega arith, it.0, it.1))
+            let is : v.seen ≡ r.log = ap (λ (x : View E). x.seen) same ∙ l.4 in let count : v.seen_faults ≡ r.count = ap (λ (x : View E). x.seen_faults) same ∙ l.5 in let long_as = ap length is in
+            let it = by_longer (λ sn fs. (sn ≡ r.log) × (fs ≡ r.count)) v w (λ lt. let h = begins_no_longer r.log w.seen g.has_seen in absurd (omega arith)) (λ _. (is, count)) (λ _. (is, omega (arith, g.no_more))) in
+            (0, both, both_at, omega arith, it.0, it.1))
             (λ ne. dite (ℕ_discrete l.0 o)
-              (λ e. let same = at_one s.views o w l.1 at_w (subst (λ (k : ℕ). get_elem? s.views k ≡ some l.1) e l.2) in
-                let is : w.seen ≡ r.log = ap (λ (x : View E). x.seen) same ∙ l.4 in let count : w.seen_faults ≡ r.count = ap (λ (x : View E). x.seen_faults) same ∙ l.5 in let long_as = ap length is in
-                let it = by_longer (λ sn fs. (sn ≡ r.log) × (fs ≡ r.count)) v w (λ _. (is, count)) (λ lt. let h = begins_no_longer r.log v.seen f.has_seen in absurd (omega arith)) (λ e'. (begins_same v.seen w.seen r.log f.has_seen g.has_seen e' ∙ is, omega (arith, f.no_more))) in
-                (0, both, both_at, omega arith, it.0, it.1))
-              (λ not_o. (l.0, l.1, old_at l.0 l.1 ne not_o l.2, l.3, l.4, l.5)));
+            (λ e. let same = at_one s.views o w l.1 at_w (subst (λ (k : ℕ). get_elem? s.views k ≡ some l.1) e l.2) in
+            let is : w.seen ≡ r.log = ap (λ (x : View E). x.seen) same ∙ l.4 in let count : w.seen_faults ≡ r.count = ap (λ (x : View E). x.seen_faults) same ∙ l.5 in let long_as = ap length is in
+            let it = by_longer (λ sn fs. (sn ≡ r.log) × (fs ≡ r.count)) v w (λ _. (is, count)) (λ lt. let h = begins_no_longer r.log v.seen f.has_seen in absurd (omega arith)) (λ e'. (begins_same v.seen w.seen r.log f.has_seen g.has_seen e' ∙ is, omega (arith, f.no_more))) in
+            (0, both, both_at, omega arith, it.0, it.1))
+            (λ not_o. (l.0, l.1, old_at l.0 l.1 ne not_o l.2, l.3, l.4, l.5)));
         at_home = λ not_served. r.at_home (λ j u at_j is. dite (ℕ_discrete j 0)
             (λ e. let same = at_one s.views 0 u v (subst (λ (k : ℕ). get_elem? s.views k ≡ some u) e at_j) at in subst IsServed (ap (λ (x : View E). x.turn) same ∙ rests) is)
             (λ ne. dite (ℕ_discrete j o)
-              (λ e. let same = at_one s.views o u w (subst (λ (k : ℕ). get_elem? s.views k ≡ some u) e at_j) at_w in subst IsServed (ap (λ (x : View E). x.turn) same ∙ rests_w) is)
-              (λ not_o. not_served j u (old_at j u ne not_o at_j) is)));
+            (λ e. let same = at_one s.views o u w (subst (λ (k : ℕ). get_elem? s.views k ≡ some u) e at_j) at_w in subst IsServed (ap (λ (x : View E). x.turn) same ∙ rests_w) is)
+            (λ not_o. not_served j u (old_at j u ne not_o at_j) is)));
         none_unmade = λ k le. r.none_unmade k (omega arith);
         all_passes_are = let e = sums (λ (x : View E). x.passes) in omega (arith, e, r.all_passes_are);
         all_turns_are = let e = sums all_turns in omega (arith, e, r.all_turns_are);
         all_tickets_are = let e = sums (λ (x : View E). tickets x.turn) in let t : tickets w.turn ≡ 0 = ap tickets rests_w in omega (arith, e, r.all_tickets_are);
-        all_faults_are = let e = sums all_faults in omega (arith, e, r.all_faults_are)
+        all_faults_are = let e = sums all_faults in omega (arith, e, r.all_faults_are);
       }
 
   pub joins : (id other : ℕ) (v w : View E) → v.number ≡ 0 → 0 < v.passes → 0 < w.passes → v.turn ≡ Rest → w.turn ≡ Rest → Joins (Turned history faults about) id v other w (joined_view v w) spent

@@ -1,12 +1,12 @@
 -- Each step of a turn keeps the rule, and tells what it is said to tell.
-use Rattle.std.proofs.Common.{◌≡◌, ◌≢◌, ℕ, suc, ◌+◌, ◌-◌, ◌*◌, ◌^◌, ◌%◌, ◌<◌, ◌≤◌, List, [], ◌∷◌, ◌++◌, length, get_or, set, eqb, sym, refl, ap, ◌∙◌, subst, arith, eq-eqb}
+use Rattle.std.proofs.Common.{◌≡◌, ℕ, ◌+◌, ◌-◌, ◌*◌, ◌^◌, ◌%◌, ◌<◌, ◌≤◌, List, [], ◌∷◌, ◌++◌, length, get_or, set, eqb, sym, refl, ap, ◌∙◌, subst, arith, eq-eqb}
 use Rattle.std.proofs.Math.Nat.{mod-eq_of_lt}
 use Rattle.std.proofs.lemmas.List.{set-get_or}
-use Rattle.std.specs.Prelude.{sum_by, All, Option, Some, None}
+use Rattle.std.specs.Prelude.{All, Option, Some, None}
 use mathlib.Core.Option.{none, some}
 use mathlib.Core.Option as maybe
 use mathlib.Core.Logic.{dite}
-use native.Mathlib.Decide.{ℕ_discrete, dec_le}
+use native.Mathlib.Decide.{ℕ_discrete}
 use lib.ListN.{get_elem?}
 use prog.Atomic.{either}
 use Rattle.atomic_table.specs.Table.{State, Me, step, Act, keeps, takes, gives, Valid, carried_after, put_back, stepped, Allows, rest}
@@ -16,9 +16,9 @@ use Rattle.turn_lock.specs.declared.view.Joined.{Joined}
 use Rattle.turn_lock.specs.declared.view.Turn.{Turn}
 use Rattle.turn_lock.specs.declared.view.Turn.TheVariants.{Rest, Drawn, Served}
 use Rattle.turn_lock.specs.Histories.{BeginsWith, past, made_by}
-use Rattle.turn_lock.specs.Views.{HasTicket, IsServed, tickets, ticket_of, taken_of, taken_faults_of, all_turns, all_faults, joined_made, spent, drawn, served, given}
-use Rattle.turn_lock.specs.Rule.{InTurn, Fits, FitsZero, Turned}
-use Rattle.turn_lock.specs.Steps.{Learns, KeepsLast, looked, drew, came, raised, checked}
+use Rattle.turn_lock.specs.Views.{HasTicket, IsServed, tickets, ticket_of, taken_of, taken_faults_of, all_turns, joined_made, spent, drawn, served, given}
+use Rattle.turn_lock.specs.Rule.{InTurn, Turned}
+use Rattle.turn_lock.specs.Steps.{KeepsLast, looked, drew, came, raised, checked}
 use Rattle.turn_lock.proofs.Lists.{at_below, at_one, sums_within, begins_through, made_through_two, made_in_first, made_by_all}
 use Rattle.turn_lock.proofs.Turning.{with_turn}
 use Rattle.turn_lock.proofs.Giving.{with_give}
@@ -109,8 +109,8 @@ module _ {B E : Type 0} (history : B → List (ℕ × E)) (faults : B → ℕ) (
             (let h : r.serving ≤ old = omega (arith, r.all_tickets_are) in let l : old < new = omega arith in (h, l))
             (λ t has j u ne at_j other. let f = r.fits j u at_j (lives_by_ticket s r j u t at_j other) in let b = ticket_below r.log r.count r.ticket r.serving u.turn t f.in_turn other in let e : old ≡ t = has in absurd (omega arith))
             (λ not_served. r.at_home (λ j u at_j is_served. dite (ℕ_discrete j id)
-                (λ e. let same = at_one s.views id u me.0 (subst (λ (k : ℕ). get_elem? s.views k ≡ some u) e at_j) at in subst IsServed (ap (λ (x : View E). x.turn) same ∙ rests) is_served)
-                (λ ne. not_served j u (set_else s.views id j (drawn me.0 old) ne ∙ at_j) is_served)))),
+            (λ e. let same = at_one s.views id u me.0 (subst (λ (k : ℕ). get_elem? s.views k ≡ some u) e at_j) at in subst IsServed (ap (λ (x : View E). x.turn) same ∙ rests) is_served)
+            (λ ne. not_served j u (set_else s.views id j (drawn me.0 old) ne ∙ at_j) is_served)))),
         ((λ _. refl), λ miss. absurd (miss hit)),
       ))
       (λ miss. stays s r 0 id me then at ((λ hit. absurd (miss hit)), λ _. (refl, omega (arith, ticket_at s r, below s r))))
@@ -125,35 +125,39 @@ module _ {B E : Type 0} (history : B → List (ℕ × E)) (faults : B → ℕ) (
       let mine : ticket_of me.0.turn ≡ t = ap ticket_of waits in
       dite (ℕ_discrete x (ticket_of me.0.turn))
       (λ hit. let is : r.serving ≡ t = sym (serving_at s r) ∙ hit ∙ mine in
-          let has_now : HasTicket me.0.turn r.serving = subst (HasTicket me.0.turn) (sym is) has in
-          let book = r.at_home (λ j u at_j is_served.
-              let e = r.apart j id u me.0 r.serving at_j at (served_has s r j u at_j is_served) has_now in
-              let same = at_one s.views id u me.0 (subst (λ (k : ℕ). get_elem? s.views k ≡ some u) e at_j) at in
-              let P : Turn E → Type 0 = IsServed in subst P (ap (λ (z : View E). z.turn) same ∙ waits) is_served) in
-          let b : B = book.0 in
-          let first_seen : BeginsWith me.0.seen me.0.first = subst (λ (z : List (ℕ × E)). BeginsWith me.0.seen z) (sym f.began) f.from_first in (
-            served me.0 x (history b) (faults b),
-            takes 0 (Some b),
-            ap (λ (hs : List (maybe.Option (Option B))). get_elem? hs 0) r.slot ∙ ap some book.1,
-            with_turn history faults about s r id me.0 (Served x (history b) (faults b)) r.ticket none (set s.words 1 x) (set s.homes 0 none) at lives
-                (set-get_or s.words 1 0 ∙ r.words) (ap (λ (hs : List (maybe.Option (Option B))). set hs 0 none) r.slot) (omega arith)
-                (let one : tickets me.0.turn ≡ 1 = ap tickets waits in ap (λ (k : ℕ). r.ticket + k) one)
-                (let one : tickets me.0.turn ≡ 1 = ap tickets waits in omega (arith, f.few_turns))
-                (serving_at s r, (let l = ticket_below r.log r.count r.ticket r.serving me.0.turn r.serving f.in_turn has_now in let e = serving_at s r in omega arith), book.2, book.3)
-                (λ k has_k j u ne at_j other. let e : x ≡ k = has_k in ne (r.apart j id u me.0 k at_j at other (subst (HasTicket me.0.turn) (sym (serving_at s r) ∙ e) has_now)))
-                (λ not_served. absurd (not_served id (served me.0 x (history b) (faults b)) (set_here s.views id _ (at_below s.views id me.0 at)) tt)),
-            (
-              (λ _. (b, refl, record {
-                begins = subst (λ (z : List (ℕ × E)). BeginsWith z me.0.seen) (sym book.2) f.has_seen;
-                no_less = subst (λ (z : ℕ). me.0.seen_faults ≤ z) (sym book.3) f.no_more;
-                own = subst (λ (z : List (ℕ × E)). made_by me.0.number (past me.0.first z) ≡ me.0.made) (sym book.2)
-                    (subst (λ (k : ℕ). made_by k (past me.0.first r.log) ≡ me.0.made) (sym f.numbered)
-                    (made_in_first id me.0.first me.0.seen r.log first_seen f.has_seen f.none_past ∙ ap (λ (z : List (ℕ × E)). made_by id (past z me.0.seen)) f.began ∙ f.own));
-                none_past = subst (λ (z : List (ℕ × E)). made_by me.0.number (past me.0.seen z) ≡ []) (sym book.2) (subst (λ (k : ℕ). made_by k (past me.0.seen r.log) ≡ []) (sym f.numbered) f.none_past)
-              })),
-              λ miss. absurd (miss hit),
-            ),
-          ))
+      let has_now : HasTicket me.0.turn r.serving = subst (HasTicket me.0.turn) (sym is) has in
+      let book = r.at_home (λ j u at_j is_served.
+      let e = r.apart j id u me.0 r.serving at_j at (served_has s r j u at_j is_served) has_now in
+      let same = at_one s.views id u me.0 (subst (λ (k : ℕ). get_elem? s.views k ≡ some u) e at_j) at in
+      let P : Turn E → Type 0 = IsServed in subst P (ap (λ (z : View E). z.turn) same ∙ waits) is_served) in
+      let b : B = book.0 in
+      let first_seen : BeginsWith me.0.seen me.0.first = subst (λ (z : List (ℕ × E)). BeginsWith me.0.seen z) (sym f.began) f.from_first in (
+        served me.0 x (history b) (faults b),
+        takes 0 (Some b),
+        ap (λ (hs : List (maybe.Option (Option B))). get_elem? hs 0) r.slot ∙ ap some book.1,
+        with_turn history faults about s r id me.0 (Served x (history b) (faults b)) r.ticket none (set s.words 1 x) (set s.homes 0 none) at lives
+            (set-get_or s.words 1 0 ∙ r.words) (ap (λ (hs : List (maybe.Option (Option B))). set hs 0 none) r.slot) (omega arith)
+            (let one : tickets me.0.turn ≡ 1 = ap tickets waits in ap (λ (k : ℕ). r.ticket + k) one)
+            (let one : tickets me.0.turn ≡ 1 = ap tickets waits in omega (arith, f.few_turns))
+            (serving_at s r, (let l = ticket_below r.log r.count r.ticket r.serving me.0.turn r.serving f.in_turn has_now in let e = serving_at s r in omega arith), book.2, book.3)
+            (λ k has_k j u ne at_j other. let e : x ≡ k = has_k in ne (r.apart j id u me.0 k at_j at other (subst (HasTicket me.0.turn) (sym (serving_at s r) ∙ e) has_now)))
+            (λ not_served. absurd (not_served id (served me.0 x (history b) (faults b)) (set_here s.views id _ (at_below s.views id me.0 at)) tt)),
+        (
+          (λ _. (
+            b,
+            refl,
+            record {
+              begins = subst (λ (z : List (ℕ × E)). BeginsWith z me.0.seen) (sym book.2) f.has_seen;
+              no_less = subst (λ (z : ℕ). me.0.seen_faults ≤ z) (sym book.3) f.no_more;
+              own = subst (λ (z : List (ℕ × E)). made_by me.0.number (past me.0.first z) ≡ me.0.made) (sym book.2)
+                  (subst (λ (k : ℕ). made_by k (past me.0.first r.log) ≡ me.0.made) (sym f.numbered)
+                  (made_in_first id me.0.first me.0.seen r.log first_seen f.has_seen f.none_past ∙ ap (λ (z : List (ℕ × E)). made_by id (past z me.0.seen)) f.began ∙ f.own));
+              none_past = subst (λ (z : List (ℕ × E)). made_by me.0.number (past me.0.seen z) ≡ []) (sym book.2) (subst (λ (k : ℕ). made_by k (past me.0.seen r.log) ≡ []) (sym f.numbered) f.none_past);
+            },
+          )),
+          λ miss. absurd (miss hit),
+        ),
+      ))
       (λ miss. stays s r 1 id me then at ((λ hit. absurd (miss hit)), λ _. refl))
 
   pub raises : (n id : ℕ) (me : Me (Option B) (View E)) (t count : ℕ) (taken : List (ℕ × E)) (b : B) → me.0.turn ≡ Served t taken count → 0 < me.0.passes → me.1 ≡ (0, Some b) ∷ []
@@ -178,14 +182,18 @@ module _ {B E : Type 0} (history : B → List (ℕ × E)) (faults : B → ℕ) (
             (ap (λ (z : List (ℕ × E)). past z (history b)) took)
             (subst (λ (z : List (ℕ × E)). made_by id (past z (history b)) ≡ past z (history b)) (sym (ap taken_of turn)) (subst (λ (k : ℕ). made_by k (past taken (history b)) ≡ past taken (history b)) f.numbered own))
             (let same : count ≡ r.count = stands.3 in let c : taken_faults_of me.0.turn ≡ r.count = counted in omega arith),
-        (b, holds_it, (λ i. (given me.0 (history b) (faults b), rest (holds_it i))),
-            (let grown_log : BeginsWith (history b) r.log = subst (λ (z : List (ℕ × E)). BeginsWith (history b) z) stands.2 grown in
-            let first_seen : BeginsWith me.0.seen me.0.first = subst (λ (z : List (ℕ × E)). BeginsWith me.0.seen z) (sym f.began) f.from_first in
-            let first_log : BeginsWith r.log me.0.first = begins_through me.0.first me.0.seen r.log first_seen f.has_seen in
-            let mine : made_by me.0.number (past me.0.first r.log) ≡ me.0.made = subst (λ (k : ℕ). made_by k (past me.0.first r.log) ≡ me.0.made) (sym f.numbered)
-                (made_in_first id me.0.first me.0.seen r.log first_seen f.has_seen f.none_past ∙ ap (λ (z : List (ℕ × E)). made_by id (past z me.0.seen)) f.began ∙ f.own) in
-            made_through_two me.0.number me.0.first r.log (history b) first_log grown_log
-                ∙ (λ i. mine i ++ subst (λ (z : List (ℕ × E)). made_by me.0.number (past z (history b)) ≡ past (taken_of me.0.turn) (history b)) stands.2 (own ∙ ap (λ (z : List (ℕ × E)). past z (history b)) (sym (ap taken_of turn))) i))),
+        (
+          b,
+          holds_it,
+          (λ i. (given me.0 (history b) (faults b), rest (holds_it i))),
+          (let grown_log : BeginsWith (history b) r.log = subst (λ (z : List (ℕ × E)). BeginsWith (history b) z) stands.2 grown in
+              let first_seen : BeginsWith me.0.seen me.0.first = subst (λ (z : List (ℕ × E)). BeginsWith me.0.seen z) (sym f.began) f.from_first in
+              let first_log : BeginsWith r.log me.0.first = begins_through me.0.first me.0.seen r.log first_seen f.has_seen in
+              let mine : made_by me.0.number (past me.0.first r.log) ≡ me.0.made = subst (λ (k : ℕ). made_by k (past me.0.first r.log) ≡ me.0.made) (sym f.numbered)
+              (made_in_first id me.0.first me.0.seen r.log first_seen f.has_seen f.none_past ∙ ap (λ (z : List (ℕ × E)). made_by id (past z me.0.seen)) f.began ∙ f.own) in
+              made_through_two me.0.number me.0.first r.log (history b) first_log grown_log
+              ∙ (λ i. mine i ++ subst (λ (z : List (ℕ × E)). made_by me.0.number (past z (history b)) ≡ past (taken_of me.0.turn) (history b)) stands.2 (own ∙ ap (λ (z : List (ℕ × E)). past z (history b)) (sym (ap taken_of turn))) i)),
+        ),
       )
 
   -- the same, in the words of a hand

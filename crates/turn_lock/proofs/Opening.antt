@@ -1,14 +1,14 @@
 -- The rule holds as a lock is made.
-use Rattle.std.proofs.Common.{◌≡◌, ◌≢◌, ℕ, zero, suc, ◌+◌, ◌*◌, ◌^◌, ◌<◌, ◌≤◌, ◌⊎◌, List, [], ◌∷◌, ◌++◌, length, set, sym, refl, ap, ◌∙◌, subst, ⊎_elim, arith, length-set, length-append}
-use Rattle.std.specs.Prelude.{sum_by, Option, Some}
+use Rattle.std.proofs.Common.{◌≡◌, ℕ, zero, suc, List, [], ◌∷◌, length, sym, refl, ap, ◌∙◌, subst, arith}
+use Rattle.std.specs.Prelude.{Option, Some}
 use mathlib.Core.Option.{some, some-injective, some-ne-none}
 use lib.ListN.{get_elem?}
-use Rattle.atomic_table.specs.Table.{State, opening}
+use Rattle.atomic_table.specs.Table.{opening}
 use Rattle.turn_lock.specs.declared.view.View.{View}
-use Rattle.turn_lock.specs.Histories.{BeginsWith, past, made_by}
-use Rattle.turn_lock.specs.Views.{HasTicket, IsServed, tickets, all_turns, all_faults, joined_made, spent, opened}
-use Rattle.turn_lock.specs.Rule.{InTurn, Fits, FitsZero, Turned}
-use Rattle.turn_lock.proofs.Lists.{at_below, begins_self, past_self}
+use Rattle.turn_lock.specs.Histories.{made_by}
+use Rattle.turn_lock.specs.Views.{spent, opened}
+use Rattle.turn_lock.specs.Rule.{Fits, FitsZero, Turned}
+use Rattle.turn_lock.proofs.Lists.{begins_self, past_self}
 
 -- the one element
 pub one_of : {A : Type 0} (a b : A) (j : ℕ) → get_elem? (a ∷ []) j ≡ some b → (j ≡ 0) × (a ≡ b)
@@ -41,7 +41,7 @@ module _ {B E : Type 0} (history : B → List (ℕ × E)) (faults : B → ℕ) (
         all_passes_are = refl;
         all_turns_are = refl;
         all_tickets_are = refl;
-        all_faults_are = omega arith
+        all_faults_are = omega arith;
       }
 
 pub opens_with : {B E : Type 0} (history : B → List (ℕ × E)) (faults : B → ℕ) (about book : B) (items : List (Option B)) → items ≡ Some book ∷ [] → about ≡ book

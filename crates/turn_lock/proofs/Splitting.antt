@@ -1,18 +1,18 @@
 -- The rule stays where a pass is split off.
-use Rattle.std.proofs.Common.{◌≡◌, ◌≢◌, ℕ, zero, suc, ◌+◌, ◌*◌, ◌^◌, ◌<◌, ◌≤◌, ◌⊎◌, List, [], ◌∷◌, ◌++◌, length, set, sym, refl, ap, ◌∙◌, subst, ⊎_elim, arith, length-set, length-append}
+use Rattle.std.proofs.Common.{◌≡◌, ◌≢◌, ℕ, ◌+◌, ◌<◌, ◌≤◌, List, [], ◌∷◌, ◌++◌, length, set, sym, refl, ap, ◌∙◌, subst, ⊎_elim, arith, length-set, length-append}
 use Rattle.std.proofs.lemmas.List.Sums.{sum_by_push}
-use Rattle.std.specs.Prelude.{sum_by, Option, Some}
-use mathlib.Core.Option.{some, some-injective, some-ne-none}
+use Rattle.std.specs.Prelude.{sum_by, Option}
+use mathlib.Core.Option.{some}
 use mathlib.Core.Logic.{dite}
 use native.Mathlib.Decide.{ℕ_discrete}
 use lib.ListN.{get_elem?}
 use Rattle.atomic_table.specs.Table.{State, Splits}
-use Rattle.atomic_table.proofs.Lists.{set_here, set_else, at_longer, at_last}
+use Rattle.atomic_table.proofs.Lists.{set_here, set_else, at_longer}
 use Rattle.turn_lock.specs.declared.view.View.{View}
-use Rattle.turn_lock.specs.Histories.{BeginsWith, past, made_by}
-use Rattle.turn_lock.specs.Views.{HasTicket, IsServed, tickets, all_turns, all_faults, joined_made, spent, opened, split_left, split_right}
-use Rattle.turn_lock.specs.Rule.{InTurn, Fits, FitsZero, Turned}
-use Rattle.turn_lock.proofs.Lists.{at_below, at_one, at_either, sum_set, begins_through, none_in_parts}
+use Rattle.turn_lock.specs.Histories.{past, made_by}
+use Rattle.turn_lock.specs.Views.{HasTicket, IsServed, tickets, all_turns, all_faults, joined_made, spent, split_left, split_right}
+use Rattle.turn_lock.specs.Rule.{Fits, FitsZero, Turned}
+use Rattle.turn_lock.proofs.Lists.{at_below, at_one, at_either, sum_set, none_in_parts}
 use Rattle.turn_lock.proofs.Turning.{each_set, still_spent}
 
 module _ {E : Type 0} where
@@ -62,7 +62,7 @@ module _ {B E : Type 0} (history : B → List (ℕ × E)) (faults : B → ℕ) (
               are_spent = λ k d lt. let gone = still_spent s.views 0 v left _ at lives (q.are_spent k d lt) in (gone.0, still _ gone.0 gone.1, gone.2);
               keeps_made = λ k x at'' none. each_split (λ (i : ℕ) (y : View E). y.passes ≡ 0 → (made_by i (past v.first v.seen) ≡ joined_made i v.joined) × (made_by i (past v.seen r.log) ≡ [])) s.views v
                   (λ z. let z' : v.passes ≡ 0 = z in absurd (omega arith)) (λ z. absurd (omega arith)) (λ i y ne at3 z. q.keeps_made i y at3 z) k x at'' none;
-              keeps_others = λ k le. q.keeps_others k (omega arith)
+              keeps_others = λ k le. q.keeps_others k (omega arith);
             })
             (λ z. absurd (omega arith)) (λ k x ne at'' z. absurd (ne z)) 0 u at' refl;
         apart = λ i j u x t at_i at_j. each_split (λ (k : ℕ) (y : View E). HasTicket y.turn t → HasTicket x.turn t → k ≡ j) s.views v
@@ -83,7 +83,7 @@ module _ {B E : Type 0} (history : B → List (ℕ × E)) (faults : B → ℕ) (
         all_passes_are = let e = sums (λ (x : View E). x.passes) in omega (arith, e, r.all_passes_are);
         all_turns_are = let e = sums all_turns in omega (arith, e, r.all_turns_are);
         all_tickets_are = let e = sums (λ (x : View E). tickets x.turn) in omega (arith, e, r.all_tickets_are);
-        all_faults_are = let e = sums all_faults in omega (arith, e, r.all_faults_are)
+        all_faults_are = let e = sums all_faults in omega (arith, e, r.all_faults_are);
       }
 
   pub splits : (id : ℕ) (v : View E) → v.number ≡ 0 → 0 < v.passes → v.split + 1 < 17 → Splits (Turned history faults about) id v (split_left v) (split_right v)

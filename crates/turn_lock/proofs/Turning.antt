@@ -1,6 +1,6 @@
 -- The rule stays where only the turn of one pass changes.
-use Rattle.std.proofs.Common.{◌≡◌, ◌≢◌, ℕ, zero, suc, ◌+◌, ◌*◌, ◌^◌, ◌<◌, ◌≤◌, ◌⊎◌, List, [], ◌∷◌, ◌++◌, length, set, sym, refl, ap, ◌∙◌, subst, ⊎_elim, inl, inr, arith, length-set}
-use Rattle.std.specs.Prelude.{sum_by, Option, Some}
+use Rattle.std.proofs.Common.{◌≡◌, ◌≢◌, ℕ, ◌+◌, ◌^◌, ◌<◌, ◌≤◌, List, [], ◌∷◌, length, set, sym, refl, ap, ◌∙◌, subst, ⊎_elim, arith, length-set}
+use Rattle.std.specs.Prelude.{Option, Some}
 use mathlib.Core.Option.{some, some-injective, some-ne-none}
 use mathlib.Core.Option as maybe
 use native.Mathlib.Decide.{ℕ_discrete}
@@ -11,7 +11,7 @@ use Rattle.atomic_table.proofs.Lists.{at_set, set_here, set_else}
 use Rattle.turn_lock.specs.declared.view.View.{View}
 use Rattle.turn_lock.specs.declared.view.Turn.{Turn}
 use Rattle.turn_lock.specs.declared.view.Turn.TheVariants.{Rest, Drawn, Served}
-use Rattle.turn_lock.specs.Histories.{BeginsWith, past, made_by}
+use Rattle.turn_lock.specs.Histories.{past, made_by}
 use Rattle.turn_lock.specs.Views.{HasTicket, IsServed, tickets, all_turns, all_faults, joined_made, spent}
 use Rattle.turn_lock.specs.Rule.{InTurn, Fits, FitsZero, Turned}
 use Rattle.turn_lock.proofs.Lists.{at_below, at_one, sum_set}
@@ -74,7 +74,7 @@ module _ {B E : Type 0} (history : B → List (ℕ × E)) (faults : B → ℕ) (
               saw_both = q.saw_both;
               are_spent = λ k d lt. still_spent s.views id v w _ at lives (q.are_spent k d lt);
               keeps_made = λ k x at'' none. each_set (λ (k : ℕ) (x : View E). x.passes ≡ 0 → (made_by k (past v.first v.seen) ≡ joined_made k v.joined) × (made_by k (past v.seen r.log) ≡ [])) s.views id w (λ z. let z' : v.passes ≡ 0 = z in absurd (omega arith)) (λ i y ne at3 n. q.keeps_made i y at3 n) k x at'' none;
-              keeps_others = λ k le. q.keeps_others k (omega arith)
+              keeps_others = λ k le. q.keeps_others k (omega arith);
             })
             (λ i y ne at2 z. let q = r.zero_fits y (subst (λ (k : ℕ). get_elem? s.views k ≡ some y) z at2) in record {
               lives = q.lives;
@@ -82,7 +82,7 @@ module _ {B E : Type 0} (history : B → List (ℕ × E)) (faults : B → ℕ) (
               saw_both = q.saw_both;
               are_spent = λ k d lt. still_spent s.views id v w _ at lives (q.are_spent k d lt);
               keeps_made = λ k x at'' none. each_set (λ (k : ℕ) (x : View E). x.passes ≡ 0 → (made_by k (past y.first y.seen) ≡ joined_made k y.joined) × (made_by k (past y.seen r.log) ≡ [])) s.views id w (λ z. let z' : v.passes ≡ 0 = z in absurd (omega arith)) (λ i y ne at3 n. q.keeps_made i y at3 n) k x at'' none;
-              keeps_others = λ k le. q.keeps_others k (omega arith)
+              keeps_others = λ k le. q.keeps_others k (omega arith);
             }) 0 u at' refl;
         apart = λ i j u x t at_i at_j. each_two (λ k y l z. HasTicket y.turn t → HasTicket z.turn t → k ≡ l) s.views id w (λ _ _. refl)
             (λ k y ne at'' a b. absurd (fresh t a k y ne at'' b)) (λ k y ne at'' a b. absurd (fresh t b k y ne at'' a)) (λ k l y z _ _ at1 at2 a b. r.apart k l y z t at1 at2 a b) i j u x at_i at_j;
@@ -90,12 +90,12 @@ module _ {B E : Type 0} (history : B → List (ℕ × E)) (faults : B → ℕ) (
             (λ k y ne at'' a b less. r.later id k v y at at'' lives b less) (λ k y ne at'' a b less. r.later k id y v at'' at a lives less) (λ k l y z _ _ at1 at2 a b less. r.later k l y z at1 at2 a b less) i j u x at_i at_j;
         latest = let l = r.latest in dite (ℕ_discrete l.0 id)
             (λ here. let same = at_one s.views id v l.1 at (subst (λ (k : ℕ). get_elem? s.views k ≡ some l.1) here l.2) in
-                (id, w, set_here s.views id w (at_below s.views id v at), lives, ap (λ (x : View E). x.seen) same ∙ l.4, ap (λ (x : View E). x.seen_faults) same ∙ l.5))
+            (id, w, set_here s.views id w (at_below s.views id v at), lives, ap (λ (x : View E). x.seen) same ∙ l.4, ap (λ (x : View E). x.seen_faults) same ∙ l.5))
             (λ ne. (l.0, l.1, set_else s.views id l.0 w ne ∙ l.2, l.3, l.4, l.5));
         at_home = home;
         none_unmade = λ k le. r.none_unmade k (omega arith);
         all_passes_are = let e = sum_set (λ (x : View E). x.passes) s.views id v w at in omega (arith, e, r.all_passes_are);
         all_turns_are = let e = sum_set all_turns s.views id v w at in omega (arith, e, r.all_turns_are);
         all_tickets_are = let e = sum_set (λ (x : View E). tickets x.turn) s.views id v w at in omega (arith, e, r.all_tickets_are);
-        all_faults_are = let e = sum_set all_faults s.views id v w at in omega (arith, e, r.all_faults_are)
+        all_faults_are = let e = sum_set all_faults s.views id v w at in omega (arith, e, r.all_faults_are);
       }

@@ -1,10 +1,10 @@
 -- What each step tells the pass that takes it. m is the seat before, n the number that was found, and m' the seat after.
-use Rattle.std.specs.Prelude.{◌≡◌, ◌≢◌, ℕ, ◌^◌, ◌<◌, ◌≤◌, List, [], ◌∷◌, ◌++◌, All, Option, Some}
+use Rattle.std.specs.Prelude.{◌≡◌, ◌≢◌, ℕ, ◌^◌, ◌<◌, ◌≤◌, List, [], ◌∷◌, ◌++◌, Option, Some}
 use Rattle.atomic_table.specs.Table.{Me, Step}
 use Rattle.turn_lock.specs.declared.view.View.{View}
 use Rattle.turn_lock.specs.declared.view.Joined.{Joined}
 use Rattle.turn_lock.specs.Histories.{BeginsWith, past, made_by}
-use Rattle.turn_lock.specs.Views.{ticket_of, taken_of, joined_made, drawn, served, given}
+use Rattle.turn_lock.specs.Views.{ticket_of, taken_of, drawn, served, given}
 
 -- what a pass learns of the value as its turn begins
 pub record Learns {E : Type 0} (v : View E) (log : List (ℕ × E)) (count : ℕ) : Type 0 where

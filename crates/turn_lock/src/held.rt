@@ -1,7 +1,6 @@
 ghost use Rattle.std.specs.Prelude.{◌≡◌};
 ghost use Rattle.std.specs.Borrow.{sem};
 
-
 use crate::logged::Logged;
 use crate::rule::TurnSeat;
 use std::marker::Model;

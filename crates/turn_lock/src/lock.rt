@@ -18,7 +18,9 @@ use std::sync::Wait;
 use std::thread;
 
 const TICKET: usize = 0;
+
 const SERVING: usize = 1;
+
 const SLOT: usize = 0;
 
 /// A lock round one value, which is handed out in turn.
@@ -52,11 +54,7 @@ pub struct NotSplit<B: Logged> {
 
 impl<B: Logged> TurnLock<B> {
     /// A lock round the value, for so many passes, and pass 0, which has seen the value as it is.
-    pub fn new(
-        alloc: Global,
-        book: B,
-        seats: u32,
-    ) -> Result<(TurnLock<B>, Pass<B>), NotMade<B>>
+    pub fn new(alloc: Global, book: B, seats: u32) -> Result<(TurnLock<B>, Pass<B>), NotMade<B>>
         requires seats { (0 < seats) × (seats ≤ 17) }
         ensures lock { IfOk result (λ made. (made.0.lock ≡ made.1.lock) × (made.0.seats ≡ seats)) }
         ensures pass { IfOk result (λ made. made.1.view ≡ opened (B.history book) (B.faults book)) }
@@ -73,9 +71,7 @@ impl<B: Logged> TurnLock<B> {
         }
         match Table::new(alloc, &[0, 0], slots, &about) {
             Ok((table, seat)) => Ok((TurnLock { table, seats }, Pass { seat, gives: 0 })),
-            Err(Refused { slots }) => Err(NotMade {
-                book: only(slots),
-            }),
+            Err(Refused { slots }) => Err(NotMade { book: only(slots) }),
         }
     }
 

@@ -9,7 +9,6 @@ pub struct Turns;
 
 impl<B: Logged> TableRule<Option<B>, View<B::Event>, Snapshot<B>> for Turns {
     ghost use Rattle.turn_lock.specs.Rule.{Turned};
-
     ghost use Rattle.turn_lock.specs.Views.{opened};
 
     ghost holds = { λ about. Turned B.history B.faults about.value };

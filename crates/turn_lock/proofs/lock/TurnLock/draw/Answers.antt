@@ -1,4 +1,4 @@
-use Rattle.std.proofs.Common.{rules, arith, refl, ap, subst, sym, ◌∙◌, ◌<◌, ◌^◌, length}
+use Rattle.std.proofs.Common.{rules, refl, ap, subst, sym, ◌∙◌, ◌<◌, ◌^◌, length}
 use Rattle.turn_lock.proofs.Keeps.{looks, draws}
 use Rattle.turn_lock.proofs.lock.TurnLock.draw.Goals as goal
 

@@ -1,4 +1,4 @@
-use Rattle.std.proofs.Common.{rules, refl, ap, ◌∙◌}
+use Rattle.std.proofs.Common.{rules, ap, ◌∙◌}
 use Rattle.turn_lock.proofs.Keeps.{hand_gives}
 use Rattle.turn_lock.proofs.lock.TurnLock.give.Goals as goal
 

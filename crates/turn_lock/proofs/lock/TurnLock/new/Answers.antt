@@ -1,8 +1,5 @@
-use Rattle.std.proofs.Common.{sym, subst, ap, ◌∙◌, ◌∷◌, ◌++◌, [], List}
+use Rattle.std.proofs.Common.{ap, ◌∙◌, ◌∷◌, ◌++◌, [], List}
 use Rattle.std.specs.Prelude.{Some, Option}
-use Rattle.atomic_table.specs.Table.{opening}
-use Rattle.turn_lock.specs.Views.{opened}
-use Rattle.turn_lock.specs.Rule.{Turned}
 use Rattle.turn_lock.proofs.Opening.{opens_with}
 use Rattle.turn_lock.proofs.lock.TurnLock.new.Goals as goal
 

@@ -1,4 +1,4 @@
-use Rattle.std.proofs.Common.{rules, arith, refl, ap, subst, sym, ◌∙◌, ◌<◌}
+use Rattle.std.proofs.Common.{rules, ap, subst, sym, ◌∙◌, ◌<◌}
 use Rattle.std.specs.Prelude.{◌∷◌, Some}
 use Rattle.atomic_table.specs.Table.{rest}
 use Rattle.turn_lock.specs.Views.{ticket_of}
