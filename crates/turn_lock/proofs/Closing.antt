@@ -11,7 +11,7 @@ use Rattle.turn_lock.specs.declared.view.View.{View}
 use Rattle.turn_lock.specs.declared.view.Turn.TheVariants.{Rest}
 use Rattle.turn_lock.specs.Histories.{BeginsWith, past, made_by}
 use Rattle.turn_lock.specs.Views.{IsServed, all_faults, made_through}
-use Rattle.turn_lock.specs.Rule.{Turned}
+use Rattle.turn_lock.specs.Rule.{TakesTurns}
 use Rattle.turn_lock.proofs.Lists.{at_one, at_some, sum_of_one, sum_of_two}
 
 module _ {B E : Type 0} (history : B → List (ℕ × E)) (faults : B → ℕ) (about : B) where
@@ -23,7 +23,7 @@ module _ {B E : Type 0} (history : B → List (ℕ × E)) (faults : B → ℕ) (
     pub made : (k : ℕ) → made_by k (past v.first v.seen) ≡ made_through k v
     pub rose : v.first_faults + all_faults v ≡ v.seen_faults
 
-  closes_at : (s : State (Option B) (View E)) (r : Turned history faults about s) (v : View E) → get_elem? s.views 0 ≡ some v → 0 < v.passes → v.turn ≡ Rest → length v.joined ≡ v.split
+  closes_at : (s : State (Option B) (View E)) (r : TakesTurns history faults about s) (v : View E) → get_elem? s.views 0 ≡ some v → 0 < v.passes → v.turn ≡ Rest → length v.joined ≡ v.split
       → (b : B) × (get_elem? s.homes 0 ≡ some (some (Some b))) × IsLast v b
   closes_at s r v at lives rests all_joined =
       let f = r.fits 0 v at lives in
@@ -56,7 +56,7 @@ module _ {B E : Type 0} (history : B → List (ℕ × E)) (faults : B → ℕ) (
       )
 
   pub closes : (id : ℕ) (v : View E) (words : List ℕ) (slots : List (Option B)) → v.number ≡ 0 → 0 < v.passes → v.turn ≡ Rest → length v.joined ≡ v.split
-      → Final (Seen (Turned history faults about) id v) words slots → (b : B) × (get_elem? slots 0 ≡ some (Some b)) × IsLast v b
+      → Final (Seen (TakesTurns history faults about) id v) words slots → (b : B) × (get_elem? slots 0 ≡ some (Some b)) × IsLast v b
   closes id v words slots is_zero lives rests all_joined final =
       let s = final.0 in let r = final.1.0 in let at = final.1.1 in
       let e : id ≡ 0 = sym (r.fits id v at lives).numbered ∙ is_zero in

@@ -12,7 +12,7 @@ use Rattle.turn_lock.specs.declared.view.Turn.{Turn}
 use Rattle.turn_lock.specs.declared.view.Turn.TheVariants.{Rest, Drawn, Served}
 use Rattle.turn_lock.specs.Histories.{BeginsWith, past, made_by}
 use Rattle.turn_lock.specs.Views.{HasTicket, tickets, all_turns, all_faults, joined_made, spent}
-use Rattle.turn_lock.specs.Rule.{InTurn, Fits, FitsZero, Turned}
+use Rattle.turn_lock.specs.Rule.{InTurn, FitsPass, FitsZero, TakesTurns}
 use Rattle.turn_lock.proofs.Lists.{at_below, sum_set, begins_through, begins_self, begins_no_longer, past_self, made_through_two, none_of_others, none_in_two, made_in_first}
 use Rattle.turn_lock.proofs.Turning.{each_set, each_two, still_spent}
 
@@ -24,11 +24,11 @@ module _ {E : Type 0} where
   in_turn_raised log log' count count' ticket serving (Served t l c) other h = absurd (other h.0)
 
 module _ {B E : Type 0} (history : B → List (ℕ × E)) (faults : B → ℕ) (about : B) where
-  pub with_give : (s : State (Option B) (View E)) (r : Turned history faults about s) (id : ℕ) (v : View E) (b : B) (more : List (ℕ × E)) (stop rise : ℕ) (words' : List ℕ) (homes' : List (maybe.Option (Option B)))
+  pub with_give : (s : State (Option B) (View E)) (r : TakesTurns history faults about s) (id : ℕ) (v : View E) (b : B) (more : List (ℕ × E)) (stop rise : ℕ) (words' : List ℕ) (homes' : List (maybe.Option (Option B)))
       → get_elem? s.views id ≡ some v → 0 < v.passes → HasTicket v.turn r.serving → tickets v.turn ≡ 1
       → words' ≡ r.ticket ∷ (r.serving + 1) ∷ [] → homes' ≡ some (Some b) ∷ []
       → BeginsWith (history b) r.log → more ≡ past r.log (history b) → made_by id more ≡ more → rise + r.count ≡ faults b
-      → Turned history faults about record { words = words'; homes = homes'; views = set s.views id (record v { seen = history b; seen_faults = faults b; made = v.made ++ more; stops = v.stops ++ stop ∷ []; faults = v.faults + rise; turn = Rest }) }
+      → TakesTurns history faults about record { words = words'; homes = homes'; views = set s.views id (record v { seen = history b; seen_faults = faults b; made = v.made ++ more; stops = v.stops ++ stop ∷ []; faults = v.faults + rise; turn = Rest }) }
   with_give s r id v b more stop rise words' homes' at lives has one words slot grown is_more own_more rises =
       let new : List (ℕ × E) = history b in
       let w : View E = record v { seen = new; seen_faults = faults b; made = v.made ++ more; stops = v.stops ++ stop ∷ []; faults = v.faults + rise; turn = Rest } in
@@ -51,7 +51,7 @@ module _ {B E : Type 0} (history : B → List (ℕ × E)) (faults : B → ℕ) (
         words = words;
         slot = slot;
         few = omega (arith, r.few);
-        fits = λ j u at' live. each_set (λ (k : ℕ) (x : View E). 0 < x.passes → Fits first (faults about) new (faults b) r.ticket (r.serving + 1) k x) s.views id w
+        fits = λ j u at' live. each_set (λ (k : ℕ) (x : View E). 0 < x.passes → FitsPass first (faults about) new (faults b) r.ticket (r.serving + 1) k x) s.views id w
             (λ _. record {
               numbered = f.numbered;
               began = f.began;

@@ -14,7 +14,7 @@ use Rattle.turn_lock.specs.declared.view.Joined.{Joined}
 use Rattle.turn_lock.specs.declared.view.Turn.TheVariants.{Rest}
 use Rattle.turn_lock.specs.Histories.{BeginsWith, past, made_by}
 use Rattle.turn_lock.specs.Views.{HasTicket, IsServed, tickets, all_turns, all_faults, joined_made, spent, longer_seen, longer_faults, kept_of, joined_view}
-use Rattle.turn_lock.specs.Rule.{Fits, FitsZero, Turned}
+use Rattle.turn_lock.specs.Rule.{FitsPass, FitsZero, TakesTurns}
 use Rattle.turn_lock.proofs.Lists.{at_below, at_one, sum_set, begins_self, begins_same, begins_between, begins_through, begins_no_longer, made_in_first, none_in_parts}
 use Rattle.turn_lock.proofs.Turning.{each_set}
 
@@ -44,9 +44,9 @@ module _ {E : Type 0} where
       (λ k x ne at'. each_set (λ (i : ℕ) (y : View E). i ≢ o → P i y) views 0 both (λ _. here) (λ i y ne' at2 not_o. other i y ne' not_o at2) k x at' ne) j u at
 
 module _ {B E : Type 0} (history : B → List (ℕ × E)) (faults : B → ℕ) (about : B) where
-  pub with_join : (s : State (Option B) (View E)) (r : Turned history faults about s) (v w : View E) (o : ℕ) → get_elem? s.views 0 ≡ some v → get_elem? s.views o ≡ some w → o ≢ 0
+  pub with_join : (s : State (Option B) (View E)) (r : TakesTurns history faults about s) (v w : View E) (o : ℕ) → get_elem? s.views 0 ≡ some v → get_elem? s.views o ≡ some w → o ≢ 0
       → 0 < v.passes → 0 < w.passes → v.turn ≡ Rest → w.turn ≡ Rest
-      → Turned history faults about record { words = s.words; homes = s.homes; views = set (set s.views 0 (joined_view v w)) o spent }
+      → TakesTurns history faults about record { words = s.words; homes = s.homes; views = set (set s.views 0 (joined_view v w)) o spent }
   with_join s r v w o at at_w apart lives lives_w rests rests_w =
       let both : View E = joined_view v w in
       let seen : List (ℕ × E) = longer_seen v w in
@@ -84,7 +84,7 @@ module _ {B E : Type 0} (history : B → List (ℕ × E)) (faults : B → ℕ) (
         words = r.words;
         slot = r.slot;
         few = omega (arith, r.few);
-        fits = λ j u at' live. each_joined (λ (k : ℕ) (x : View E). 0 < x.passes → Fits first (faults about) r.log r.count r.ticket r.serving k x) s.views o both apart
+        fits = λ j u at' live. each_joined (λ (k : ℕ) (x : View E). 0 < x.passes → FitsPass first (faults about) r.log r.count r.ticket r.serving k x) s.views o both apart
             (λ _. record {
               numbered = f.numbered;
               began = f.began;
@@ -166,9 +166,9 @@ module _ {B E : Type 0} (history : B → List (ℕ × E)) (faults : B → ℕ) (
         all_faults_are = let e = sums all_faults in omega (arith, e, r.all_faults_are);
       }
 
-  pub joins : (id other : ℕ) (v w : View E) → v.number ≡ 0 → 0 < v.passes → 0 < w.passes → v.turn ≡ Rest → w.turn ≡ Rest → Joins (Turned history faults about) id v other w (joined_view v w) spent
+  pub joins : (id other : ℕ) (v w : View E) → v.number ≡ 0 → 0 < v.passes → 0 < w.passes → v.turn ≡ Rest → w.turn ≡ Rest → Joins (TakesTurns history faults about) id v other w (joined_view v w) spent
   joins id other v w is_zero lives lives_w rests rests_w s r at apart at_w = let f = r.fits id v at lives in let e : id ≡ 0 = sym f.numbered ∙ is_zero in
       let ne : other ≢ 0 = λ z. apart (z ∙ sym e) in
       let at_w' : get_elem? s.views other ≡ some w = sym (set_else s.views id other (joined_view v w) apart) ∙ at_w in
-      subst (λ (k : ℕ). Turned history faults about record { words = s.words; homes = s.homes; views = set (set s.views k (joined_view v w)) other spent }) (sym e)
+      subst (λ (k : ℕ). TakesTurns history faults about record { words = s.words; homes = s.homes; views = set (set s.views k (joined_view v w)) other spent }) (sym e)
       (with_join s r v w other (subst (λ (k : ℕ). get_elem? s.views k ≡ some v) e at) at_w' ne lives lives_w rests rests_w)

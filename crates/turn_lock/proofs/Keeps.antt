@@ -17,7 +17,7 @@ use Rattle.turn_lock.specs.declared.view.Turn.{Turn}
 use Rattle.turn_lock.specs.declared.view.Turn.TheVariants.{Rest, Drawn, Served}
 use Rattle.turn_lock.specs.Histories.{BeginsWith, past, made_by}
 use Rattle.turn_lock.specs.Views.{HasTicket, IsServed, tickets, ticket_of, taken_of, taken_faults_of, all_turns, joined_made, spent, drawn, served, given}
-use Rattle.turn_lock.specs.Rule.{InTurn, Turned}
+use Rattle.turn_lock.specs.Rule.{InTurn, TakesTurns}
 use Rattle.turn_lock.specs.Steps.{KeepsLast, looked, drew, came, raised, checked}
 use Rattle.turn_lock.proofs.Lists.{at_below, at_one, sums_within, begins_through, made_through_two, made_in_first, made_by_all}
 use Rattle.turn_lock.proofs.Turning.{with_turn}
@@ -60,43 +60,43 @@ module _ {E : Type 0} where
 
 module _ {B E : Type 0} (history : B → List (ℕ × E)) (faults : B → ℕ) (about : B) where
   abbrev pub Goes : State (Option B) (View E) → ℕ → ℕ → Me (Option B) (View E) → (ℕ → Me (Option B) (View E) → Type 0) → ℕ → Type 0
-  Goes s k id me then x = (w : View E) × (a : Act (Option B)) × Valid s.homes me.1 a × Turned history faults about (stepped s k x id me.1 w a) × then (get_or s.words k 0) (w, carried_after me.1 a)
+  Goes s k id me then x = (w : View E) × (a : Act (Option B)) × Valid s.homes me.1 a × TakesTurns history faults about (stepped s k x id me.1 w a) × then (get_or s.words k 0) (w, carried_after me.1 a)
 
   -- both words stay far below 2^64
-  pub below : (s : State (Option B) (View E)) (r : Turned history faults about s) → r.ticket < 2 ^ 62
+  pub below : (s : State (Option B) (View E)) (r : TakesTurns history faults about s) → r.ticket < 2 ^ 62
   below s r = let each = sums_within all_turns (λ (v : View E). tickets v.turn) (λ (v : View E). v.passes) s.views (λ i v at. dite (ℕ_discrete v.passes 0)
       (λ none. no_turns_spent v (r.joined_is_spent i v at none)) (λ some_passes. let f = r.fits i v at (omega arith) in omega (arith, f.few_turns, f.few_joined, f.counts))) in
       omega (arith, each, r.few, r.all_passes_are, r.all_turns_are, r.all_tickets_are)
 
   -- a pass with a ticket was not joined into another
-  lives_by_ticket : (s : State (Option B) (View E)) (r : Turned history faults about s) (j : ℕ) (u : View E) (t : ℕ) → get_elem? s.views j ≡ some u → HasTicket u.turn t → 0 < u.passes
+  lives_by_ticket : (s : State (Option B) (View E)) (r : TakesTurns history faults about s) (j : ℕ) (u : View E) (t : ℕ) → get_elem? s.views j ≡ some u → HasTicket u.turn t → 0 < u.passes
   lives_by_ticket s r j u t at has = dite (ℕ_discrete u.passes 0) (λ none. absurd (no_ticket_spent u (r.joined_is_spent j u at none) t has)) (λ ne. omega arith)
 
   -- a served pass has the ticket that is served
-  served_has : (s : State (Option B) (View E)) (r : Turned history faults about s) (j : ℕ) (u : View E) → get_elem? s.views j ≡ some u → IsServed u.turn → HasTicket u.turn r.serving
+  served_has : (s : State (Option B) (View E)) (r : TakesTurns history faults about s) (j : ℕ) (u : View E) → get_elem? s.views j ≡ some u → IsServed u.turn → HasTicket u.turn r.serving
   served_has s r j u at is = dite (ℕ_discrete u.passes 0) (λ none. absurd (none_served_spent u (r.joined_is_spent j u at none) is)) (λ ne. served_is r.log r.count r.ticket r.serving u.turn (r.fits j u at (omega arith)).in_turn is)
 
-  ticket_at : (s : State (Option B) (View E)) (r : Turned history faults about s) → get_or s.words 0 0 ≡ r.ticket
+  ticket_at : (s : State (Option B) (View E)) (r : TakesTurns history faults about s) → get_or s.words 0 0 ≡ r.ticket
   ticket_at s r = ap (λ (ws : List ℕ). get_or ws 0 0) r.words
 
-  serving_at : (s : State (Option B) (View E)) (r : Turned history faults about s) → get_or s.words 1 0 ≡ r.serving
+  serving_at : (s : State (Option B) (View E)) (r : TakesTurns history faults about s) → get_or s.words 1 0 ≡ r.serving
   serving_at s r = ap (λ (ws : List ℕ). get_or ws 1 0) r.words
 
   -- nothing changes
-  stays : (s : State (Option B) (View E)) (r : Turned history faults about s) (k id : ℕ) (me : Me (Option B) (View E)) (then : ℕ → Me (Option B) (View E) → Type 0) → get_elem? s.views id ≡ some me.0 → then (get_or s.words k 0) me → Goes s k id me then (get_or s.words k 0)
+  stays : (s : State (Option B) (View E)) (r : TakesTurns history faults about s) (k id : ℕ) (me : Me (Option B) (View E)) (then : ℕ → Me (Option B) (View E) → Type 0) → get_elem? s.views id ≡ some me.0 → then (get_or s.words k 0) me → Goes s k id me then (get_or s.words k 0)
   stays s r k id me then at told = (
     me.0,
     keeps,
     tt,
-    subst (λ (x : List ℕ × List (View E)). Turned history faults about record { words = x.0; homes = s.homes; views = x.1 }) (λ i. (sym (set-get_or s.words k 0) i, sym (set_again s.views id me.0 at) i)) r,
+    subst (λ (x : List ℕ × List (View E)). TakesTurns history faults about record { words = x.0; homes = s.homes; views = x.1 }) (λ i. (sym (set-get_or s.words k 0) i, sym (set_again s.views id me.0 at) i)) r,
     told,
   )
 
-  pub looks : (n id : ℕ) (me : Me (Option B) (View E)) → Allows (Turned history faults about) n id me 0 (λ x. x) (looked history faults (step n 0 0 0 none) me)
+  pub looks : (n id : ℕ) (me : Me (Option B) (View E)) → Allows (TakesTurns history faults about) n id me 0 (λ x. x) (looked history faults (step n 0 0 0 none) me)
   looks n id me s r wide at _ = stays s r 0 id me (looked history faults (step n 0 0 0 none) me) at (refl, omega (arith, ticket_at s r, below s r))
 
   pub draws : (n id : ℕ) (me : Me (Option B) (View E)) (old new : ℕ) → new ≡ old + 1 → me.0.turn ≡ Rest → 0 < me.0.passes → length me.0.stops < 2 ^ 57
-      → Allows (Turned history faults about) n id me 0 (λ x. either (eqb x old) new x) (drew history faults (step n 0 old new none) me)
+      → Allows (TakesTurns history faults about) n id me 0 (λ x. either (eqb x old) new x) (drew history faults (step n 0 old new none) me)
   draws n id me old new next rests lives few s r wide at _ =
       let then = drew history faults (step n 0 old new none) me in
       exchanged (get_or s.words 0 0) old new (Goes s 0 id me then)
@@ -104,7 +104,7 @@ module _ {B E : Type 0} (history : B → List (ℕ × E)) (faults : B → ℕ) (
         drawn me.0 (get_or s.words 0 0),
         keeps,
         tt,
-        subst (λ (t : ℕ). Turned history faults about record { words = set s.words 0 new; homes = s.homes; views = set s.views id (drawn me.0 t) }) (sym hit)
+        subst (λ (t : ℕ). TakesTurns history faults about record { words = set s.words 0 new; homes = s.homes; views = set s.views id (drawn me.0 t) }) (sym hit)
             (with_turn history faults about s r id me.0 (Drawn old) new r.home (set s.words 0 new) s.homes at lives (ap (λ (ws : List ℕ). set ws 0 new) r.words) r.slot (omega arith) (omega arith) (omega arith)
             (let h : r.serving ≤ old = omega (arith, r.all_tickets_are) in let l : old < new = omega arith in (h, l))
             (λ t has j u ne at_j other. let f = r.fits j u at_j (lives_by_ticket s r j u t at_j other) in let b = ticket_below r.log r.count r.ticket r.serving u.turn t f.in_turn other in let e : old ≡ t = has in absurd (omega arith))
@@ -116,7 +116,7 @@ module _ {B E : Type 0} (history : B → List (ℕ × E)) (faults : B → ℕ) (
       (λ miss. stays s r 0 id me then at ((λ hit. absurd (miss hit)), λ _. (refl, omega (arith, ticket_at s r, below s r))))
 
   pub comes : (n id : ℕ) (me : Me (Option B) (View E)) (t : ℕ) → me.0.turn ≡ Drawn t → 0 < me.0.passes
-      → Allows (Turned history faults about) n id me 1 (λ x. x) (came history faults (step n 1 0 0 none) me)
+      → Allows (TakesTurns history faults about) n id me 1 (λ x. x) (came history faults (step n 1 0 0 none) me)
   comes n id me t waits lives s r wide at _ =
       let then = came history faults (step n 1 0 0 none) me in
       let x : ℕ = get_or s.words 1 0 in
@@ -162,7 +162,7 @@ module _ {B E : Type 0} (history : B → List (ℕ × E)) (faults : B → ℕ) (
 
   pub raises : (n id : ℕ) (me : Me (Option B) (View E)) (t count : ℕ) (taken : List (ℕ × E)) (b : B) → me.0.turn ≡ Served t taken count → 0 < me.0.passes → me.1 ≡ (0, Some b) ∷ []
       → BeginsWith (history b) taken → made_by me.0.number (past taken (history b)) ≡ past taken (history b) → count ≤ faults b
-      → Allows (Turned history faults about) n id me 1 (λ x. (x + 1) % 2 ^ 64) (raised history faults (step n 1 1 0 none) me)
+      → Allows (TakesTurns history faults about) n id me 1 (λ x. (x + 1) % 2 ^ 64) (raised history faults (step n 1 1 0 none) me)
   raises n id me t count taken b turn lives holds_it grown own rose s r wide at _ =
       let f = r.fits id me.0 at lives in
       let stands = let P : Turn E → Type 0 = λ z. InTurn r.log r.count r.ticket r.serving z in subst P turn f.in_turn in
@@ -199,7 +199,7 @@ module _ {B E : Type 0} (history : B → List (ℕ × E)) (faults : B → ℕ) (
   -- the same, in the words of a hand
   pub gives_back : (n id : ℕ) (me : Me (Option B) (View E)) (b : B) → IsServed me.0.turn → 0 < me.0.passes → me.1 ≡ (0, Some b) ∷ []
       → BeginsWith (history b) (taken_of me.0.turn) → All (λ (e : ℕ × E). e.0 ≡ me.0.number) (past (taken_of me.0.turn) (history b)) → taken_faults_of me.0.turn ≤ faults b
-      → Allows (Turned history faults about) n id me 1 (λ x. (x + 1) % 2 ^ 64) (raised history faults (step n 1 1 0 none) me)
+      → Allows (TakesTurns history faults about) n id me 1 (λ x. (x + 1) % 2 ^ 64) (raised history faults (step n 1 1 0 none) me)
   gives_back n id me b is lives holds_it grown own rose = raises n id me (ticket_of me.0.turn) (taken_faults_of me.0.turn) (taken_of me.0.turn) b (served_parts me.0.turn is) lives holds_it grown
       (made_by_all me.0.number (past (taken_of me.0.turn) (history b)) own) rose
 
@@ -207,16 +207,16 @@ module _ {B E : Type 0} (history : B → List (ℕ × E)) (faults : B → ℕ) (
   pub hand_gives : (n id : ℕ) (me : Me (Option B) (View E)) (v : View E) (carried : List (ℕ × Option B)) (b held : B) (taken : List (ℕ × E)) (taken_faults number : ℕ)
       → me ≡ (v, (0, Some b) ∷ rest carried) → carried ≡ (0, None) ∷ [] → IsServed v.turn → 0 < v.passes → taken_of v.turn ≡ taken → taken_faults_of v.turn ≡ taken_faults → v.number ≡ number → b ≡ held
       → BeginsWith (history held) taken → All (λ (e : ℕ × E). e.0 ≡ number) (past taken (history held)) → taken_faults ≤ faults held
-      → Allows (Turned history faults about) n id me 1 (λ x. (x + 1) % 2 ^ 64) (raised history faults (step n 1 1 0 none) me)
+      → Allows (TakesTurns history faults about) n id me 1 (λ x. (x + 1) % 2 ^ 64) (raised history faults (step n 1 1 0 none) me)
   hand_gives n id me v carried b held taken taken_faults number now had is lives t tf k same grown own rose =
-      let P : Me (Option B) (View E) → Type 0 = λ m. Allows (Turned history faults about) n id m 1 (λ x. (x + 1) % 2 ^ 64) (raised history faults (step n 1 1 0 none) m) in
+      let P : Me (Option B) (View E) → Type 0 = λ m. Allows (TakesTurns history faults about) n id m 1 (λ x. (x + 1) % 2 ^ 64) (raised history faults (step n 1 1 0 none) m) in
       let grown' : BeginsWith (history b) (taken_of v.turn) = subst (λ (x : B × List (ℕ × E)). BeginsWith (history x.0) x.1) (λ i. (sym same i, sym t i)) grown in
       let own' : All (λ (e : ℕ × E). e.0 ≡ v.number) (past (taken_of v.turn) (history b)) = subst (λ (x : B × List (ℕ × E) × ℕ). All (λ (e : ℕ × E). e.0 ≡ x.2) (past x.1 (history x.0))) (λ i. (sym same i, sym t i, sym k i)) own in
       let rose' : taken_faults_of v.turn ≤ faults b = subst (λ (x : B × ℕ). x.1 ≤ faults x.0) (λ i. (sym same i, sym tf i)) rose in
       subst P (sym now) (gives_back n id (v, (0, Some b) ∷ rest carried) b is lives (λ i. (0, Some b) ∷ rest (had i)) grown' own' rose')
 
   -- after a join
-  pub checks : (n id : ℕ) (me : Me (Option B) (View E)) → me.0.number ≡ 0 → 0 < me.0.passes → Allows (Turned history faults about) n id me 0 (λ x. x) (checked history faults (step n 0 0 0 none) me)
+  pub checks : (n id : ℕ) (me : Me (Option B) (View E)) → me.0.number ≡ 0 → 0 < me.0.passes → Allows (TakesTurns history faults about) n id me 0 (λ x. x) (checked history faults (step n 0 0 0 none) me)
   checks n id me is_zero lives s r wide at _ =
       let f = r.fits id me.0 at lives in
       let e : id ≡ 0 = sym f.numbered ∙ is_zero in

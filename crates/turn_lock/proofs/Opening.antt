@@ -7,7 +7,7 @@ use Rattle.atomic_table.specs.Table.{opening}
 use Rattle.turn_lock.specs.declared.view.View.{View}
 use Rattle.turn_lock.specs.Histories.{made_by}
 use Rattle.turn_lock.specs.Views.{spent, opened}
-use Rattle.turn_lock.specs.Rule.{Fits, FitsZero, Turned}
+use Rattle.turn_lock.specs.Rule.{FitsPass, FitsZero, TakesTurns}
 use Rattle.turn_lock.proofs.Lists.{begins_self, past_self}
 
 -- the one element
@@ -16,7 +16,7 @@ one_of a b zero e = (refl, some-injective a b e)
 one_of a b (suc j) e = absurd (some-ne-none b (sym e))
 
 module _ {B E : Type 0} (history : B → List (ℕ × E)) (faults : B → ℕ) (about : B) where
-  pub opens : Turned history faults about (opening (0 ∷ 0 ∷ []) (Some about ∷ []) (opened (history about) (faults about)))
+  pub opens : TakesTurns history faults about (opening (0 ∷ 0 ∷ []) (Some about ∷ []) (opened (history about) (faults about)))
   opens = let log : List (ℕ × E) = history about in let v : View E = opened log (faults about) in
       let each : (P : ℕ → View E → Type 0) → P 0 v → (j : ℕ) (u : View E) → get_elem? (v ∷ []) j ≡ some u → P j u = λ P here j u at. let o = one_of v u j at in subst (λ (x : View E). P j x) o.1 (subst (λ (k : ℕ). P k v) (sym o.0) here) in
       record {
@@ -28,7 +28,7 @@ module _ {B E : Type 0} (history : B → List (ℕ × E)) (faults : B → ℕ) (
         words = refl;
         slot = refl;
         few = omega arith;
-        fits = λ j u at live. each (λ (k : ℕ) (x : View E). Fits log (faults about) log (faults about) 0 0 k x)
+        fits = λ j u at live. each (λ (k : ℕ) (x : View E). FitsPass log (faults about) log (faults about) 0 0 k x)
             record { numbered = refl; began = refl; began_faults = refl; from_first = begins_self log; has_seen = begins_self log; no_more = omega arith; own = ap (made_by 0) (past_self log); none_past = ap (made_by 0) (past_self log); few_turns = omega arith; few_joined = omega arith; in_turn = tt; counts = refl; only_zero = λ ne. absurd (ne refl) } j u at;
         joined_is_spent = λ j u at none. each (λ (k : ℕ) (x : View E). x.passes ≡ 0 → x ≡ spent) (λ z. absurd (omega arith)) j u at none;
         zero_fits = λ u at. each (λ (k : ℕ) (x : View E). FitsZero log (v ∷ []) x)
@@ -45,5 +45,5 @@ module _ {B E : Type 0} (history : B → List (ℕ × E)) (faults : B → ℕ) (
       }
 
 pub opens_with : {B E : Type 0} (history : B → List (ℕ × E)) (faults : B → ℕ) (about book : B) (items : List (Option B)) → items ≡ Some book ∷ [] → about ≡ book
-    → Turned history faults about (opening (0 ∷ 0 ∷ []) items (opened (history about) (faults about)))
-opens_with {B} {E} history faults about book items is same = subst (λ (xs : List (Option B)). Turned history faults about (opening (0 ∷ 0 ∷ []) xs (opened (history about) (faults about)))) (sym (is ∙ ap (λ (b : B). Some b ∷ []) (sym same))) (opens history faults about)
+    → TakesTurns history faults about (opening (0 ∷ 0 ∷ []) items (opened (history about) (faults about)))
+opens_with {B} {E} history faults about book items is same = subst (λ (xs : List (Option B)). TakesTurns history faults about (opening (0 ∷ 0 ∷ []) xs (opened (history about) (faults about)))) (sym (is ∙ ap (λ (b : B). Some b ∷ []) (sym same))) (opens history faults about)

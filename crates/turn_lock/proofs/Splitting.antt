@@ -11,7 +11,7 @@ use Rattle.atomic_table.proofs.Lists.{set_here, set_else, at_longer}
 use Rattle.turn_lock.specs.declared.view.View.{View}
 use Rattle.turn_lock.specs.Histories.{past, made_by}
 use Rattle.turn_lock.specs.Views.{HasTicket, IsServed, tickets, all_turns, all_faults, joined_made, spent, split_left, split_right}
-use Rattle.turn_lock.specs.Rule.{Fits, FitsZero, Turned}
+use Rattle.turn_lock.specs.Rule.{FitsPass, FitsZero, TakesTurns}
 use Rattle.turn_lock.proofs.Lists.{at_below, at_one, at_either, sum_set, none_in_parts}
 use Rattle.turn_lock.proofs.Turning.{each_set, still_spent}
 
@@ -25,8 +25,8 @@ module _ {E : Type 0} where
       (at_either (set views 0 (split_left v)) (split_right v) u j at)
 
 module _ {B E : Type 0} (history : B → List (ℕ × E)) (faults : B → ℕ) (about : B) where
-  pub with_split : (s : State (Option B) (View E)) (r : Turned history faults about s) (v : View E) → get_elem? s.views 0 ≡ some v → 0 < v.passes → v.split + 1 < 17
-      → Turned history faults about record { words = s.words; homes = s.homes; views = set s.views 0 (split_left v) ++ split_right v ∷ [] }
+  pub with_split : (s : State (Option B) (View E)) (r : TakesTurns history faults about s) (v : View E) → get_elem? s.views 0 ≡ some v → 0 < v.passes → v.split + 1 < 17
+      → TakesTurns history faults about record { words = s.words; homes = s.homes; views = set s.views 0 (split_left v) ++ split_right v ∷ [] }
   with_split s r v at lives room =
       let left : View E = split_left v in let right : View E = split_right v in
       let n : ℕ = length s.views in
@@ -49,7 +49,7 @@ module _ {B E : Type 0} (history : B → List (ℕ × E)) (faults : B → ℕ) (
         words = r.words;
         slot = r.slot;
         few = omega (arith, q.split_off);
-        fits = λ j u at' live. each_split (λ (k : ℕ) (x : View E). 0 < x.passes → Fits first (faults about) r.log r.count r.ticket r.serving k x) s.views v
+        fits = λ j u at' live. each_split (λ (k : ℕ) (x : View E). 0 < x.passes → FitsPass first (faults about) r.log r.count r.ticket r.serving k x) s.views v
             (λ _. record { numbered = f.numbered; began = f.began; began_faults = f.began_faults; from_first = f.from_first; has_seen = f.has_seen; no_more = f.no_more; own = f.own; none_past = f.none_past; few_turns = f.few_turns; few_joined = f.few_joined; in_turn = f.in_turn; counts = f.counts; only_zero = λ ne. absurd (ne refl) })
             (λ _. record { numbered = q.split_off; began = f.began; began_faults = f.began_faults; from_first = f.from_first; has_seen = f.has_seen; no_more = f.no_more; own = unmade.0; none_past = unmade.1; few_turns = omega arith; few_joined = omega arith; in_turn = tt; counts = refl; only_zero = λ _. (refl, refl) })
             (λ k x ne at'' live'. r.fits k x at'' live') j u at' live;
@@ -86,7 +86,7 @@ module _ {B E : Type 0} (history : B → List (ℕ × E)) (faults : B → ℕ) (
         all_faults_are = let e = sums all_faults in omega (arith, e, r.all_faults_are);
       }
 
-  pub splits : (id : ℕ) (v : View E) → v.number ≡ 0 → 0 < v.passes → v.split + 1 < 17 → Splits (Turned history faults about) id v (split_left v) (split_right v)
+  pub splits : (id : ℕ) (v : View E) → v.number ≡ 0 → 0 < v.passes → v.split + 1 < 17 → Splits (TakesTurns history faults about) id v (split_left v) (split_right v)
   splits id v is_zero lives room s r at = let f = r.fits id v at lives in let e : id ≡ 0 = sym f.numbered ∙ is_zero in
-      subst (λ (k : ℕ). Turned history faults about record { words = s.words; homes = s.homes; views = set s.views k (split_left v) ++ split_right v ∷ [] }) (sym e)
+      subst (λ (k : ℕ). TakesTurns history faults about record { words = s.words; homes = s.homes; views = set s.views k (split_left v) ++ split_right v ∷ [] }) (sym e)
       (with_split s r v (subst (λ (k : ℕ). get_elem? s.views k ≡ some v) e at) lives room)

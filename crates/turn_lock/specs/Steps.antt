@@ -1,4 +1,16 @@
 -- What each step tells the pass that takes it. m is the seat before, n the number that was found, and m' the seat after.
+--
+-- | Kind of step | On                                  | Whose view changes                                              | The value                 |
+-- |--------------|-------------------------------------|-----------------------------------------------------------------|---------------------------|
+-- | split        | word 0, loaded                      | pass 0, and the new one: split_left, split_right                | stays                     |
+-- | join         | word 0, loaded                      | pass 0: joined_view. The other one is spent                     | stays                     |
+-- | look         | word 0, loaded; or a draw that      | none: looked, and checked after a join                          | stays                     |
+-- |              | found another ticket                |                                                                 |                           |
+-- | draw         | word 0, from t to t + 1             | its own: drew                                                   | stays                     |
+-- | come         | word 1, loaded                      | its own, where it found its ticket: came                        | out of the slot's home    |
+-- | exchange out | the slot, which is out              | none                                                            | goes into the hand        |
+-- | exchange in  | the slot, which is out              | none                                                            | comes back, with its rise |
+-- | raise        | word 1, from t to t + 1             | its own, which notes what the value has: raised                 | home again                |
 use Rattle.std.specs.Prelude.{◌≡◌, ◌≢◌, ℕ, ◌^◌, ◌<◌, ◌≤◌, List, [], ◌∷◌, ◌++◌, Option, Some}
 use Rattle.atomic_table.specs.Table.{Me, Step}
 use Rattle.turn_lock.specs.declared.view.View.{View}

@@ -12,16 +12,22 @@ use crate::plays::{Check, Come, Cut, Draw, Look, Merge, Raise};
 use crate::rule::{TurnSeat, TurnTable};
 use atomic_table::{Refused, Table};
 use std::alloc::{AllocFailed, Global};
+use std::hint;
 use std::marker::Model;
 use std::snapshot::Snapshot;
 use std::sync::Wait;
-use std::thread;
 
 const TICKET: usize = 0;
 
 const SERVING: usize = 1;
 
 const SLOT: usize = 0;
+
+// How often a pass looks before it sleeps until the next turn.
+const SPINS: u32 = 200;
+
+// The part of the word that a sleeper is woken by.
+const LOW_BITS: u64 = 0xFFFF_FFFF;
 
 /// A lock round one value, which is handed out in turn.
 pub struct TurnLock<B: Logged> {
@@ -144,14 +150,21 @@ impl<B: Logged> TurnLock<B> {
         ensures learns { Learns seat.old.me.0 (B.history result) (B.faults result) }
     {
         let words = &self.table.shared;
+        let mut looks = 0;
         for _ in rt.forever() {
-            if words.load::<Come>(seat, SERVING) == ticket {
+            let found = words.load::<Come>(seat, SERVING);
+            if found == ticket {
                 match words.exchange(seat, SLOT, None) {
                     Some(book) => return book,
                     None => unreachable!(),
                 }
             }
-            thread::yield_now();
+            if looks < SPINS {
+                looks += 1;
+                hint::spin_loop();
+            } else {
+                words.park(rt, SERVING, (found & LOW_BITS) as u32);
+            }
         }
         unreachable!()
     }
@@ -177,7 +190,10 @@ impl<B: Logged> TurnLock<B> {
             None => {}
             Some(_) => unreachable!(),
         }
-        words.fetch_add::<Raise>(&mut seat, SERVING, 1);
+        let served = words.fetch_add::<Raise>(&mut seat, SERVING, 1);
+        if words.peek(TICKET) != served.wrapping_add(1) {
+            words.wake_all(SERVING);
+        }
         Pass {
             seat,
             gives: gives + 1,

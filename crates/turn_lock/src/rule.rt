@@ -8,10 +8,10 @@ use std::snapshot::Snapshot;
 pub struct Turns;
 
 impl<B: Logged> TableRule<Option<B>, View<B::Event>, Snapshot<B>> for Turns {
-    ghost use Rattle.turn_lock.specs.Rule.{Turned};
+    ghost use Rattle.turn_lock.specs.Rule.{TakesTurns};
     ghost use Rattle.turn_lock.specs.Views.{opened};
 
-    ghost holds = { λ about. Turned B.history B.faults about.value };
+    ghost holds = { λ about. TakesTurns B.history B.faults about.value };
 
     ghost first = { λ about. opened (B.history about.value) (B.faults about.value) };
 }

@@ -2,8 +2,8 @@ use Rattle.std.proofs.Common.{rules, ap, ◌∙◌}
 use Rattle.turn_lock.proofs.Keeps.{hand_gives}
 use Rattle.turn_lock.proofs.lock.TurnLock.give.Goals as goal
 
-pub fetch_add-requires : goal.fetch_add-requires
-fetch_add-requires g c =
+pub fetch_add-served-requires : goal.fetch_add-served-requires
+fetch_add-served-requires g c =
     let inv = c.hand.invariant in (
       search rules,
       search rules,

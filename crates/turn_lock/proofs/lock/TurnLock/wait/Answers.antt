@@ -5,8 +5,8 @@ use Rattle.turn_lock.specs.Views.{ticket_of}
 use Rattle.turn_lock.proofs.Keeps.{comes}
 use Rattle.turn_lock.proofs.lock.TurnLock.wait.Goals as goal
 
-pub load-requires : goal.load-requires
-load-requires g c =
+pub load-found-requires : goal.load-found-requires
+load-found-requires g c =
     let same = c.loop.invariant.same in let r = c.requires.drawn in (
       search rules,
       search rules,
@@ -16,6 +16,6 @@ load-requires g c =
 pub exchange-requires : goal.exchange-requires
 exchange-requires g c =
     let turn = ap (λ m. m.0.turn) c.loop.invariant.same ∙ c.requires.drawn.0 in
-    let had = c.load.ensures.2.0 (c.if-load-ticket.true ∙ sym (ap ticket_of turn)) in
+    let had = c.load-found.ensures.2.0 (c.if-found-ticket.true ∙ sym (ap ticket_of turn)) in
     let has = ap (λ m. m.1) had.1 in
     (search rules, (Some had.0, has ∙ (λ i. (0, Some had.0) ∷ sym (ap rest has) i)))
