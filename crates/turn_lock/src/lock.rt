@@ -107,7 +107,8 @@ impl<B: Logged> TurnLock<B> {
         requires same_lock { pass.lock ≡ self.now.lock }
         requires few_turns { length pass.view.stops < 2 ^ 57 }
         ensures pass { (result.lock ≡ pass.lock) × (result.view ≡ pass.view) }
-        ensures value { (B.history result.book ≡ result.taken) × (B.faults result.book ≡ result.taken_faults) }
+        ensures history { B.history result.book ≡ result.taken }
+        ensures faults { B.faults result.book ≡ result.taken_faults }
         ensures begins { BeginsWith result.taken pass.view.seen }
         ensures no_fewer_faults { pass.view.seen_faults ≤ result.taken_faults }
         ensures own { made_by pass.view.number (past pass.view.first result.taken) ≡ pass.view.made }
