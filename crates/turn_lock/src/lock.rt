@@ -1,5 +1,4 @@
-ghost use Rattle.std.specs.Prelude.{◌≡◌, ℕ, ◌+◌, ◌-◌, ◌^◌, ◌<◌, ◌≤◌, [], ◌∷◌, ◌++◌, length, All, Some, None};
-ghost use Rattle.std.specs.Prelude.{IfOk, IfErr, IsOk};
+ghost use Rattle.std.specs.Prelude.{◌≡◌, ℕ, ◌+◌, ◌-◌, ◌^◌, ◌<◌, ◌≤◌, [], ◌∷◌, ◌++◌, length, All, Some, None, IfOk, IfErr, IsOk};
 ghost use Rattle.turn_lock.specs.declared.view.Turn.TheVariants.{Rest, Drawn};
 ghost use Rattle.turn_lock.specs.Histories.{BeginsWith, past, made_by};
 ghost use Rattle.turn_lock.specs.Views.{opened, split_left, split_right, joined_view, all_faults, made_through, drawn, served};
@@ -11,7 +10,7 @@ use crate::pass::Pass;
 use crate::plays::{Check, Come, Cut, Draw, Look, Merge, Raise};
 use crate::rule::{TurnSeat, TurnTable};
 use atomic_table::{Refused, Table};
-use std::alloc::{AllocFailed, Global};
+use std::alloc::Global;
 use std::hint;
 use std::marker::Model;
 use std::snapshot::Snapshot;
@@ -23,10 +22,10 @@ const SERVING: usize = 1;
 
 const SLOT: usize = 0;
 
-// How often a pass looks before it sleeps until the next turn.
+// How often a pass looks in vain before it parks.
 const SPINS: u32 = 200;
 
-// The part of the word that a sleeper is woken by.
+// The part of a word that parking looks at.
 const LOW_BITS: u64 = 0xFFFF_FFFF;
 
 /// A lock round one value, which is handed out in turn.
@@ -102,7 +101,7 @@ impl<B: Logged> TurnLock<B> {
         ))
     }
 
-    /// Waits until the pass is served, and hands the value out.
+    /// Hands the value out, as the turn of the pass comes. It may wait, and nothing is said of how long.
     pub fn take<R: Wait>(&self, rt: &R, pass: Pass<B>) -> Held<B>
         requires same_lock { pass.lock ≡ self.now.lock }
         requires few_turns { length pass.view.stops < 2 ^ 57 }
@@ -170,7 +169,7 @@ impl<B: Logged> TurnLock<B> {
         unreachable!()
     }
 
-    /// Puts the value back, and serves the next ticket.
+    /// Ends a turn: puts the value back, for the next ticket.
     pub fn give(&self, held: Held<B>) -> Pass<B>
         requires same_lock { held.lock ≡ self.now.lock }
         requires grown { BeginsWith (B.history held.book) held.taken }
