@@ -1,0 +1,9 @@
+//! HTTP on the wire: bytes to whole requests, however they are cut, and responses to bytes.
+#![tactic(auto)]
+
+mod close;
+mod fields;
+mod length;
+#[cfg(test)]
+mod tests;
+pub mod wire;
