@@ -1,3 +1,4 @@
 pub mod FieldLemmas
 pub mod CloseLemmas
 pub mod RuleLemmas
+pub mod ResponseLemmas

@@ -1,3 +1,4 @@
 pub mod Heads
+pub mod Responses
 pub mod Rules
 pub mod Spans

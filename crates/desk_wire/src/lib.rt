@@ -4,6 +4,7 @@
 mod close;
 mod fields;
 mod length;
+pub mod response;
 #[cfg(test)]
 mod tests;
 pub mod wire;

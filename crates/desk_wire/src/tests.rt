@@ -20,3 +20,10 @@ fn first(rt: HostRuntime) -> Result<(), Fail> {
     );
     Ok(())
 }
+
+#[test]
+fn second(rt: HostRuntime) -> Result<(), Fail> {
+    let text = crate::response::response_text(rt.alloc(), 405, b"{}", true)?;
+    assert_eq!(rt; text.as_slice(), b"HTTP/1.1 405 Method Not Allowed\r\nContent-Type: application/json\r\nContent-Length: 2\r\nAllow: POST\r\nConnection: close\r\n\r\n{}".as_slice());
+    Ok(())
+}
