@@ -13,6 +13,8 @@ use Rattle.httparse.proofs.GrammarLemmas.{request_unique, ReadsRequest-append}
 use Rattle.desk_wire.specs.declared.wire.Wire.{Wire}
 use Rattle.desk_wire.specs.declared.wire.Wire.TheVariants.{Whole, More, Bad}
 use Rattle.desk_wire.specs.Heads.{Fields, fields_of, values_of, is_length, asks_to_close}
+use Rattle.desk_wire.specs.declared.heard.Request.{Request}
+use Rattle.desk_wire.specs.Streams.{whole}
 use Rattle.desk_wire.specs.Rules.{head_limit, body_limit, field_limit, head_part, Reading, Hopeless, Unfinished, Head, IsReading, body_answer, head_answer, answer, Answers, IfWhole}
 
 -- the head part of a buffer, as the code takes it
@@ -292,3 +294,49 @@ whole_within buffer wire answers = at wire (Answers-within buffer wire answers)
     at (Bad status) h = tt
     at More h = tt
     at (Whole head body close) h = h
+
+-- ---- where more bytes are needed
+
+unfinished_is_short : (buffer : List ℕ) → answer Unfinished (length buffer) ≡ More → length buffer < 65536
+unfinished_is_short buffer more = by_size (cases_lt (length buffer) 65536)
+  where
+    by_size : (length buffer < 65536) ⊎ (65536 ≤ length buffer) → length buffer < 65536
+    by_size (inl small) = small
+    by_size (inr large) =
+        let bad : Bad 400 ≡ More = sym (cond-true _ (Bad 400) More (le-leb 65536 (length buffer) large)) ∙ more in cc
+
+unfinished_is_no_request : (buffer : List ℕ) (request : Request) → whole request ≡ answer Unfinished (length buffer) → ⊥
+unfinished_is_no_request buffer request same = by_size (cases_Bool (nat_le 65536 (length buffer)))
+  where
+    by_size : (nat_le 65536 (length buffer) ≡ true) ⊎ (nat_le 65536 (length buffer) ≡ false) → ⊥
+    by_size (inl large) = let bad : whole request ≡ Bad 400 = same ∙ cond-true _ (Bad 400) More large in cc
+    by_size (inr small) = let more : whole request ≡ More = same ∙ cond-false _ (Bad 400) More small in cc
+
+needed_reading : (buffer : List ℕ) (a b : Reading) → IsReading (head_part buffer) a → IsReading (head_part buffer) b
+    → answer a (length buffer) ≡ More → answer b (length buffer) ≢ More
+    → (length buffer < 65536) × IsReading (head_part buffer) Hopeless
+needed_reading buffer Hopeless b x y p q = absurd (cc)
+needed_reading buffer Unfinished Hopeless x y p q = (unfinished_is_short buffer p, y)
+needed_reading buffer Unfinished Unfinished x y p q = absurd (q p)
+needed_reading buffer Unfinished (Head head) x y p q = absurd (x.0 head y.0.0 y.0.1)
+needed_reading buffer (Head head) Hopeless x y p q = absurd (no_head buffer head y x)
+needed_reading buffer (Head head) Unfinished x y p q = absurd (y.0 head x.0.0 x.0.1)
+needed_reading buffer (Head head) (Head head') x y p q =
+    absurd (q (sym (ap (λ h. answer (Head h) (length buffer)) (request_unique (head_part buffer) head head' x.0.0 y.0.0 x.0.1 y.0.1).0) ∙ p))
+
+-- another answer than More to the same bytes is the refusal of a head that can't be completed
+pub needed_only_if_hopeless : (buffer : List ℕ) (wire : Wire) → Answers buffer More → Answers buffer wire → wire ≢ More
+    → (length buffer < 65536) × IsReading (head_part buffer) Hopeless
+needed_only_if_hopeless buffer wire x y settled =
+    needed_reading buffer x.0 y.0 x.1 y.1 (sym x.2) (λ more. settled (y.2 ∙ more))
+
+-- a whole request is never one of which more bytes are needed
+pub whole_is_not_more : (buffer : List ℕ) (request : Request) → Answers buffer (whole request) → Answers buffer More → ⊥
+whole_is_not_more buffer request x y =
+    by_reading x.0 x.1 x.2 (needed_only_if_hopeless buffer (whole request) y x (λ same. cc)).1
+  where
+    by_reading : (reading : Reading) → IsReading (head_part buffer) reading → whole request ≡ answer reading (length buffer)
+        → IsReading (head_part buffer) Hopeless → ⊥
+    by_reading Hopeless reads same hopeless = cc
+    by_reading Unfinished reads same hopeless = unfinished_is_no_request buffer request same
+    by_reading (Head head) reads same hopeless = no_head buffer head hopeless reads

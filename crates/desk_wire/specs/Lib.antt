@@ -2,3 +2,5 @@ pub mod Heads
 pub mod Responses
 pub mod Rules
 pub mod Spans
+pub mod Streams
+pub mod Waiting

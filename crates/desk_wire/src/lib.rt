@@ -3,6 +3,8 @@
 
 mod close;
 mod fields;
+pub mod heard;
+pub mod inbox;
 mod length;
 pub mod response;
 #[cfg(test)]

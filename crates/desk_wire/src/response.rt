@@ -21,7 +21,11 @@ pub fn response_text(
     let mut text = Vec::new(alloc);
     push_status_line(&mut text, status)?;
     push_field(&mut text, "Content-Type", "application/json")?;
-    push_field(&mut text, "Content-Length", Buffer::new().format(body.len()))?;
+    push_field(
+        &mut text,
+        "Content-Length",
+        Buffer::new().format(body.len()),
+    )?;
     push_allow(&mut text, status)?;
     push_close(&mut text, close)?;
     text.extend_from_slice(b"\r\n")?;
