@@ -3,6 +3,10 @@
 #![tactic(auto)]
 
 pub mod failed;
+pub mod link;
+pub mod listener;
+pub mod memory_link;
+pub mod memory_listener;
 pub mod memory_sink;
 pub mod memory_source;
 pub mod plan;
