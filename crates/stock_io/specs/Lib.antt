@@ -4,3 +4,4 @@ pub mod Memory
 pub mod Standard
 pub mod Links
 pub mod Listeners
+pub mod Nets

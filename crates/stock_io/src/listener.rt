@@ -47,6 +47,7 @@ pub trait Listener {
         ensures first { IfOk result (λ peer. HandsOut (waiting self.old) (waiting self.new) peer) }
         ensures fresh { IfOk result (IsFresh Self.Peer.taken Self.Peer.written Self.Peer.Source.faults Self.Peer.ended) }
         ensures counted { OnOk result (accepts self.new ≡ accepts self.old + 1) }
+        ensures outstanding { OnOk result (hang_ups self.new < accepts self.new) }
         ensures waiting_kept { OnErr result (waiting self.new ≡ waiting self.old) }
         ensures not_counted { OnErr result (accepts self.new ≡ accepts self.old) }
         ensures hung_up_kept { hung_up self.new ≡ hung_up self.old }

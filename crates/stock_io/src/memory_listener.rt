@@ -13,6 +13,7 @@ use stock_nums::lines::Lines;
 use stock_nums::memory::NoMemory;
 
 /// A listener in memory, with the peers that come, of whose calls chosen ones fail.
+#[derive(Drop)]
 pub struct MemListener {
     // The first peer stands last.
     waiting: Vec<MemLink>,
@@ -105,6 +106,7 @@ impl Listener for MemListener {
         ensures planned { IsErr result ↔ (NextFails self.old.plan ⊎ (self.old.waiting ≡ [])) }
         ensures first { IfOk result (λ peer. self.old.waiting ≡ peer ∷ self.new.waiting) }
         ensures fresh { IfOk result IsNewPeer }
+        ensures outstanding { OnOk result (length self.new.hung_up < self.new.accepts) }
         ensures after_ok { OnOk result (self.new ≡ after_accept self.old self.new.waiting) }
         ensures after_failed { OnErr result (self.new ≡ after_failed_call self.old) }
     {
