@@ -13,9 +13,9 @@ use Rattle.desk_wire.specs.declared.heard.Heard.TheVariants.{Next, Last}
 use Rattle.desk_wire.specs.declared.heard.Stop.TheVariants.{Refused, Ended, TooMuch}
 use Rattle.stock_io.specs.declared.failed.Failed.{Failed}
 use Rattle.desk_wire.specs.Waiting.{Waiting}
-use Rattle.desk_wire.specs.Streams.{TakesIn, HasTaken, whole, stop_answer, heard_answer, IsOfStream, IsHopeless, IsHeardAs}
+use Rattle.desk_wire.specs.Streams.{TakesIn, HasTaken, whole, LiesIn, IfNext, stop_answer, heard_answer, IsOfStream, IsHopeless, IsHeardAs}
 use Rattle.desk_wire.specs.Rules.{Answers}
-use Rattle.desk_wire.proofs.RuleLemmas.{Answers-append, Answers-unique, whole_is_not_more, needed_only_if_hopeless}
+use Rattle.desk_wire.proofs.RuleLemmas.{Answers-append, Answers-unique, whole_is_not_more, whole_within, needed_only_if_hopeless}
 
 IfSome-any : {A : Type 0} (o : Option A) {P : A → Type 0} → ((a : A) → P a) → IfSome o P
 IfSome-any None all = tt
@@ -29,6 +29,15 @@ IfSome-map (Some a) step some = step a some
 pub answers_at : {bytes shown : List ℕ} {wire result : Wire} → shown ≡ bytes → result ≡ wire → Answers shown result → Answers bytes wire
 answers_at {bytes} {shown} {wire} {result} same is answers =
     subst (Answers bytes) is (subst (λ (l : List ℕ). Answers l result) same answers)
+
+-- a request that is heard is there
+pub result_is_there : (bytes : List ℕ) (r : Result Heard Failed) → IfOk r (λ heard. Answers bytes (heard_answer heard))
+    → IfOk r (λ heard. IfNext heard (LiesIn bytes))
+result_is_there bytes (Ok (Next request)) answers =
+    let within = whole_within bytes (whole request) answers in
+    record { some = within.0; head = within.1; body = within.2; within = within.3 }
+result_is_there bytes (Ok (Last stop)) answers = tt
+result_is_there bytes (Err failed) answers = tt
 
 module _ {S : Type 0} (left : S → Option (List ℕ)) (taken faults : S → ℕ) (leaves : S → S → Type 0) where
   pub nothing_taken : (waits : Waiting) (source : S) → HasTaken left taken faults leaves waits waits source source

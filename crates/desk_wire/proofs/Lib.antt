@@ -4,3 +4,4 @@ pub mod RuleLemmas
 pub mod ResponseLemmas
 pub mod HearLemmas
 pub mod InboxLemmas
+pub mod FramingLemmas

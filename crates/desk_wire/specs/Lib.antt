@@ -1,3 +1,4 @@
+pub mod Framings
 pub mod Heads
 pub mod Responses
 pub mod Rules

@@ -1,5 +1,5 @@
 -- Requests in a stream of bytes, which comes in pieces.
-use Rattle.std.specs.Prelude.{◌≡◌, ℕ, ◌+◌, ◌<◌, Option, List, [], ◌∷◌, ◌++◌, length, drop, Result, ⊤}
+use Rattle.std.specs.Prelude.{◌≡◌, ℕ, ◌+◌, ◌<◌, ◌≤◌, Option, List, [], ◌∷◌, ◌++◌, length, drop, Result, ⊤}
 use Rattle.std.specs.Io.KnownBytes.{Consumes}
 use Rattle.stock_io.specs.Counts.{NeverFalls}
 use Rattle.stock_io.specs.Streams.{Chained}
@@ -11,7 +11,7 @@ use Rattle.desk_wire.specs.declared.heard.Stop.TheVariants.{Refused, Ended, TooM
 use Rattle.desk_wire.specs.declared.heard.Heard.{Heard}
 use Rattle.desk_wire.specs.declared.heard.Heard.TheVariants.{Next, Last}
 use Rattle.desk_wire.specs.Waiting.{Waiting}
-use Rattle.desk_wire.specs.Rules.{head_limit, head_part, IsReading, Hopeless, Answers}
+use Rattle.desk_wire.specs.Rules.{head_limit, body_limit, head_part, IsReading, Hopeless, Answers}
 
 -- the rules answer this whole request
 abbrev pub whole : Request → Wire
@@ -20,6 +20,18 @@ whole request = Whole request.head request.body request.close
 -- how many bytes a request has
 abbrev pub size : Request → ℕ
 size request = request.head + request.body
+
+-- the request lies in the bytes, within the limits, and has a head
+pub record LiesIn (bytes : List ℕ) (request : Request) : Type 0 where
+  pub some : 0 < request.head
+  pub head : request.head ≤ head_limit
+  pub body : request.body ≤ body_limit
+  pub within : size request ≤ length bytes
+
+-- P of the next request, if there is one
+abbrev pub IfNext : Heard → (Request → Type 0) → Type 0
+IfNext (Next request) P = P request
+IfNext (Last stop) P = ⊤
 
 -- the answer of the rules where the requests of a stream stop
 abbrev pub stop_answer : Stop → Wire

@@ -9,7 +9,7 @@ ghost use Rattle.desk_wire.specs.declared.heard.Request.{Request};
 ghost use Rattle.desk_wire.specs.declared.heard.Stop.{Stop};
 ghost use Rattle.desk_wire.specs.Rules.{Answers};
 ghost use Rattle.desk_wire.specs.Waiting.{nothing_waits, after_passing};
-ghost use Rattle.desk_wire.specs.Streams.{TakesIn, HasTaken, whole, heard_answer, HasCause, IsOfStream, IsHeardAs};
+ghost use Rattle.desk_wire.specs.Streams.{TakesIn, HasTaken, whole, LiesIn, IfNext, heard_answer, HasCause, IsOfStream, IsHeardAs};
 
 use crate::heard::{Heard, Request, Stop};
 use crate::wire::{BODY_LIMIT, HEAD_LIMIT, Wire, next_request};
@@ -78,6 +78,7 @@ impl Inbox {
     pub fn hear<S: Source>(&mut self, source: &mut S) -> Result<Heard, Failed>
         ensures takes_in { TakesIn S.left S.taken self.old self.new source.old source.new }
         ensures heard { IfOk result (λ heard. Answers self.new.bytes (heard_answer heard)) }
+        ensures there { IfOk result (λ heard. IfNext heard (LiesIn self.new.bytes)) }
         ensures cause { IfOk result (λ heard. HasCause heard self.new) }
 
         // Where the source tells its bytes, all that waited and was left decides, however it comes in pieces.

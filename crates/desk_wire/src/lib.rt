@@ -3,6 +3,7 @@
 
 mod close;
 mod fields;
+pub mod framing;
 pub mod heard;
 pub mod inbox;
 mod length;
