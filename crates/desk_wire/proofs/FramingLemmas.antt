@@ -1,10 +1,9 @@
 -- The requests of a stream, one after another.
-use Rattle.std.proofs.Common.{◌≡◌, ◌≢◌, ℕ, ◌+◌, ◌≤◌, ◌⊎◌, inl, inr, Option, Some, None, List, [], ◌∷◌, ◌++◌, length, drop, refl, sym, ap, ◌∙◌, subst, append_assoc, IfSome, IfOk, Result, Ok, Err}
+use Rattle.std.proofs.Common.{◌≡◌, ◌≢◌, ℕ, ◌≤◌, ◌⊎◌, inl, inr, Option, Some, None, List, [], ◌∷◌, ◌++◌, length, drop, refl, sym, ap, ◌∙◌, subst, append_assoc, IfSome, IfOk, Result, Ok, Err}
 use Rattle.std.specs.Prelude.{⊤}
 use Rattle.std.specs.Io.KnownBytes.{Consumes, prepend_known}
 use Rattle.std.proofs.Math.Seq.{drop-append-le}
-use Rattle.desk_wire.specs.declared.wire.Wire.{Wire}
-use Rattle.desk_wire.specs.declared.wire.Wire.TheVariants.{Whole, More, Bad}
+use Rattle.desk_wire.specs.declared.wire.Wire.TheVariants.{Bad}
 use Rattle.desk_wire.specs.declared.heard.Request.{Request}
 use Rattle.desk_wire.specs.declared.heard.Stop.{Stop}
 use Rattle.desk_wire.specs.declared.heard.Stop.TheVariants.{Refused, Ended, TooMuch}

@@ -1,19 +1,17 @@
 -- What was taken of a stream so far, and what was heard then.
-use Rattle.std.proofs.Common.{◌≡◌, ◌≢◌, ℕ, ◌+◌, ◌-◌, ◌<◌, ◌≤◌, ◌⊎◌, inl, inr, Option, Some, None, List, [], ◌∷◌, ◌++◌, length, take, drop, refl, sym, ap, ◌∙◌, subst, arith, append_assoc, append-nil, length-append, IfSome, IfOk, Result, Ok, Err}
+use Rattle.std.proofs.Common.{◌≡◌, ◌≢◌, ℕ, Option, Some, None, List, [], ◌++◌, refl, sym, ap, ◌∙◌, subst, arith, append_assoc, append-nil, length-append, IfSome, IfOk, Result, Ok, Err}
 use Rattle.std.specs.Io.KnownBytes.{Consumes, IsAtEnd}
 use Rattle.std.proofs.KnownBytes.{Consumes-nil, Consumes-trans, Consumes-whole}
 use Rattle.stock_io.specs.Counts.{NeverFalls}
-use Rattle.stock_io.specs.Streams.{Chained}
 use Rattle.stock_io.proofs.Writing.{Chained-step}
 use Rattle.desk_wire.specs.declared.wire.Wire.{Wire}
-use Rattle.desk_wire.specs.declared.wire.Wire.TheVariants.{Whole, More, Bad}
-use Rattle.desk_wire.specs.declared.heard.Request.{Request}
+use Rattle.desk_wire.specs.declared.wire.Wire.TheVariants.{More, Bad}
 use Rattle.desk_wire.specs.declared.heard.Heard.{Heard}
 use Rattle.desk_wire.specs.declared.heard.Heard.TheVariants.{Next, Last}
 use Rattle.desk_wire.specs.declared.heard.Stop.TheVariants.{Refused, Ended, TooMuch}
 use Rattle.stock_io.specs.declared.failed.Failed.{Failed}
 use Rattle.desk_wire.specs.Waiting.{Waiting}
-use Rattle.desk_wire.specs.Streams.{TakesIn, HasTaken, whole, LiesIn, IfNext, stop_answer, heard_answer, IsOfStream, IsHopeless, IsHeardAs}
+use Rattle.desk_wire.specs.Streams.{TakesIn, HasTaken, whole, LiesIn, IfNext, heard_answer, IsOfStream, IsHopeless, IsHeardAs}
 use Rattle.desk_wire.specs.Rules.{Answers}
 use Rattle.desk_wire.proofs.RuleLemmas.{Answers-append, Answers-unique, whole_is_not_more, whole_within, needed_only_if_hopeless}
 

@@ -1,11 +1,11 @@
 -- The bytes of an inbox, as its buffer holds them.
-use Rattle.std.proofs.Common.{◌≡◌, ℕ, ◌+◌, ◌-◌, ◌<◌, ◌≤◌, List, [], ◌∷◌, ◌++◌, length, take, drop, min, refl, sym, ap, ◌∙◌, subst, arith, length-append, length-take, length-drop, slice_range, Option, Some, None, append-nil}
+use Rattle.std.proofs.Common.{◌≡◌, ℕ, ◌+◌, ◌-◌, ◌≤◌, List, [], ◌++◌, length, take, drop, sym, ap, ◌∙◌, arith, length-append, length-drop, slice_range, Option, Some, None, append-nil}
 use Rattle.std.specs.List.{copy_within}
 use Rattle.std.specs.Io.KnownBytes.{Consumes, Keeps}
 use Rattle.std.proofs.Math.Seq.{take-add, take-append_seam}
 use Rattle.std.proofs.lemmas.List.{drop-drop, drop-take, length-take-le, nil_from_length}
 use Rattle.httparse.proofs.RunLemmas.{length-slice_range}
-use Rattle.desk_wire.specs.Waiting.{Waiting, after_passing}
+use Rattle.desk_wire.specs.Waiting.{Waiting}
 use Rattle.desk_wire.specs.Streams.{TakesIn}
 
 -- the front of a buffer whose waiting bytes were moved there

@@ -1,8 +1,8 @@
 -- What the rules answer to a buffer, and what they answer once more bytes follow.
-use Rattle.std.proofs.Common.{◌≡◌, ◌≢◌, ℕ, ◌+◌, ◌-◌, ◌<◌, ◌≤◌, ◌⊎◌, inl, inr, Bool, true, false, cond, if◌then◌else◌, List, [], ◌∷◌, ◌++◌, length, map, take, drop, refl, sym, ap, ◌∙◌, subst, arith, min, append_assoc, length-append, length-take, append-nil}
+use Rattle.std.proofs.Common.{◌≡◌, ◌≢◌, ℕ, ◌+◌, ◌-◌, ◌<◌, ◌≤◌, ◌⊎◌, inl, inr, Bool, true, false, if◌then◌else◌, List, [], ◌∷◌, ◌++◌, length, map, take, drop, refl, sym, ap, ◌∙◌, subst, arith, min, append_assoc, length-append, length-take, append-nil}
 use Rattle.std.specs.Prelude.{nat_lt, nat_le, not, codes, bytes_eq, ◌==◌, ◌&&◌}
 use Rattle.std.specs.Str.Parse.{digits_value}
-use Rattle.std.proofs.lemmas.Bool.{cases_Bool, cases_lt, cond-true, cond-false, cond_both, ltb-false, ltb-true, leb-true, leb-false, le-leb, lt-leb, le-ltb}
+use Rattle.std.proofs.lemmas.Bool.{cases_Bool, cases_lt, cond-true, cond-false, cond_both, ltb-false, ltb-true, leb-false, le-leb, lt-leb, le-ltb}
 use Rattle.std.proofs.lemmas.List.{take_all, take-append-le, length-map}
 use Rattle.std.proofs.Math.Seq.{take-append-add}
 use Rattle.httparse.specs.declared.spans.HeaderSpan.{HeaderSpan}
@@ -15,7 +15,7 @@ use Rattle.desk_wire.specs.declared.wire.Wire.TheVariants.{Whole, More, Bad}
 use Rattle.desk_wire.specs.Heads.{Fields, fields_of, values_of, is_length, asks_to_close}
 use Rattle.desk_wire.specs.declared.heard.Request.{Request}
 use Rattle.desk_wire.specs.Streams.{whole}
-use Rattle.desk_wire.specs.Rules.{head_limit, body_limit, field_limit, head_part, Reading, Hopeless, Unfinished, Head, IsReading, body_answer, head_answer, answer, Answers, IfWhole}
+use Rattle.desk_wire.specs.Rules.{body_limit, head_part, Reading, Hopeless, Unfinished, Head, IsReading, body_answer, head_answer, answer, Answers, IfWhole}
 
 -- the head part of a buffer, as the code takes it
 pub head_part_is : (buffer : List ℕ) (n : ℕ) → n ≡ min (length buffer) 65536 → take n buffer ≡ head_part buffer

@@ -1,6 +1,5 @@
 -- All requests of a stream of bytes.
-use Rattle.std.specs.Prelude.{◌≡◌, ◌≢◌, ℕ, ◌⊎◌, Option, Some, None, List, [], ◌∷◌, drop, IfSome, ⊤}
-use Rattle.std.specs.Io.KnownBytes.{prepend_known}
+use Rattle.std.specs.Prelude.{◌≡◌, ◌≢◌, ℕ, ◌⊎◌, List, [], ◌∷◌, drop}
 use Rattle.desk_wire.specs.declared.heard.Request.{Request}
 use Rattle.desk_wire.specs.declared.heard.Stop.{Stop}
 use Rattle.desk_wire.specs.declared.heard.Stop.TheVariants.{TooMuch}

@@ -1,5 +1,5 @@
 -- What the clauses of listeners say, and what contracts see of a listener in memory.
-use Rattle.std.specs.Prelude.{◌≡◌, ℕ, ◌+◌, Bool, false, Option, Some, None, List, [], ◌∷◌, ◌++◌, length, All, IfSome, ⊤}
+use Rattle.std.specs.Prelude.{◌≡◌, ℕ, ◌+◌, Bool, false, Option, Some, None, List, [], ◌∷◌, ◌++◌, IfSome, ⊤}
 use Rattle.stock_io.specs.Memory.{Plan, new_plan, after_call, after_failure}
 use Rattle.stock_io.specs.Links.{PlannedLink, link_faults}
 

@@ -1,5 +1,5 @@
 -- The elements between commas, one after another.
-use Rattle.std.proofs.Common.{◌≡◌, sym, ◌∙◌}
+use Rattle.std.proofs.Common.{sym, ◌∙◌}
 use Rattle.desk_wire.proofs.CloseLemmas.{closes_first, closes_later, closes_last}
 use Rattle.desk_wire.proofs.close.lists_close.Goals as goal
 

@@ -1,5 +1,5 @@
 -- One Connection field after another.
-use Rattle.std.proofs.Common.{◌≡◌, ◌+◌, true, false, List, [], ◌∷◌, ◌++◌, map, take, codes, sym, ap, ◌∙◌}
+use Rattle.std.proofs.Common.{◌≡◌, true, false, map, take, codes, sym, ap, ◌∙◌}
 use Rattle.std.specs.List.{list_any}
 use Rattle.std.proofs.lemmas.Bool.{or_left, or_right, or_from}
 use Rattle.std.proofs.lemmas.List.Folds.{list_any-append}

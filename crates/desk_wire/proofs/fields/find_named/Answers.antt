@@ -1,6 +1,5 @@
 -- One more field.
-use Rattle.std.proofs.Common.{◌≡◌, ◌+◌, ◌<◌, length, take, map, arith, subst, sym, ◌∙◌, ap, get_or}
-use Rattle.std.specs.List.{All}
+use Rattle.std.proofs.Common.{◌+◌, length, take, map, arith, subst, sym, ◌∙◌, ap}
 use Rattle.std.proofs.lemmas.List.Elements.{All-get_or}
 use Rattle.httparse.specs.Spans.{header_bytes, IsHeaderWithin}
 use Rattle.desk_wire.specs.Heads.{values_of}

@@ -1,4 +1,4 @@
-use Rattle.std.proofs.Common.{◌≡◌, ◌≤◌, length, map, take}
+use Rattle.std.proofs.Common.{◌≤◌, map, take}
 use Rattle.httparse.specs.Spans.{header_bytes}
 use Rattle.desk_wire.specs.Heads.{values_of}
 use Rattle.desk_wire.specs.Spans.{Finds}

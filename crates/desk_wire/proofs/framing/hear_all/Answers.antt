@@ -1,9 +1,9 @@
 -- One more request, or the last answer.
-use Rattle.std.proofs.Common.{◌≡◌, ℕ, ◌+◌, List, [], ◌∷◌, ◌++◌, length, arith, sym, subst}
+use Rattle.std.proofs.Common.{List, [], ◌∷◌, ◌++◌, arith, sym, subst}
 use Rattle.std.specs.Io.KnownBytes.{prepend_known}
 use Rattle.desk_wire.specs.Waiting.{Waiting}
 use Rattle.desk_wire.specs.declared.heard.Request.{Request}
-use Rattle.desk_wire.proofs.FramingLemmas.{Follows, follows_next, follows_last, heard_next, heard_last, next_lies, nothing_told}
+use Rattle.desk_wire.proofs.FramingLemmas.{Follows, follows_next, heard_next, next_lies, nothing_told}
 use Rattle.desk_wire.proofs.framing.hear_all.Goals as goal
 
 pub returns-in_default-clause-framed : goal.returns-in_default-clause-framed

@@ -1,5 +1,5 @@
 -- Each status of the table has a phrase in http, and it is the table's.
-use Rattle.std.proofs.Common.{◌≡◌, sym, ◌∙◌, ap}
+use Rattle.std.proofs.Common.{◌≡◌, ap}
 use Rattle.http.specs.StatusCode.{reason_phrase}
 use Rattle.desk_wire.proofs.ResponseLemmas.{phrase_is}
 use Rattle.desk_wire.proofs.response.phrase.Goals as goal

@@ -1,7 +1,6 @@
 -- What httparse answers is how the rules read the buffer.
-use Rattle.std.proofs.Common.{◌≡◌, length, sym, ◌∙◌, subst}
+use Rattle.std.proofs.Common.{length, sym, ◌∙◌}
 use Rattle.std.proofs.lemmas.Bool.{cond-true, cond-false, le-leb, lt-leb}
-use Rattle.httparse.specs.Grammar.{HasNoRequest, MayBecomeRequest}
 use Rattle.httparse.specs.Spans.{IsRequestOf, IsRequestWithin}
 use Rattle.httparse.proofs.HeadLemmas.{at_complete, on_partial}
 use Rattle.desk_wire.proofs.RuleLemmas.{complete_answers, partial_answers, refused_answers}

@@ -1,6 +1,5 @@
 -- What the rules answer stays, is the one answer, and lies within the limits.
-use Rattle.std.proofs.Common.{◌≡◌, sym, ◌∙◌, subst}
-use Rattle.desk_wire.specs.declared.wire.Wire.TheVariants.{More}
+use Rattle.std.proofs.Common.{subst}
 use Rattle.desk_wire.proofs.RuleLemmas.{Answers-append, Answers-unique, Answers-within, IsWithinLimits, whole_within}
 use Rattle.desk_wire.proofs.wire.next_request.Goals as goal
 

@@ -1,5 +1,5 @@
 -- The bytes that wait are moved to the front, and the piece comes behind them.
-use Rattle.std.proofs.Common.{◌≡◌, ◌≤◌, ◌+◌, ◌-◌, ℕ, List, length, slice_range, arith, refl, ◌∙◌, ap}
+use Rattle.std.proofs.Common.{◌≡◌, ℕ, List, length, slice_range, arith, refl, ◌∙◌, ap}
 use Rattle.desk_wire.proofs.InboxLemmas.{piece_taken, none_taken, written_again}
 use Rattle.desk_wire.proofs.inbox.Inbox.take_piece.Goals as goal
 

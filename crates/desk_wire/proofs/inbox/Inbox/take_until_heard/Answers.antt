@@ -1,6 +1,6 @@
 -- What the rules answer to the bytes that wait, and each piece that is taken.
 use Rattle.std.proofs.Common.{◌≡◌, ℕ, List, length, sym, arith, subst}
-use Rattle.desk_wire.specs.declared.wire.Wire.TheVariants.{Whole, More, Bad}
+use Rattle.desk_wire.specs.declared.wire.Wire.TheVariants.{More}
 use Rattle.desk_wire.specs.Rules.{Answers}
 use Rattle.desk_wire.proofs.HearLemmas.{more_taken, answers_at, stream_ends}
 use Rattle.desk_wire.proofs.InboxLemmas.{nothing_new}
