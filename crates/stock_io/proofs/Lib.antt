@@ -1,2 +1,3 @@
+pub mod Peers
 pub mod Slices
 pub mod Writing

@@ -2,3 +2,6 @@ pub mod Counts
 pub mod Streams
 pub mod Memory
 pub mod Standard
+pub mod Links
+pub mod Listeners
+pub mod Nets

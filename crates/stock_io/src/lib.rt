@@ -3,8 +3,14 @@
 #![tactic(auto)]
 
 pub mod failed;
+pub mod link;
+pub mod listener;
+pub mod memory_link;
+pub mod memory_listener;
 pub mod memory_sink;
 pub mod memory_source;
+pub mod net_link;
+pub mod net_listener;
 pub mod plan;
 pub mod sink;
 pub mod source;

@@ -1,11 +1,21 @@
+ghost use Rattle.std.specs.Prelude.{All, IfOk};
+ghost use Rattle.stock_io.specs.Listeners.{IsNewPeer};
+
 use crate::failed::Failed;
+use crate::link::Link;
+use crate::listener::Listener;
+use crate::memory_link::MemLink;
+use crate::memory_listener::MemListener;
 use crate::memory_sink::MemSink;
 use crate::memory_source::MemSource;
+use crate::net_link::NetLink;
+use crate::net_listener::NetListener;
 use crate::sink::{Sink, write_all};
 use crate::source::Source;
 use crate::standard::{StdSink, StdSource};
 use crate::sure::{SureSink, SureSource};
 use std::alloc::Global;
+use std::net::{Net, TcpListener, TcpStream};
 use std::test::Fail;
 use stock_nums::lines::Lines;
 use stock_nums::memory::NoMemory;
@@ -72,5 +82,109 @@ fn the_standard_streams_answer(rt: HostRuntime) -> Result<(), Fail> {
     let failed = next_read(&mut input).is_err();
     assert_eq!(rt; input.faults(), u64::from(failed));
     assert!(rt; input.taken() <= 4);
+    Ok(())
+}
+
+#[test]
+fn a_link_in_memory_fails_as_planned(rt: HostRuntime) -> Result<(), Fail> {
+    let bytes = lines_of(rt.alloc(), b"abcde")?;
+    let failing_reads = lines_of(rt.alloc(), &[2u64])?;
+    let failing_writes = lines_of(rt.alloc(), &[1u64])?;
+    let mut link = MemLink::new(rt.alloc(), bytes, 3, 4, failing_reads, failing_writes)?;
+    assert_eq!(rt; next_read(&mut link), Ok((3, b'a')));
+    assert_eq!(rt; write_all(&mut link, b"xy"), Err(Failed));
+    assert_eq!(rt; next_read(&mut link), Err(Failed));
+    assert_eq!(rt; write_all(&mut link, b"xy"), Ok(()));
+    assert_eq!(rt; next_read(&mut link), Ok((2, b'd')));
+    assert_eq!(rt; link.written(), b"xy".as_slice());
+    assert_eq!(rt;
+        (link.taken(), link.faults(), link.is_ended()),
+        (5, 2, false)
+    );
+    link.end();
+    assert_eq!(rt;
+        (link.taken(), link.faults(), link.is_ended()),
+        (5, 2, true)
+    );
+    Ok(())
+}
+
+// Two peers that send these bytes.
+fn two_peers(alloc: Global, first: &[u8], second: &[u8]) -> Result<Vec<MemLink>, NoMemory>
+    ensures { IfOk result (λ peers. All IsNewPeer peers.items) }
+{
+    let mut peers = Vec::new(alloc);
+    peers.push(peer_of(alloc, first)?)?;
+    peers.push(peer_of(alloc, second)?)?;
+    Ok(peers)
+}
+
+fn peer_of(alloc: Global, bytes: &[u8]) -> Result<MemLink, NoMemory>
+    ensures { IfOk result IsNewPeer }
+{
+    let bytes = lines_of(alloc, bytes)?;
+    MemLink::new(alloc, bytes, 8, 8, Lines::new(alloc), Lines::new(alloc))
+}
+
+// Reads from the next peer, and hangs it up.
+fn next_peer<L: Listener>(listener: &mut L) -> Result<(usize, u8), Failed> {
+    let mut peer = listener.accept()?;
+    let read = next_read(&mut peer);
+    peer.end();
+    listener.hang_up(peer);
+    read
+}
+
+#[test]
+fn a_listener_in_memory_hands_its_peers_out_in_order(rt: HostRuntime) -> Result<(), Fail> {
+    let peers = two_peers(rt.alloc(), b"abc", b"d")?;
+    let failing = lines_of(rt.alloc(), &[3u64])?;
+    let mut listener = MemListener::new(rt.alloc(), peers, failing)?;
+    assert_eq!(rt; listener.listen(8080), Ok(()));
+    assert_eq!(rt; next_peer(&mut listener), Ok((3, b'a')));
+    assert_eq!(rt; next_peer(&mut listener), Err(Failed));
+    assert_eq!(rt; next_peer(&mut listener), Ok((1, b'd')));
+    assert_eq!(rt; next_peer(&mut listener), Err(Failed));
+    assert_eq!(rt; (listener.hung_up().len(), listener.faults()), (2, 2));
+    Ok(())
+}
+
+// A listener at a port that the system chose, and a link to that port.
+fn connected<R: Net<Listener = TcpListener, Stream = TcpStream> + Copy>(
+    rt: R,
+) -> Result<(NetListener<R>, NetLink), Failed> {
+    let mut listener = NetListener::new(rt);
+    listener.listen(0)?;
+    let port = listener.port().ok_or(Failed)?;
+    let client = NetLink::connect(&rt, port)?;
+    Ok((listener, client))
+}
+
+// What the client is told by the peer that it asked: how many bytes, and the first.
+fn answer_to<L: Listener>(listener: &mut L, client: &mut NetLink) -> Result<(usize, u8), Failed> {
+    write_all(client, b"ask")?;
+    let mut peer = listener.accept()?;
+    write_all(&mut peer, b"told")?;
+    let asked = next_read(&mut peer);
+    peer.end();
+    listener.hang_up(peer);
+    let told = next_read(client)?;
+    client.end();
+    if asked == Ok((3, b'a')) {
+        Ok(told)
+    } else {
+        Err(Failed)
+    }
+}
+
+#[test]
+fn sockets_answer(rt: HostRuntime) -> Result<(), Fail> {
+    let (mut listener, mut client) = connected(rt)?;
+    assert_eq!(rt; answer_to(&mut listener, &mut client), Ok((4, b't')));
+    assert_eq!(rt;
+        (client.taken(), client.faults(), client.is_ended()),
+        (4, 0, true)
+    );
+    assert_eq!(rt; listener.faults(), 0);
     Ok(())
 }

@@ -1,0 +1,6 @@
+pub mod Histories
+pub mod Views
+pub mod Rule
+pub mod Steps
+pub mod Passes
+pub mod Lending

@@ -1,0 +1,13 @@
+//! A lock that hands out a value in turn. What is taken begins with all that its taker had seen.
+#![tactic(auto)]
+
+pub mod held;
+pub mod lock;
+pub mod logged;
+pub mod pass;
+mod plays;
+mod rule;
+mod sending;
+#[cfg(test)]
+mod tests;
+pub mod view;
