@@ -223,11 +223,7 @@ fn merged(alloc: Global, line: &[Entry], entries: &[Entry]) -> Result<Lines<Entr
 }
 
 // The rows whose moment is not after this one, where there is one.
-fn rows_until(
-    alloc: Global,
-    rows: &[Row],
-    until: Option<Moment>,
-) -> Result<Lines<Row>, NoMemory>
+fn rows_until(alloc: Global, rows: &[Row], until: Option<Moment>) -> Result<Lines<Row>, NoMemory>
     ensures { IfOk result (λ kept. kept ≡ filter (is_until until) rows.now) }
 {
     let mut kept = Lines::new(alloc);
