@@ -1,26 +1,172 @@
--- A line is at most one request.
-use Rattle.std.proofs.Common.{◌≡◌, ℕ, ℤ, List, [], ◌∷◌, Some, IsTrue, ◌≢◌, get_or, arith, inl, inr, codes, refl, ap, ◌∙◌, subst}
-use Rattle.serde_json.specs.Data.{Data, string, object, Items, no_items, item, Members, member}
+-- A text is read in one way at most: each step of a walk comes to one outcome at most, and never to want of
+-- memory.
+use Rattle.std.proofs.Common.{◌≡◌, ℕ, ℤ, ◌+◌, pos, Bool, true, false, ◌&&◌, nat_le, is_some, option_and_then, List, [], ◌∷◌, Option, Some, None, Result, Ok, Err, IsTrue, if◌then◌else◌, inl, inr, refl, sym, ap, ◌∙◌, subst}
+use Rattle.std.specs.Prelude.{⊤}
+use Rattle.serde_json.specs.Data.{Num, unsigned, negative, float, Data, Items, no_items, item}
+use Rattle.serde_json.specs.Find.{get, as_str, as_number, as_array, as_object}
 use Rattle.serde_json.specs.Read.{read}
 use Rattle.stock_nums.specs.MomentText.{SpellsMoment}
 use Rattle.stock_nums.specs.Quantities.{IsLineQuantity, is_line_amount}
-use Rattle.stock_nums.specs.declared.cause.Method.TheVariants.{Fifo, Average}
 use Rattle.stock_nums.specs.declared.moment.Moment.{Moment}
-use Rattle.stock_nums.specs.declared.numbers.AccountNo.{AccountNo}
 use Rattle.stock_nums.proofs.MomentSpelling.{one_moment}
 use Rattle.stock_model.specs.declared.queries.Query.{Query}
-use Rattle.stock_model.specs.declared.queries.Sheet.{Sheet}
-use Rattle.stock_model.specs.declared.queries.Sheet.TheVariants.{Balance}
+use Rattle.stock_model.specs.declared.read_faults.FieldName.{FieldName}
+use Rattle.stock_model.specs.declared.read_faults.FieldName.TheVariants as field
+use Rattle.stock_model.specs.declared.read_faults.ReadFault.{ReadFault}
+use Rattle.stock_model.specs.declared.read_faults.ReadFault.TheVariants.{BadField, Limit, NoMemory}
 use Rattle.stock_model.specs.declared.requests.Request.{Request}
 use Rattle.stock_model.specs.declared.requests.Request.TheVariants.{Post, Settle, Report}
 use Rattle.stock_model.specs.declared.vouchers.IssueLine.{IssueLine}
-use Rattle.stock_model.specs.declared.vouchers.Purpose.{Purpose}
-use Rattle.stock_model.specs.declared.vouchers.Purpose.TheVariants.{Sold, Used}
 use Rattle.stock_model.specs.declared.vouchers.ReceiptLine.{ReceiptLine}
-use Rattle.stock_model.specs.declared.vouchers.What.{What}
-use Rattle.stock_model.specs.declared.vouchers.What.TheVariants.{Item, Store, Receipt, Issue}
-use Rattle.voucher_json.specs.FirstForm.{IsReceiptLine, IsIssueLine, AreLines, AreVoucherLines, purpose_text, settle_members, IsStoreForm, IsReceiptForm, IsIssueForm, IsWhatForm, IsBalanceForm, IsReportForm, IsRequestForm, IsRequest}
+use Rattle.voucher_json.specs.Walks.{GoesOn, Then, Ends, Yields, found_or_bad, IsPresent, Field, IsOptional, Optional, Elements}
+use Rattle.voucher_json.specs.FieldNames.{field_text}
+use Rattle.voucher_json.specs.Fields.{IsObject, IsText, choose, IsWord, items_count, has_other, number_outcome, IsNumber, IsMomentText, IsMoment, list_outcome, IsList, NoOther}
+use Rattle.voucher_json.specs.Requests.{kinds, methods, purposes, sheets, formats, IsItem, IsStore, IsReceiptLine, IsIssueLine, IsReceipt, IsIssue, IsReport, IsSettle, IsOfKind, IsRequest, IsReadAs}
+use Rattle.voucher_json.specs.declared.kinds.Kind.{Kind}
+use Rattle.voucher_json.specs.declared.kinds.Kind.TheVariants as kind_of
 use denote.Struct.Props.{props}
+
+-- a walk comes to one end at most, and not to want of memory
+record IsDecided {A : Type 0} (walk : Result A ReadFault → Type 0) : Type 0 where
+  one : (a b : Result A ReadFault) → walk a → walk b → a ≡ b
+  memory : walk (Err NoMemory) → ⊥
+
+-- where the end is given
+given : {A : Type 0} (outcome : Result A ReadFault) → (outcome ≡ Err NoMemory → ⊥) → IsDecided (λ end. end ≡ outcome)
+given outcome apart = record { one = λ a b is_a is_b. is_a ∙ sym is_b; memory = λ is. apart (sym is) }
+
+goes_on_one : {A B : Type 0} (next : A → Result B ReadFault → Type 0) → ((value : A) → IsDecided (next value)) → (outcome : Result A ReadFault) (a b : Result B ReadFault)
+    → GoesOn next outcome a → GoesOn next outcome b → a ≡ b
+goes_on_one next decided (Ok value) a b is_a is_b = (decided value).one a b is_a is_b
+goes_on_one next decided (Err fault) a b is_a is_b = is_a ∙ sym is_b
+
+goes_on_had : {A B : Type 0} (first : Result A ReadFault → Type 0) (next : A → Result B ReadFault → Type 0) → (first (Err NoMemory) → ⊥) → ((value : A) → IsDecided (next value))
+    → (outcome : Result A ReadFault) → first outcome → GoesOn next outcome (Err NoMemory) → ⊥
+goes_on_had first next apart decided (Ok value) is goes_on = (decided value).memory goes_on
+goes_on_had first next apart decided (Err fault) is goes_on =
+    let same : fault ≡ NoMemory = cc in
+    let P : ReadFault → Type 0 = λ f. first (Err f) in
+    apart (subst P same is)
+
+-- where the value is given
+ends : {A : Type 0} (value : A) → IsDecided (Ends value)
+ends value = given (Ok value) (λ (is : Ok value ≡ Err NoMemory). cc)
+
+-- one step after another
+both : {A B : Type 0} (first : Result A ReadFault → Type 0) (next : A → Result B ReadFault → Type 0) → IsDecided first → ((value : A) → IsDecided (next value)) → IsDecided (Then first next)
+both {A} {B} first next is decided = record {
+  one = λ (a : Result B ReadFault) (b : Result B ReadFault) (walk_a : Then first next a) (walk_b : Then first next b).
+      let same : walk_a.outcome ≡ walk_b.outcome = is.one _ _ walk_a.is walk_b.is in
+      let P : Result A ReadFault → Type 0 = λ outcome. GoesOn next outcome a in
+      goes_on_one next decided walk_b.outcome a b (subst P same walk_a.goes_on) walk_b.goes_on;
+  memory = λ (walk : Then first next (Err NoMemory)). goes_on_had first next is.memory decided walk.outcome walk.is walk.goes_on;
+}
+
+-- a value that is the only one of its kind
+yields : {A : Type 0} (holds : A → Type 0) → ((a b : A) → holds a → holds b → a ≡ b) → IsDecided (Yields holds)
+yields holds one = record { one = yields_one holds one; memory = λ none. none }
+  where
+    yields_one : {A : Type 0} (holds : A → Type 0) → ((a b : A) → holds a → holds b → a ≡ b) → (a b : Result A ReadFault) → Yields holds a → Yields holds b → a ≡ b
+    yields_one holds one (Ok a) (Ok b) is_a is_b = ap Ok (one a b is_a is_b)
+    yields_one holds one (Ok a) (Err g) is_a is_b = absurd is_b
+    yields_one holds one (Err f) b is_a is_b = absurd is_a
+
+found_apart : {A : Type 0} (name : FieldName) (line : ℕ) (found : Option A) → found_or_bad name line found ≡ Err NoMemory → ⊥
+found_apart name line None is = cc
+found_apart name line (Some value) is = cc
+
+present : {A : Type 0} (form : FieldName → ℕ → Data → Result A ReadFault → Type 0) → ((name : FieldName) (line : ℕ) (value : Data) → IsDecided (form name line value))
+    → (name : FieldName) (line : ℕ) (found : Option Data) → IsDecided (IsPresent form name line found)
+present form decided name line None = given (Err (BadField name line)) (found_apart name line None)
+present form decided name line (Some value) = decided name line value
+
+one_field : {A : Type 0} (form : FieldName → ℕ → Data → Result A ReadFault → Type 0) → ((name : FieldName) (line : ℕ) (value : Data) → IsDecided (form name line value))
+    → (name : FieldName) (line : ℕ) (value : Data) → IsDecided (Field form name line value)
+one_field form decided name line value = present form decided name line (get (field_text name) value)
+
+maybe : {A : Type 0} (form : FieldName → ℕ → Data → Result A ReadFault → Type 0) → ((name : FieldName) (line : ℕ) (value : Data) → IsDecided (form name line value))
+    → (name : FieldName) (found : Option Data) → IsDecided (IsOptional form name found)
+maybe form decided name None = ends None
+maybe form decided name (Some value) = both (form name 0 value) (λ found. Ends (Some found)) (decided name 0 value) (λ found. ends (Some found))
+
+optional : {A : Type 0} (form : FieldName → ℕ → Data → Result A ReadFault → Type 0) → ((name : FieldName) (line : ℕ) (value : Data) → IsDecided (form name line value))
+    → (name : FieldName) (value : Data) → IsDecided (Optional form name value)
+optional form decided name value = maybe form decided name (get (field_text name) value)
+
+elements : {A : Type 0} (form : FieldName → ℕ → Data → Result A ReadFault → Type 0) → ((name : FieldName) (line : ℕ) (value : Data) → IsDecided (form name line value))
+    → (name : FieldName) (values : Items) (place : ℕ) → IsDecided (Elements form name place values)
+elements form decided name no_items place = ends []
+elements form decided name (item value values) place =
+    both (form name place value) (λ first. Then (Elements form name (place + 1) values) (λ others. Ends (first ∷ others))) (decided name place value)
+    (λ first. both (Elements form name (place + 1) values) (λ others. Ends (first ∷ others)) (elements form decided name values (place + 1)) (λ others. ends (first ∷ others)))
+
+ok_apart : {A : Type 0} (test : Bool) (value : A) (fault : ReadFault) → (fault ≡ NoMemory → ⊥) → (if test then Ok value else Err fault) ≡ Err NoMemory → ⊥
+ok_apart true value fault apart is = cc
+ok_apart false value fault apart is = let same : fault ≡ NoMemory = cc in apart same
+
+err_apart : {A : Type 0} (test : Bool) (value : A) (fault : ReadFault) → (fault ≡ NoMemory → ⊥) → (if test then Err fault else Ok value) ≡ Err NoMemory → ⊥
+err_apart true value fault apart is = let same : fault ≡ NoMemory = cc in apart same
+err_apart false value fault apart is = cc
+
+bad_apart : (name : FieldName) (line : ℕ) → BadField name line ≡ NoMemory → ⊥
+bad_apart name line is = cc
+
+limit_apart : (name : FieldName) (line : ℕ) → Limit name line ≡ NoMemory → ⊥
+limit_apart name line is = cc
+
+number_apart : (least most : ℕ) (name : FieldName) (line : ℕ) (found : Option Num) → number_outcome least most name line found ≡ Err NoMemory → ⊥
+number_apart least most name line None is = cc
+number_apart least most name line (Some (unsigned n)) is = ok_apart (nat_le least n && nat_le n most) n (Limit name line) (limit_apart name line) is
+number_apart least most name line (Some (negative z)) is = cc
+number_apart least most name line (Some (float x)) is = cc
+
+list_apart : (name : FieldName) (line : ℕ) (found : Option Items) → list_outcome name line found ≡ Err NoMemory → ⊥
+list_apart name line None is = cc
+list_apart name line (Some values) is = ok_apart (nat_le 1 (items_count values) && nat_le (items_count values) 100) values (Limit name line) (limit_apart name line) is
+
+one_object : (name : FieldName) (line : ℕ) (value : Data) → IsDecided (IsObject name line value)
+one_object name line value =
+    given (if is_some (as_object value) then Ok tt else Err (BadField name line)) (ok_apart {A = ⊤} (is_some (as_object value)) tt (BadField name line) (bad_apart name line))
+
+one_text : (name : FieldName) (line : ℕ) (value : Data) → IsDecided (IsText name line value)
+one_text name line value = given (found_or_bad name line (as_str value)) (found_apart name line (as_str value))
+
+one_word : {A : Type 0} (words : List (List ℕ × A)) (name : FieldName) (line : ℕ) (value : Data) → IsDecided (IsWord words name line value)
+one_word words name line value =
+    given (found_or_bad name line (option_and_then (choose words) (as_str value))) (found_apart name line (option_and_then (choose words) (as_str value)))
+
+one_number : (least most : ℕ) (name : FieldName) (line : ℕ) (value : Data) → IsDecided (IsNumber least most name line value)
+one_number least most name line value = given (number_outcome least most name line (as_number value)) (number_apart least most name line (as_number value))
+
+no_other : (names : List FieldName) (line : ℕ) (value : Data) → IsDecided (NoOther names line value)
+no_other names line value =
+    given (if has_other names (as_object value) then Err (BadField field.Other line) else Ok tt)
+    (err_apart {A = ⊤} (has_other names (as_object value)) tt (BadField field.Other line) (bad_apart field.Other line))
+
+one_end_of_moment : (name : FieldName) (line : ℕ) (text : List ℕ) (a b : Result Moment ReadFault) → IsMomentText name line text a → IsMomentText name line text b → a ≡ b
+one_end_of_moment name line text (Ok m) (Ok n) is_a is_b = ap Ok (one_moment text m n is_a is_b)
+one_end_of_moment name line text (Ok m) (Err g) is_a (inl is_b) = absurd (is_b.0 is_a.shape)
+one_end_of_moment name line text (Ok m) (Err g) is_a (inr is_b) = absurd (is_b.1 is_a.in_range)
+one_end_of_moment name line text (Err f) (Ok n) (inl is_a) is_b = absurd (is_a.0 is_b.shape)
+one_end_of_moment name line text (Err f) (Ok n) (inr is_a) is_b = absurd (is_a.1 is_b.in_range)
+one_end_of_moment name line text (Err f) (Err g) (inl is_a) (inl is_b) = ap Err (is_a.1 ∙ sym is_b.1)
+one_end_of_moment name line text (Err f) (Err g) (inl is_a) (inr is_b) = absurd (is_a.0 is_b.0)
+one_end_of_moment name line text (Err f) (Err g) (inr is_a) (inl is_b) = absurd (is_b.0 is_a.0)
+one_end_of_moment name line text (Err f) (Err g) (inr is_a) (inr is_b) = ap Err (is_a.2 ∙ sym is_b.2)
+
+moment_had : (name : FieldName) (line : ℕ) (text : List ℕ) → IsMomentText name line text (Err NoMemory) → ⊥
+moment_had name line text (inl is) = let same : NoMemory ≡ BadField name line = is.1 in cc
+moment_had name line text (inr is) = let same : NoMemory ≡ Limit name line = is.2 in cc
+
+one_moment_text : (name : FieldName) (line : ℕ) (text : List ℕ) → IsDecided (IsMomentText name line text)
+one_moment_text name line text = record { one = one_end_of_moment name line text; memory = moment_had name line text }
+
+one_moment_in : (name : FieldName) (line : ℕ) (value : Data) → IsDecided (IsMoment name line value)
+one_moment_in name line value = both _ _ (one_text name line value) (one_moment_text name line)
+
+one_list : {A : Type 0} (form : FieldName → ℕ → Data → Result A ReadFault → Type 0) → ((name : FieldName) (line : ℕ) (value : Data) → IsDecided (form name line value))
+    → (name : FieldName) (line : ℕ) (value : Data) → IsDecided (IsList form name line value)
+one_list form decided name line value = both _ _ (given (list_outcome name line (as_array value)) (list_apart name line (as_array value))) (λ values. elements form decided name values 1)
 
 -- values made of the same number, each with a fact that holds in one way only, are the same
 made-same : {A X : Type 0} (P : A → Type 0) → ((x : A) → IsProp (P x)) → (make : (x : A) → P x → X) → (x y : A) → x ≡ y → (p : P x) (q : P y) → make x p ≡ make y q
@@ -47,183 +193,105 @@ receipt_line-same a b item_is store_is qty_is amount_is =
     ∙ made-same IsLineQuantity IsLineQuantity-prop (λ (x : ℕ) (q : IsLineQuantity x). receipt_line_of b.item b.store x q a.amount.0 a.price) a.qty.0 b.qty.0 qty_is a.quantity b.quantity
     ∙ made-same (λ (x : ℤ). IsTrue (is_line_amount x)) is_line_amount-prop (receipt_line_of b.item b.store b.qty.0 b.quantity) a.amount.0 b.amount.0 amount_is a.price b.price
 
--- a value is at most one line of a receipt
-one_receipt_line : (value : Data) (a b : ReceiptLine) → IsReceiptLine value a → IsReceiptLine value b → a ≡ b
-one_receipt_line value a b is_a is_b =
-    let number : is_a.amount ≡ is_b.amount = cc in
-    let item_is : a.item ≡ b.item = cc in
-    let store_is : a.store ≡ b.store = cc in
-    let qty_is : a.qty.0 ≡ b.qty.0 = cc in
-    let amount_is : a.amount.0 ≡ b.amount.0 = cc in
-    receipt_line-same a b item_is store_is qty_is amount_is
-
 -- an issue's line from its parts
 abbrev issue_line_of : List ℕ → List ℕ → (qty : ℕ) → IsLineQuantity qty → IssueLine
 issue_line_of code store qty quantity = record { item = code; store = store; qty = record { 0 = qty }; quantity = quantity }
 
--- a value is at most one line of an issue
-one_issue_line : (value : Data) (a b : IssueLine) → IsIssueLine value a → IsIssueLine value b → a ≡ b
-one_issue_line value a b is_a is_b =
-    let item_is : a.item ≡ b.item = cc in
-    let store_is : a.store ≡ b.store = cc in
-    let qty_is : a.qty.0 ≡ b.qty.0 = cc in
+-- issue lines with the same parts are one line
+issue_line-same : (a b : IssueLine) → a.item ≡ b.item → a.store ≡ b.store → a.qty.0 ≡ b.qty.0 → a ≡ b
+issue_line-same a b item_is store_is qty_is =
     ap (λ (x : List ℕ). issue_line_of x a.store a.qty.0 a.quantity) item_is
     ∙ ap (λ (x : List ℕ). issue_line_of b.item x a.qty.0 a.quantity) store_is
     ∙ made-same IsLineQuantity IsLineQuantity-prop (issue_line_of b.item b.store) a.qty.0 b.qty.0 qty_is a.quantity b.quantity
 
--- where a value is at most one line, the same values are the same lines
-one_list : {Line : Type 0} (is_line : Data → Line → Type 0) → ((value : Data) (a b : Line) → is_line value a → is_line value b → a ≡ b)
-    → (values : Items) (a b : List Line) → AreLines is_line values a → AreLines is_line values b → a ≡ b
-one_list is_line one no_items [] [] are_a are_b = refl
-one_list is_line one no_items [] (y ∷ b) are_a are_b = absurd are_b
-one_list is_line one no_items (x ∷ a) b are_a are_b = absurd are_a
-one_list is_line one (item value values) [] b are_a are_b = absurd are_a
-one_list is_line one (item value values) (x ∷ a) [] are_a are_b = absurd are_b
-one_list is_line one (item value values) (x ∷ a) (y ∷ b) are_a are_b =
-    let first = one value x y are_a.0 are_b.0 in
-    let others = one_list is_line one values a b are_a.1 are_b.1 in
+one_receipt_line : (name : FieldName) (place : ℕ) (value : Data) → IsDecided (IsReceiptLine name place value)
+one_receipt_line name place value =
+    both _ _ (one_object name place value) (λ is_one.
+    both _ _ (one_field IsText one_text field.Item place value) (λ code.
+    both _ _ (one_field IsText one_text field.Store place value) (λ store.
+    both _ _ (one_field (IsNumber 1 1_000_000_000) (one_number 1 1_000_000_000) field.Qty place value) (λ qty.
+    both _ _ (one_field (IsNumber 0 1_000_000_000_000) (one_number 0 1_000_000_000_000) field.Amount place value) (λ amount.
+    both _ _ (no_other (field.Item ∷ field.Store ∷ field.Qty ∷ field.Amount ∷ []) place value) (λ none.
+    yields (λ (line : ReceiptLine). (line.item ≡ code) × (line.store ≡ store) × (line.qty.0 ≡ qty) × (line.amount.0 ≡ pos amount))
+    (λ a b is_a is_b. receipt_line-same a b (is_a.0 ∙ sym is_b.0) (is_a.1 ∙ sym is_b.1) (is_a.2 ∙ sym is_b.2) (is_a.3 ∙ sym is_b.3))))))))
+
+one_issue_line : (name : FieldName) (place : ℕ) (value : Data) → IsDecided (IsIssueLine name place value)
+one_issue_line name place value =
+    both _ _ (one_object name place value) (λ is_one.
+    both _ _ (one_field IsText one_text field.Item place value) (λ code.
+    both _ _ (one_field IsText one_text field.Store place value) (λ store.
+    both _ _ (one_field (IsNumber 1 1_000_000_000) (one_number 1 1_000_000_000) field.Qty place value) (λ qty.
+    both _ _ (no_other (field.Item ∷ field.Store ∷ field.Qty ∷ []) place value) (λ none.
+    yields (λ (line : IssueLine). (line.item ≡ code) × (line.store ≡ store) × (line.qty.0 ≡ qty))
+    (λ a b is_a is_b. issue_line-same a b (is_a.0 ∙ sym is_b.0) (is_a.1 ∙ sym is_b.1) (is_a.2 ∙ sym is_b.2)))))))
+
+one_item : (value : Data) → IsDecided (IsItem value)
+one_item value =
+    both _ _ (one_field IsText one_text field.Code 0 value) (λ code.
+    both _ _ (one_field (IsWord methods) (one_word methods) field.Method 0 value) (λ method.
+    both _ _ (no_other (field.Do ∷ field.Code ∷ field.Method ∷ []) 0 value) (λ none. ends _)))
+
+one_store : (value : Data) → IsDecided (IsStore value)
+one_store value =
+    both _ _ (one_field IsText one_text field.Code 0 value) (λ code.
+    both _ _ (one_field (IsNumber 0 1_000_000_000) (one_number 0 1_000_000_000) field.Account 0 value) (λ account.
+    both _ _ (no_other (field.Do ∷ field.Code ∷ field.Account ∷ []) 0 value) (λ none. ends _)))
+
+one_receipt : (value : Data) → IsDecided (IsReceipt value)
+one_receipt value =
+    both _ _ (one_field IsMoment one_moment_in field.At 0 value) (λ at.
+    both _ _ (one_field (IsList IsReceiptLine) (one_list IsReceiptLine one_receipt_line) field.Lines 0 value) (λ lines.
+    both _ _ (no_other (field.Do ∷ field.At ∷ field.Lines ∷ []) 0 value) (λ none. ends _)))
+
+one_issue : (value : Data) → IsDecided (IsIssue value)
+one_issue value =
+    both _ _ (one_field IsMoment one_moment_in field.At 0 value) (λ at.
+    both _ _ (one_field (IsWord purposes) (one_word purposes) field.Use 0 value) (λ purpose.
+    both _ _ (one_field (IsList IsIssueLine) (one_list IsIssueLine one_issue_line) field.Lines 0 value) (λ lines.
+    both _ _ (no_other (field.Do ∷ field.At ∷ field.Use ∷ field.Lines ∷ []) 0 value) (λ none. ends _))))
+
+one_report : (value : Data) → IsDecided (IsReport value)
+one_report value =
+    both _ _ (one_field (IsWord sheets) (one_word sheets) field.Of 0 value) (λ sheet.
+    both _ _ (optional (IsNumber 0 4_294_967_295) (one_number 0 4_294_967_295) field.Need value) (λ need.
+    both _ _ (optional IsMoment one_moment_in field.Until value) (λ until.
+    both _ _ (optional IsText one_text field.Item value) (λ code.
+    both _ _ (optional IsText one_text field.Store value) (λ store.
+    both _ _ (optional (IsWord formats) (one_word formats) field.As value) (λ format.
+    both _ _ (no_other (field.Do ∷ field.Of ∷ field.Need ∷ field.Until ∷ field.Item ∷ field.Store ∷ field.As ∷ []) 0 value) (λ none. ends _)))))))
+
+one_of_kind : (kind : Kind) (value : Data) → IsDecided (IsOfKind kind value)
+one_of_kind kind_of.Item value = both _ _ (one_item value) (λ what. ends _)
+one_of_kind kind_of.Store value = both _ _ (one_store value) (λ what. ends _)
+one_of_kind kind_of.Receipt value = both _ _ (one_receipt value) (λ what. ends _)
+one_of_kind kind_of.Issue value = both _ _ (one_issue value) (λ what. ends _)
+one_of_kind kind_of.Settle value = both _ _ (no_other (field.Do ∷ []) 0 value) (λ none. ends _)
+one_of_kind kind_of.Report value = both _ _ (one_report value) (λ query. ends _)
+
+one_request : (at_desk : Bool) (value : Data) → IsDecided (IsRequest at_desk value)
+one_request at_desk value =
+    both _ _ (one_object field.Request 0 value) (λ is_one.
+    both _ _ (one_field (IsWord (kinds at_desk)) (one_word (kinds at_desk)) field.Do 0 value) (λ kind. one_of_kind kind value))
+
+-- a text is read in one way at most
+pub one_reading : (at_desk : Bool) (text : List ℕ) (a b : Result Request ReadFault) → IsReadAs at_desk text a → IsReadAs at_desk text b → a ≡ b
+one_reading at_desk text a b (inl is_a) (inl is_b) =
+    let read_a : read text ≡ Some is_a.value = is_a.reads in
+    let read_b : read text ≡ Some is_b.value = is_b.reads in
+    let same : is_a.value ≡ is_b.value = cc in
+    let P : Data → Type 0 = λ value. IsRequest at_desk value a in
+    (one_request at_desk is_b.value).one a b (subst P same is_a.is) is_b.is
+one_reading at_desk text a b (inl is_a) (inr is_b) =
+    let reads : read text ≡ Some is_a.value = is_a.reads in
+    let none : read text ≡ None = is_b.none is_a.utf8 in
     cc
-
--- accounts with the same number are one account
-account-same : (a b : AccountNo) → a.0 ≡ b.0 → a ≡ b
-account-same a b same = let of : ℕ → AccountNo = λ n. record { 0 = n } in ap of same
-
--- members are at most one warehouse
-one_store : (form : Members) (code other : List ℕ) (a b : AccountNo) → IsStoreForm form code a.0 → IsStoreForm form other b.0 → Store code a ≡ Store other b
-one_store form code other a b is_a is_b =
-    let code_is : code ≡ other = cc in
-    let number_is : a.0 ≡ b.0 = cc in
-    let account_is = account-same a b number_is in
+one_reading at_desk text a b (inr is_a) (inl is_b) =
+    let reads : read text ≡ Some is_b.value = is_b.reads in
+    let none : read text ≡ None = is_a.none is_b.utf8 in
     cc
+one_reading at_desk text a b (inr is_a) (inr is_b) = is_a.bad ∙ sym is_b.bad
 
--- the same text and the same values are the same moment and the same lines
-one_voucher : {Line : Type 0} (is_line : Data → Line → Type 0) → ((value : Data) (a b : Line) → is_line value a → is_line value b → a ≡ b)
-    → (text other : List ℕ) (values more : Items) (at until : Moment) (a b : List Line) → text ≡ other → values ≡ more → SpellsMoment text at → SpellsMoment other until
-    → AreVoucherLines is_line values a → AreVoucherLines is_line more b → (at ≡ until) × (a ≡ b)
-one_voucher is_line one text other values more at until a b text_is values_are spells_a spells_b are_a are_b =
-    let P : List ℕ → Type 0 = λ text. SpellsMoment text at in
-    let Q : Items → Type 0 = λ values. AreLines is_line values a in
-    (one_moment other at until (subst P text_is spells_a) spells_b, one_list is_line one more a b (subst Q values_are are_a.each) are_b.each)
-
--- members are at most one receipt
-one_receipt : (form : Members) (at until : Moment) (a b : List ReceiptLine) → IsReceiptForm form at a → IsReceiptForm form until b → Receipt at a ≡ Receipt until b
-one_receipt form at until a b is_a is_b =
-    let text_is : is_a.text ≡ is_b.text = cc in
-    let values_are : is_a.values ≡ is_b.values = cc in
-    let same = one_voucher IsReceiptLine one_receipt_line _ _ _ _ at until a b text_is values_are is_a.spells is_b.spells is_a.lines_are is_b.lines_are in
-    cc
-
--- texts that begin with different bytes are different
-texts-apart : (a b : List ℕ) → get_or a 0 0 ≢ get_or b 0 0 → a ≡ b → ⊥
-texts-apart a b differ same = differ (ap (λ (text : List ℕ). get_or text 0 0) same)
-
--- a text spells at most one purpose
-one_purpose : (a b : Purpose) → purpose_text a ≡ purpose_text b → a ≡ b
-one_purpose Sold Sold is = refl
-one_purpose Sold Used is = absurd (texts-apart _ _ (omega arith) is)
-one_purpose Used Sold is = absurd (texts-apart _ _ (omega arith) is)
-one_purpose Used Used is = refl
-
--- members are at most one issue
-one_issue : (form : Members) (at until : Moment) (p q : Purpose) (a b : List IssueLine) → IsIssueForm form at p a → IsIssueForm form until q b → Issue at p a ≡ Issue until q b
-one_issue form at until p q a b is_a is_b =
-    let text_is : is_a.text ≡ is_b.text = cc in
-    let values_are : is_a.values ≡ is_b.values = cc in
-    let spelled : purpose_text p ≡ purpose_text q = cc in
-    let purpose_is = one_purpose p q spelled in
-    let same = one_voucher IsIssueLine one_issue_line _ _ _ _ at until a b text_is values_are is_a.spells is_b.spells is_a.lines_are is_b.lines_are in
-    cc
-
--- members say at most one thing
-one_what : (form : Members) (a b : What) → IsWhatForm form a → IsWhatForm form b → a ≡ b
-one_what form (Item code Fifo) b is_a is_b = absurd is_a
-one_what form (Item code Average) (Item other Fifo) is_a is_b = absurd is_b
-one_what form (Item code Average) (Item other Average) is_a is_b = cc
-one_what form (Item code Average) (Store other account) is_a is_b = cc
-one_what form (Item code Average) (Receipt at lines) is_a is_b = cc
-one_what form (Item code Average) (Issue at purpose lines) is_a is_b = cc
-one_what form (Store code account) (Item other Fifo) is_a is_b = absurd is_b
-one_what form (Store code account) (Item other Average) is_a is_b = cc
-one_what form (Store code account) (Store other number) is_a is_b = one_store form code other account number is_a is_b
-one_what form (Store code account) (Receipt at lines) is_a is_b = cc
-one_what form (Store code account) (Issue at purpose lines) is_a is_b = cc
-one_what form (Receipt at lines) (Item other Fifo) is_a is_b = absurd is_b
-one_what form (Receipt at lines) (Item other Average) is_a is_b = cc
-one_what form (Receipt at lines) (Store other account) is_a is_b = cc
-one_what form (Receipt at lines) (Receipt until others) is_a is_b = one_receipt form at until lines others is_a is_b
-one_what form (Receipt at lines) (Issue until purpose others) is_a is_b = cc
-one_what form (Issue at purpose lines) (Item other Fifo) is_a is_b = absurd is_b
-one_what form (Issue at purpose lines) (Item other Average) is_a is_b = cc
-one_what form (Issue at purpose lines) (Store other account) is_a is_b = cc
-one_what form (Issue at purpose lines) (Receipt until others) is_a is_b = cc
-one_what form (Issue at purpose lines) (Issue until meant others) is_a is_b = one_issue form at until purpose meant lines others is_a is_b
-
--- members have one first key, and do one thing
-one_key : (form : Members) (k l : List ℕ) (v w : Data) (r s : Members) → form ≡ member k v r → form ≡ member l w s → k ≡ l
-one_key form k l v w r s is_k is_l = cc
-
-one_deed : (form : Members) (k : List ℕ) (a b : List ℕ) (r s : Members) → form ≡ member k (string a) r → form ≡ member k (string b) s → a ≡ b
-one_deed form k a b r s is_a is_b = cc
-
--- what is posted does not begin with what is done
-no_deed : (form : Members) (what : What) (value : Data) (rest : Members) → IsWhatForm form what → form ≡ member (codes "do") value rest → ⊥
-no_deed form (Item code Fifo) value rest is deed = is
-no_deed form (Item code Average) value rest is deed = texts-apart _ _ (omega arith) (one_key form _ _ _ _ _ _ is.0 deed)
-no_deed form (Store code account) value rest is deed = texts-apart _ _ (omega arith) (one_key form _ _ _ _ _ _ is.members_are deed)
-no_deed form (Receipt at lines) value rest is deed = texts-apart _ _ (omega arith) (one_key form _ _ _ _ _ _ is.members_are deed)
-no_deed form (Issue at purpose lines) value rest is deed = texts-apart _ _ (omega arith) (one_key form _ _ _ _ _ _ is.members_are deed)
-
--- the members of a report begin with what is done
-report_starts : (form : Members) (sheet : Sheet) (need : ℕ) → IsReportForm form sheet need → (rest : Members) × (form ≡ member (codes "do") (string (codes "report")) rest)
-report_starts form Balance need (inl whole) = (_, whole.0)
-report_starts form Balance need (inr needs) = (_, needs.0)
-
--- what is posted is no report
-no_report : (form : Members) (what : What) (query : Query) → IsWhatForm form what → IsRequestForm form (Report query) → ⊥
-no_report form what query is reports = no_deed form what _ _ is (report_starts form query.sheet query.need.0 reports).1
-
--- a settlement is no report
-settle_or_report : (form : Members) (query : Query) → form ≡ settle_members → IsRequestForm form (Report query) → ⊥
-settle_or_report form query settles reports =
-    texts-apart (codes "settle") (codes "report") (omega arith) (one_deed form _ _ _ _ _ settles (report_starts form query.sheet query.need.0 reports).1)
-
--- a balance has at most one need
-one_need : (form : Members) (a b : ℕ) → IsBalanceForm form a → IsBalanceForm form b → a ≡ b
-one_need form a b (inl is_a) (inl is_b) = cc
-one_need form a b (inl is_a) (inr is_b) = cc
-one_need form a b (inr is_a) (inl is_b) = cc
-one_need form a b (inr is_a) (inr is_b) = cc
-
--- a query from its parts
-abbrev query_of : Sheet → ℕ → Query
-query_of sheet need = record { sheet = sheet; need = record { 0 = need } }
-
--- members are at most one report
-one_report : (form : Members) (a b : Query) → IsReportForm form a.sheet a.need.0 → IsReportForm form b.sheet b.need.0 → a ≡ b
-one_report form a b is_a is_b = one_sheet form a.sheet b.sheet a.need.0 b.need.0 is_a is_b
-  where
-    one_sheet : (form : Members) (s t : Sheet) (m n : ℕ) → IsReportForm form s m → IsReportForm form t n → query_of s m ≡ query_of t n
-    one_sheet form Balance Balance m n is_m is_n = ap (query_of Balance) (one_need form m n is_m is_n)
-
--- members are at most one request
-one_form : (form : Members) (a b : Request) → IsRequestForm form a → IsRequestForm form b → a ≡ b
-one_form form (Post what) (Post other) is_a is_b = ap Post (one_what form what other is_a is_b)
-one_form form (Post what) Settle is_a is_b = absurd (no_deed form what _ _ is_a is_b)
-one_form form (Post what) (Report query) is_a is_b = absurd (no_report form what query is_a is_b)
-one_form form Settle (Post what) is_a is_b = absurd (no_deed form what _ _ is_b is_a)
-one_form form Settle Settle is_a is_b = refl
-one_form form Settle (Report query) is_a is_b = absurd (settle_or_report form query is_a is_b)
-one_form form (Report query) (Post what) is_a is_b = absurd (no_report form what query is_b is_a)
-one_form form (Report query) Settle is_a is_b = absurd (settle_or_report form query is_b is_a)
-one_form form (Report query) (Report other) is_a is_b = ap Report (one_report form query other is_a is_b)
-
--- a line is at most one request
-pub one_request : (line : List ℕ) (a b : Request) → IsRequest line a → IsRequest line b → a ≡ b
-one_request line a b is_a is_b =
-    let read_a : read line ≡ Some is_a.2.0 = is_a.2.1 in
-    let read_b : read line ≡ Some is_b.2.0 = is_b.2.1 in
-    let form_a : is_a.2.0 ≡ object is_a.2.2.0 = is_a.2.2.1 in
-    let form_b : is_b.2.0 ≡ object is_b.2.2.0 = is_b.2.2.1 in
-    let same : is_a.2.2.0 ≡ is_b.2.2.0 = cc in
-    let P : Members → Type 0 = λ form. IsRequestForm form a in
-    one_form is_b.2.2.0 a b (subst P same is_a.2.2.2) is_b.2.2.2
+-- no text is read as want of memory
+pub no_memory_read : (at_desk : Bool) (text : List ℕ) → IsReadAs at_desk text (Err NoMemory) → ⊥
+no_memory_read at_desk text (inl is) = (one_request at_desk is.value).memory is.is
+no_memory_read at_desk text (inr is) = let bad = is.bad in cc

@@ -1,2 +1,5 @@
-pub mod FirstForm
+pub mod FieldNames
+pub mod Fields
 pub mod ReplyText
+pub mod Requests
+pub mod Walks

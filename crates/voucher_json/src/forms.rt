@@ -1,197 +1,133 @@
-//! The exact forms of the requests, as the members of their objects.
-ghost use Rattle.std.specs.Prelude.{◌≡◌, ◌↔◌, ◌≤◌, ℕ, List, IsTrue, IfSome, IfNone, IfOk, length};
-ghost use Rattle.serde_json.specs.Data.{Data, object, Items, Members};
-ghost use Rattle.serde_json.specs.View.{view, items_view, members_view};
-ghost use Rattle.stock_nums.specs.Codes.{is_code};
-ghost use Rattle.stock_nums.specs.Quantities.{IsLineQuantity};
-ghost use Rattle.stock_nums.specs.MomentText.{SpellsMoment};
-ghost use Rattle.stock_nums.specs.declared.moment.Moment.{Moment};
-ghost use Rattle.stock_model.specs.declared.vouchers.Purpose.{Purpose};
-ghost use Rattle.voucher_json.specs.FirstForm.{item_members, voucher_members, receipt_members, issue_members, goods_members, priced_members, settle_members, balance_members, needing_members, purpose_text, IsStoreForm, IsBalanceForm};
+//! The forms of the fields: what the value of a field comes to. A fault names the field, and the place from
+//! 1 of the list's element that has it, or 0 for a field of the outer object.
+ghost use Rattle.std.specs.Prelude.{◌≡◌, ◌≤◌, IfOk, IfErr, Ok, Err, not, length, string_bytes};
+ghost use Rattle.std.specs.List.{list_any};
+ghost use Rattle.std.specs.BTreeMap.{keys};
+ghost use Rattle.serde_json.specs.View.{view, items_view};
+ghost use Rattle.serde_json.specs.Find.{as_str, as_array};
+ghost use Rattle.stock_model.specs.declared.read_faults.ReadFault.{ReadFault};
+ghost use Rattle.voucher_json.specs.Walks.{OrNoMemory};
+ghost use Rattle.voucher_json.specs.Fields.{IsObject, IsText, IsNumber, IsMoment, IsMomentText, list_outcome, is_named, NoOther};
 
-use crate::members::{ends, next_array, next_code, next_is, next_moment, next_number, next_text};
+use crate::field_names::field_text;
 use serde_json::{Map, Value};
-use std::collections::btree_map::Iter;
-use stock_model::vouchers::Purpose;
+use std::alloc::Global;
+use stock_model::read_faults::{FieldName, ReadFault};
+use stock_nums::code::Code;
 use stock_nums::moment::Moment;
-use stock_nums::numbers::{AccountNo, RecordNo};
+use stock_nums::moment_text::{MomentFault, read_moment};
 
-/// The code of the new item, if this is one.
-pub fn item_code<'a>(object: &'a Map<String, Value>) -> Option<&'a str>
-    ensures some { IfSome result (λ code. members_view object.now.entries ≡ item_members code.now) }
-    ensures code { IfSome result (λ code. IsTrue (is_code code.now)) }
-    ensures none { IfNone result ((code : List ℕ) → members_view object.now.entries ≡ item_members code → IsTrue (is_code code) → ⊥) }
+/// The most elements that a list may have.
+const MAX_ELEMENTS: usize = 100;
+
+/// Whether the value is an object.
+pub fn check_object(value: &Value, name: FieldName, line: u32) -> Result<(), ReadFault>
+    ensures { IsObject name line (view value.now) result }
 {
-    let mut members = object.iter();
-    let code = next_code(&mut members, "code")?;
-    if next_is(&mut members, "do", "item")
-        && next_is(&mut members, "method", "average")
-        && ends(&mut members)
-    {
-        Some(code)
+    if value.is_object() {
+        Ok(())
     } else {
-        None
+        Err(ReadFault::BadField { name, line })
     }
 }
 
-/// The code and the account of the new warehouse, if this is one.
-pub fn store_fields<'a>(object: &'a Map<String, Value>) -> Option<(&'a str, AccountNo)>
-    ensures some { IfSome result (λ store. IsStoreForm (members_view object.now.entries) store.0.now store.1.0) }
-    ensures none { IfNone result ((code : List ℕ) (account : ℕ) → IsStoreForm (members_view object.now.entries) code account → ⊥) }
+/// The code that the value spells.
+pub fn code_in(alloc: Global, value: &Value, name: FieldName, line: u32) -> Result<Code, ReadFault>
+    ensures { OrNoMemory (IsText name line (view value.now)) result }
 {
-    let mut members = object.iter();
-    let account = next_number(&mut members, "account", 100, 9999)?;
-    let code = next_code(&mut members, "code")?;
-    if next_is(&mut members, "do", "store") && ends(&mut members) {
-        Some((code, AccountNo(account as u32)))
-    } else {
-        None
+    let Some(text) = value.as_str() else {
+        return Err(ReadFault::BadField { name, line });
+    };
+    match Code::of(alloc, text) {
+        Ok(code) => Ok(code),
+        Err(_) => Err(ReadFault::NoMemory),
     }
 }
 
-/// The moment and the line values of a voucher of this kind, if the next members are a voucher's.
-fn next_voucher<'a>(
-    members: &mut Iter<'a, String, Value>,
-    kind: &str,
-) -> Option<(Moment, &'a [Value])>
-    ensures some { IfSome result (λ voucher. (text : List ℕ) × (members_view members.old ≡ voucher_members text kind.now (items_view voucher.1.now) (members_view members.new)) × SpellsMoment text voucher.0) }
-    ensures none { IfNone result ((text : List ℕ) (at : Moment) (lines : Items) (rest : Members) → members_view members.old ≡ voucher_members text kind.now lines rest → SpellsMoment text at → ⊥) }
+/// The whole number that the value is, from the least to the most.
+pub fn number_in(
+    value: &Value,
+    name: FieldName,
+    line: u32,
+    least: u64,
+    most: u64,
+) -> Result<u64, ReadFault>
+    ensures outcome { IsNumber least most name line (view value.now) result }
+    ensures range { IfOk result (λ n. (least ≤ n) × (n ≤ most)) }
 {
-    let at = next_moment(members, "at")?;
-    if !next_is(members, "do", kind) {
-        return None;
-    }
-    let values = next_array(members, "lines")?;
-    Some((at, values))
-}
-
-/// The moment and the line values of the receipt, if this is one.
-pub fn receipt_fields<'a>(object: &'a Map<String, Value>) -> Option<(Moment, &'a [Value])>
-    ensures some { IfSome result (λ receipt. (text : List ℕ) × (members_view object.now.entries ≡ receipt_members text (items_view receipt.1.now)) × SpellsMoment text receipt.0) }
-    ensures none { IfNone result ((text : List ℕ) (at : Moment) (lines : Items) → members_view object.now.entries ≡ receipt_members text lines → SpellsMoment text at → ⊥) }
-{
-    let mut members = object.iter();
-    let (at, values) = next_voucher(&mut members, "receipt")?;
-    if ends(&mut members) {
-        Some((at, values))
-    } else {
-        None
+    match value.as_u64() {
+        Some(n) if least <= n && n <= most => Ok(n),
+        Some(_) => Err(ReadFault::Limit { name, line }),
+        None if value.is_i64() => Err(ReadFault::Limit { name, line }),
+        None => Err(ReadFault::BadField { name, line }),
     }
 }
 
-/// The purpose that is spelled so, if one is.
-fn purpose_of(text: &str) -> Option<Purpose>
-    ensures some { IfSome result (λ purpose. text.now ≡ purpose_text purpose) }
-    ensures none { IfNone result ((purpose : Purpose) → text.now ≡ purpose_text purpose → ⊥) }
+/// The moment that the value spells.
+pub fn moment_in(value: &Value, name: FieldName, line: u32) -> Result<Moment, ReadFault>
+    ensures { IsMoment name line (view value.now) result }
 {
-    if text == "sold" {
-        Some(Purpose::Sold)
-    } else if text == "used" {
-        Some(Purpose::Used)
-    } else {
-        None
+    match value.as_str() {
+        Some(text) => moment_of(text, name, line),
+        None => Err(ReadFault::BadField { name, line }),
     }
 }
 
-/// The moment, the purpose and the line values of the issue, if this is one.
-pub fn issue_fields<'a>(object: &'a Map<String, Value>) -> Option<(Moment, Purpose, &'a [Value])>
-    ensures some { IfSome result (λ issue. (text : List ℕ) × (members_view object.now.entries ≡ issue_members text (items_view issue.2.now) (purpose_text issue.1)) × SpellsMoment text issue.0) }
-    ensures none { IfNone result ((text : List ℕ) (at : Moment) (purpose : Purpose) (lines : Items) → members_view object.now.entries ≡ issue_members text lines (purpose_text purpose) → SpellsMoment text at → ⊥) }
+/// The moment that the text spells.
+fn moment_of(text: &str, name: FieldName, line: u32) -> Result<Moment, ReadFault>
+    ensures { IsMomentText name line text.now result }
 {
-    let mut members = object.iter();
-    let (at, values) = next_voucher(&mut members, "issue")?;
-    let purpose = purpose_of(next_text(&mut members, "use")?)?;
-    if ends(&mut members) {
-        Some((at, purpose, values))
-    } else {
-        None
+    match read_moment(text.as_bytes()) {
+        Ok(moment) => Ok(moment),
+        Err(MomentFault::Shape) => Err(ReadFault::BadField { name, line }),
+        Err(MomentFault::Range) => Err(ReadFault::Limit { name, line }),
     }
 }
 
-/// What of which item in which warehouse a line moves.
-#[derive(Drop)]
-pub struct Goods<'a> {
-    pub item: &'a str,
-    pub store: &'a str,
-    /// From 1 to 10^9 smallest units.
-    pub qty: u64,
-}
-
-/// The goods of a line, if the remaining members are those of goods.
-pub fn last_goods<'a>(members: &mut Iter<'a, String, Value>) -> Option<Goods<'a>>
-    ensures some { IfSome result (λ goods. members_view members.old ≡ goods_members goods.item.now goods.qty goods.store.now) }
-    ensures codes { IfSome result (λ goods. IsTrue (is_code goods.item.now) × IsTrue (is_code goods.store.now)) }
-    ensures qty { IfSome result (λ goods. IsLineQuantity goods.qty) }
-    ensures none { IfNone result ((item : List ℕ) (qty : ℕ) (store : List ℕ) → members_view members.old ≡ goods_members item qty store → IsTrue (is_code item) → IsLineQuantity qty → IsTrue (is_code store) → ⊥) }
+/// The elements of the list that the value is, 1 to 100 of them.
+pub fn elements_in(value: &Value, name: FieldName, line: u32) -> Result<&[Value], ReadFault>
+    ensures ok { IfOk result (λ values. list_outcome name line (as_array (view value.now)) ≡ Ok (items_view values.now)) }
+    ensures count { IfOk result (λ values. (1 ≤ length values.now) × (length values.now ≤ 100)) }
+    ensures err { IfErr result (λ fault. list_outcome name line (as_array (view value.now)) ≡ Err fault) }
 {
-    let item = next_code(members, "item")?;
-    let qty = next_number(members, "qty", 1, 1_000_000_000)?;
-    let store = next_code(members, "store")?;
-    if ends(members) {
-        Some(Goods { item, store, qty })
-    } else {
-        None
+    let Some(values) = value.as_array() else {
+        return Err(ReadFault::BadField { name, line });
+    };
+    if values.is_empty() {
+        return Err(ReadFault::Limit { name, line });
     }
-}
-
-/// The amount, from 0 to 10^12 minor units, and the goods of a receipt's line, if this is one.
-pub fn receipt_line_fields<'a>(object: &'a Map<String, Value>) -> Option<(u64, Goods<'a>)>
-    ensures some { IfSome result (λ line. members_view object.now.entries ≡ priced_members line.0 line.1.item.now line.1.qty line.1.store.now) }
-    ensures codes { IfSome result (λ line. IsTrue (is_code line.1.item.now) × IsTrue (is_code line.1.store.now)) }
-    ensures qty { IfSome result (λ line. IsLineQuantity line.1.qty) }
-    ensures amount { IfSome result (λ line. line.0 ≤ 1_000_000_000_000) }
-    ensures none { IfNone result ((amount : ℕ) (item : List ℕ) (qty : ℕ) (store : List ℕ) → members_view object.now.entries ≡ priced_members amount item qty store → amount ≤ 1_000_000_000_000 → IsTrue (is_code item) → IsLineQuantity qty → IsTrue (is_code store) → ⊥) }
-{
-    let mut members = object.iter();
-    let amount = next_number(&mut members, "amount", 0, 1_000_000_000_000)?;
-    let goods = last_goods(&mut members)?;
-    Some((amount, goods))
-}
-
-/// Whether this is a settlement.
-pub fn is_settle(object: &Map<String, Value>) -> bool
-    ensures { IsTrue result ↔ (members_view object.now.entries ≡ settle_members) }
-{
-    let mut members = object.iter();
-    next_is(&mut members, "do", "settle") && ends(&mut members)
-}
-
-/// Whether this is a report of the balance sheet that needs no record.
-fn is_whole_balance(object: &Map<String, Value>) -> bool
-    ensures { IsTrue result ↔ (members_view object.now.entries ≡ balance_members) }
-{
-    let mut members = object.iter();
-    next_is(&mut members, "do", "report")
-        && next_is(&mut members, "of", "balance")
-        && ends(&mut members)
-}
-
-/// The record that a report of the balance sheet says it needs, if this is such a report.
-fn needed_record(object: &Map<String, Value>) -> Option<u64>
-    ensures some { IfSome result (λ need. members_view object.now.entries ≡ needing_members need) }
-    ensures range { IfSome result (λ need. need ≤ 4_294_967_295) }
-    ensures none { IfNone result ((need : ℕ) → members_view object.now.entries ≡ needing_members need → need ≤ 4_294_967_295 → ⊥) }
-{
-    let mut members = object.iter();
-    if !next_is(&mut members, "do", "report") {
-        return None;
+    if values.len() > MAX_ELEMENTS {
+        return Err(ReadFault::Limit { name, line });
     }
-    let need = next_number(&mut members, "need", 0, 4_294_967_295)?;
-    if next_is(&mut members, "of", "balance") && ends(&mut members) {
-        Some(need)
-    } else {
-        None
-    }
+    Ok(values.as_slice())
 }
 
-/// The record that a report of the balance sheet needs, 0 for none, if this is such a report.
-pub fn balance_need(object: &Map<String, Value>) -> Option<RecordNo>
-    ensures some { IfSome result (λ need. IsBalanceForm (members_view object.now.entries) need.0) }
-    ensures none { IfNone result ((need : ℕ) → IsBalanceForm (members_view object.now.entries) need → ⊥) }
+/// Whether the object has no fields but these.
+pub fn no_other(object: &Value, names: &[FieldName], line: u32) -> Result<(), ReadFault>
+    ensures { NoOther names.now line (view object.now) result }
 {
-    if is_whole_balance(object) {
-        return Some(RecordNo(0));
+    let Some(members) = object.as_object() else {
+        return Ok(());
+    };
+    if has_other(members, names) {
+        return Err(ReadFault::BadField {
+            name: FieldName::Other,
+            line,
+        });
     }
-    let need = needed_record(object)?;
-    Some(RecordNo(need as u32))
+    Ok(())
+}
+
+/// Whether there is a key that is the name of none of the fields.
+fn has_other(members: &Map<String, Value>, names: &[FieldName]) -> bool
+    ensures { result ≡ list_any (λ key. not (is_named names.now (string_bytes key))) (keys members.now) }
+{
+    members.keys().any(|key| !is_named(names, key.as_str()))
+}
+
+/// Whether the key is the name of one of the fields.
+fn is_named(names: &[FieldName], key: &str) -> bool
+    ensures { result ≡ is_named names.now key.now }
+{
+    names.iter().any(|name| field_text(*name) == key)
 }

@@ -3,11 +3,13 @@ ghost use Rattle.std.specs.Prelude.{◌≡◌, map, IfOk, string_bytes};
 ghost use Rattle.serde_json.specs.View.{view};
 ghost use Rattle.stock_nums.specs.MomentText.{moment_text};
 ghost use Rattle.stock_model.specs.declared.replies.Reply.{Reply};
-ghost use Rattle.voucher_json.specs.ReplyText.{refusal_data, short_data, row_data, reply_data, reply_text, IsTold, IsPrinted};
+ghost use Rattle.voucher_json.specs.ReplyText.{refusal_data, short_data, row_data, reply_data, reply_text, bad_data, fault_data, line_fault_data, field_fault_data, IsTold, IsReadFaultTold, IsPrinted};
 
+use crate::field_names::field_text;
 use serde_json::{Value, json};
 use std::alloc::{AllocError, Global};
 use stock_model::faults::PostFault;
+use stock_model::read_faults::{FieldName, ReadFault};
 use stock_model::replies::{BalanceRow, Reply};
 use stock_nums::code::Code;
 use stock_nums::lines::Lines;
@@ -16,16 +18,6 @@ use stock_nums::moment::Moment;
 use stock_nums::moment_text::moment_text;
 use stock_nums::numbers::{Qty, RecordNo};
 use stock_nums::place::Place;
-
-const BAD_REPLY: &[u8] =
-    b"{\"fault\":\"bad-field\",\"field\":\"request\",\"line\":0,\"status\":\"bad\"}";
-
-/// The text of the reply to a line that is no request. It takes no memory.
-pub fn bad_reply() -> &'static [u8]
-    ensures { result.now ≡ reply_text Reply.Bad }
-{
-    BAD_REPLY
-}
 
 /// The text of a reply, with no line feed.
 pub fn reply_text(alloc: Global, reply: &Reply) -> Result<Lines<u8>, NoMemory>
@@ -52,15 +44,32 @@ fn reply_value(alloc: Global, reply: &Reply) -> Result<Value, AllocError>
         } => short_value(alloc, *place, item, store, *lacking),
         Reply::Pending { covered, wanted } => pending_value(alloc, *covered, *wanted),
         Reply::NoSuchRecord { accepted, wanted } => missing_value(alloc, *accepted, *wanted),
+        Reply::Worked(covered) => json!(in alloc; {"covered": covered.0, "status": "worked"}),
         Reply::Settled(covered) => json!(in alloc; {"covered": covered.0, "status": "settled"}),
         Reply::Balance { covered, rows } => {
             let rows = rows_value(alloc, rows.as_slice())?;
             json!(in alloc; {"covered": covered.0, "report": "balance", "rows": rows, "status": "ok"})
         }
-        Reply::Bad => {
-            json!(in alloc; {"fault": "bad-field", "field": "request", "line": 0u64, "status": "bad"})
-        }
+        Reply::Long => fault_value(alloc, "long", "bad"),
+        Reply::Bad(fault) => bad_value(alloc, *fault),
+        Reply::StoreFailed => fault_value(alloc, "store", "failed"),
+        Reply::MemoryFailed => fault_value(alloc, "memory", "failed"),
+        Reply::Http => fault_value(alloc, "http", "bad"),
     }
+}
+
+/// The JSON value of a fault and a status alone.
+fn fault_value(alloc: Global, fault: &str, status: &str) -> Result<Value, AllocError>
+    ensures { IfOk result (λ value. view value ≡ fault_data fault.now status.now) }
+{
+    json!(in alloc; {"fault": fault, "status": status})
+}
+
+/// The JSON value of a fault of a record's line.
+fn line_fault_value(alloc: Global, fault: &str, line: u32) -> Result<Value, AllocError>
+    ensures { IfOk result (λ value. view value ≡ line_fault_data fault.now line) }
+{
+    json!(in alloc; {"fault": fault, "line": line, "status": "refused"})
 }
 
 /// The JSON value of a refusal.
@@ -69,18 +78,50 @@ fn refusal_value(alloc: Global, fault: PostFault) -> Result<Value, AllocError>
     ensures { IfOk result (λ value. view value ≡ refusal_data fault) }
 {
     match fault {
-        PostFault::CodeTaken => json!(in alloc; {"fault": "code-taken", "status": "refused"}),
-        PostFault::UnknownItem { line } => {
-            json!(in alloc; {"fault": "unknown-item", "line": line, "status": "refused"})
+        PostFault::CodeTaken => fault_value(alloc, "code-taken", "refused"),
+        PostFault::CodeShape => fault_value(alloc, "code-shape", "refused"),
+        PostFault::AccountRange => fault_value(alloc, "account-range", "refused"),
+        PostFault::UnknownItem { line } => line_fault_value(alloc, "unknown-item", line),
+        PostFault::UnknownStore { line } => line_fault_value(alloc, "unknown-store", line),
+        PostFault::SameStore { line } => line_fault_value(alloc, "same-store", line),
+        PostFault::UnknownTarget { line } => line_fault_value(alloc, "unknown-target", line),
+        PostFault::LinkLater { line } => line_fault_value(alloc, "link-later", line),
+        PostFault::RepeatedTarget { line } => line_fault_value(alloc, "repeated-target", line),
+        PostFault::OverReturn { line, asked, left } => {
+            json!(in alloc; {"asked": asked.0, "fault": "over-return", "left": left.0, "line": line, "status": "refused"})
         }
-        PostFault::UnknownStore { line } => {
-            json!(in alloc; {"fault": "unknown-store", "line": line, "status": "refused"})
-        }
+        PostFault::NoBasis => fault_value(alloc, "no-basis", "refused"),
         PostFault::Full { records, entries } => {
             json!(in alloc; {"entries": entries, "fault": "full", "records": records, "status": "refused"})
         }
-        PostFault::Short { .. } | PostFault::NoMemory => unreachable!(),
+        PostFault::Short { .. } | PostFault::KeeperFailed | PostFault::NoMemory => unreachable!(),
     }
+}
+
+/// The JSON value of the reply to a text that is no request.
+fn bad_value(alloc: Global, fault: ReadFault) -> Result<Value, AllocError>
+    requires { IsReadFaultTold fault }
+    ensures { IfOk result (λ value. view value ≡ bad_data fault) }
+{
+    match fault {
+        ReadFault::BadJson => fault_value(alloc, "bad-json", "bad"),
+        ReadFault::BadField { name, line } => field_fault_value(alloc, "bad-field", name, line),
+        ReadFault::Limit { name, line } => field_fault_value(alloc, "limit", name, line),
+        ReadFault::NoMemory => unreachable!(),
+    }
+}
+
+/// The JSON value of a fault of a request's field.
+fn field_fault_value(
+    alloc: Global,
+    fault: &str,
+    name: FieldName,
+    line: u32,
+) -> Result<Value, AllocError>
+    ensures { IfOk result (λ value. view value ≡ field_fault_data fault.now name line) }
+{
+    let field = field_text(name);
+    json!(in alloc; {"fault": fault, "field": field, "line": line, "status": "bad"})
 }
 
 /// The JSON value of a shortage.
@@ -172,74 +213,107 @@ mod tests {
     #[test]
     fn prints_outcomes(rt: HostRuntime) -> Result<(), Fail> {
         let alloc = rt.alloc();
+        let (covered, wanted) = (RecordNo(4), RecordNo(5));
+        let accepted = Reply::Accepted(RecordNo(7));
+        check(&rt, alloc, &accepted, r#"{"record":7,"status":"accepted"}"#)?;
+        let worked = Reply::Worked(RecordNo(7));
+        check(&rt, alloc, &worked, r#"{"covered":7,"status":"worked"}"#)?;
+        let settled = Reply::Settled(RecordNo(7));
+        check(&rt, alloc, &settled, r#"{"covered":7,"status":"settled"}"#)?;
+        let pending = Reply::Pending { covered, wanted };
         check(
             &rt,
             alloc,
-            &Reply::Accepted(RecordNo(7)),
-            r#"{"record":7,"status":"accepted"}"#,
-        )?;
-        check(
-            &rt,
-            alloc,
-            &Reply::Settled(RecordNo(7)),
-            r#"{"covered":7,"status":"settled"}"#,
-        )?;
-        check(
-            &rt,
-            alloc,
-            &Reply::Pending {
-                covered: RecordNo(4),
-                wanted: RecordNo(5),
-            },
+            &pending,
             r#"{"covered":4,"need":5,"status":"pending"}"#,
         )?;
+        let missing = Reply::NoSuchRecord {
+            accepted: covered,
+            wanted,
+        };
         check(
             &rt,
             alloc,
-            &Reply::NoSuchRecord {
-                accepted: RecordNo(6),
-                wanted: RecordNo(9),
-            },
-            r#"{"accepted":6,"need":9,"status":"no-such-record"}"#,
+            &missing,
+            r#"{"accepted":4,"need":5,"status":"no-such-record"}"#,
+        )
+    }
+
+    #[test]
+    fn prints_faults(rt: HostRuntime) -> Result<(), Fail> {
+        let alloc = rt.alloc();
+        check(
+            &rt,
+            alloc,
+            &Reply::Long,
+            r#"{"fault":"long","status":"bad"}"#,
         )?;
-        let bad = r#"{"fault":"bad-field","field":"request","line":0,"status":"bad"}"#;
-        check(&rt, alloc, &Reply::Bad, bad)?;
-        assert!(rt; bad_reply() == bad.as_bytes());
-        Ok(())
+        let store = r#"{"fault":"store","status":"failed"}"#;
+        check(&rt, alloc, &Reply::StoreFailed, store)?;
+        let memory = r#"{"fault":"memory","status":"failed"}"#;
+        check(&rt, alloc, &Reply::MemoryFailed, memory)?;
+        check(
+            &rt,
+            alloc,
+            &Reply::Http,
+            r#"{"fault":"http","status":"bad"}"#,
+        )?;
+        let json = Reply::Bad(ReadFault::BadJson);
+        check(&rt, alloc, &json, r#"{"fault":"bad-json","status":"bad"}"#)?;
+        let field = Reply::Bad(ReadFault::BadField {
+            name: FieldName::Qty,
+            line: 2,
+        });
+        check(
+            &rt,
+            alloc,
+            &field,
+            r#"{"fault":"bad-field","field":"qty","line":2,"status":"bad"}"#,
+        )?;
+        let limit = Reply::Bad(ReadFault::Limit {
+            name: FieldName::Lines,
+            line: 0,
+        });
+        check(
+            &rt,
+            alloc,
+            &limit,
+            r#"{"fault":"limit","field":"lines","line":0,"status":"bad"}"#,
+        )
+    }
+
+    fn refused(rt: &impl Abort, alloc: Global, fault: PostFault, want: &str) -> Result<(), Fail>
+        requires { IsTold fault }
+    {
+        check(rt, alloc, &Reply::Refused(fault), want)
     }
 
     #[test]
     fn prints_refusals(rt: HostRuntime) -> Result<(), Fail> {
         let alloc = rt.alloc();
-        let taken = Reply::Refused(PostFault::CodeTaken);
-        check(
+        let basis = r#"{"fault":"no-basis","status":"refused"}"#;
+        refused(&rt, alloc, PostFault::NoBasis, basis)?;
+        let item = r#"{"fault":"unknown-item","line":1,"status":"refused"}"#;
+        refused(&rt, alloc, PostFault::UnknownItem { line: 1 }, item)?;
+        let over = PostFault::OverReturn {
+            line: 1,
+            asked: Qty(1),
+            left: Qty(0),
+        };
+        refused(
             &rt,
             alloc,
-            &taken,
-            r#"{"fault":"code-taken","status":"refused"}"#,
+            over,
+            r#"{"asked":1,"fault":"over-return","left":0,"line":1,"status":"refused"}"#,
         )?;
-        let item = Reply::Refused(PostFault::UnknownItem { line: 1 });
-        check(
-            &rt,
-            alloc,
-            &item,
-            r#"{"fault":"unknown-item","line":1,"status":"refused"}"#,
-        )?;
-        let store = Reply::Refused(PostFault::UnknownStore { line: 2 });
-        check(
-            &rt,
-            alloc,
-            &store,
-            r#"{"fault":"unknown-store","line":2,"status":"refused"}"#,
-        )?;
-        let full = Reply::Refused(PostFault::Full {
+        let full = PostFault::Full {
             records: 44,
             entries: 4000,
-        });
-        check(
+        };
+        refused(
             &rt,
             alloc,
-            &full,
+            full,
             r#"{"entries":4000,"fault":"full","records":44,"status":"refused"}"#,
         )
     }

@@ -1,85 +1,110 @@
 //! The lines of a voucher.
-ghost use Rattle.std.specs.Prelude.{List, IfSome, IfNone, IfOk};
+ghost use Rattle.std.specs.Prelude.{◌≡◌, ◌≤◌, ℕ, List, Result, IfOk, length};
 ghost use Rattle.serde_json.specs.Data.{Data};
 ghost use Rattle.serde_json.specs.View.{view, items_view};
-ghost use Rattle.voucher_json.specs.FirstForm.{IsReceiptLine, IsIssueLine, AreVoucherLines};
+ghost use Rattle.stock_model.specs.declared.read_faults.FieldName.{FieldName};
+ghost use Rattle.stock_model.specs.declared.read_faults.ReadFault.{ReadFault};
+ghost use Rattle.voucher_json.specs.Walks.{Field, Elements, OrNoMemory};
+ghost use Rattle.voucher_json.specs.Fields.{IsList};
+ghost use Rattle.voucher_json.specs.Requests.{IsReceiptLine, IsIssueLine};
 
-use crate::forms::{last_goods, receipt_line_fields};
+use crate::field_names::field_text;
+use crate::fields::{code_field, number_field};
+use crate::forms::{check_object, elements_in, no_other};
 use serde_json::Value;
 use std::alloc::Global;
+use stock_model::read_faults::{FieldName, ReadFault};
 use stock_model::vouchers::{IssueLine, ReceiptLine};
-use stock_nums::code::Code;
 use stock_nums::lines::Lines;
-use stock_nums::memory::NoMemory;
 use stock_nums::numbers::{Minor, Qty};
 
-/// The most lines that a voucher may have.
-const MAX_LINES: usize = 100;
-
-/// A line of a voucher, which a JSON value may be.
+/// A line of a voucher, which an element of its `lines` may be.
 pub trait VoucherLine: Drop {
-    ghost is_line: { Data → Self → Type 0 };
+    ghost is_line: { FieldName → ℕ → Data → Result Self ReadFault → Type 0 };
 
-    /// The line that a value is. None exactly where it is none.
-    fn read(alloc: Global, value: &Value) -> Result<Option<Self>, NoMemory>
-        ensures some { IfOk result (λ found. IfSome found (is_line (view value.now))) }
-        ensures none { IfOk result (λ found. IfNone found ((line : Self) → is_line (view value.now) line → ⊥)) };
+    /// The line that the element at this place, from 1, is.
+    fn read(alloc: Global, value: &Value, place: u32) -> Result<Self, ReadFault>
+        ensures { OrNoMemory (is_line FieldName.Lines place (view value.now)) result };
 }
 
 impl VoucherLine for ReceiptLine {
     ghost is_line = { IsReceiptLine };
 
-    fn read(alloc: Global, value: &Value) -> Result<Option<ReceiptLine>, NoMemory> {
-        let Some(object) = value.as_object() else {
-            return Ok(None);
-        };
-        let Some((amount, goods)) = receipt_line_fields(object) else {
-            return Ok(None);
-        };
-        Ok(Some(ReceiptLine {
-            item: Code::of(alloc, goods.item)?,
-            store: Code::of(alloc, goods.store)?,
-            qty: Qty(goods.qty),
+    fn read(alloc: Global, value: &Value, place: u32) -> Result<ReceiptLine, ReadFault> {
+        check_object(value, FieldName::Lines, place)?;
+        let item = code_field(alloc, value, FieldName::Item, place)?;
+        let store = code_field(alloc, value, FieldName::Store, place)?;
+        let qty = number_field(value, FieldName::Qty, place, 1, 1_000_000_000)?;
+        let amount = number_field(value, FieldName::Amount, place, 0, 1_000_000_000_000)?;
+        let names = [
+            FieldName::Item,
+            FieldName::Store,
+            FieldName::Qty,
+            FieldName::Amount,
+        ];
+        no_other(value, &names, place)?;
+        Ok(ReceiptLine {
+            item,
+            store,
+            qty: Qty(qty),
             amount: Minor(amount as i64),
-        }))
+        })
     }
 }
 
 impl VoucherLine for IssueLine {
     ghost is_line = { IsIssueLine };
 
-    fn read(alloc: Global, value: &Value) -> Result<Option<IssueLine>, NoMemory> {
-        let Some(object) = value.as_object() else {
-            return Ok(None);
-        };
-        let Some(goods) = last_goods(&mut object.iter()) else {
-            return Ok(None);
-        };
-        Ok(Some(IssueLine {
-            item: Code::of(alloc, goods.item)?,
-            store: Code::of(alloc, goods.store)?,
-            qty: Qty(goods.qty),
-        }))
+    fn read(alloc: Global, value: &Value, place: u32) -> Result<IssueLine, ReadFault> {
+        check_object(value, FieldName::Lines, place)?;
+        let item = code_field(alloc, value, FieldName::Item, place)?;
+        let store = code_field(alloc, value, FieldName::Store, place)?;
+        let qty = number_field(value, FieldName::Qty, place, 1, 1_000_000_000)?;
+        let names = [FieldName::Item, FieldName::Store, FieldName::Qty];
+        no_other(value, &names, place)?;
+        Ok(IssueLine {
+            item,
+            store,
+            qty: Qty(qty),
+        })
     }
 }
 
-/// The lines of a voucher that the values are. None exactly where they are none.
-pub fn read_lines<L: VoucherLine>(
-    alloc: Global,
-    values: &[Value],
-) -> Result<Option<Lines<L>>, NoMemory>
-    ensures some { IfOk result (λ found. IfSome found (AreVoucherLines L.is_line (items_view values.now))) }
-    ensures none { IfOk result (λ found. IfNone found ((lines : List L) → AreVoucherLines L.is_line (items_view values.now) lines → ⊥)) }
+/// The lines of the voucher that the object is.
+pub fn lines_field<L: VoucherLine>(alloc: Global, object: &Value) -> Result<Lines<L>, ReadFault>
+    ensures outcome { OrNoMemory (Field (IsList L.is_line) FieldName.Lines 0 (view object.now)) result }
+    ensures count { IfOk result (λ lines. (1 ≤ length lines) × (length lines ≤ 100)) }
 {
-    if values.is_empty() || values.len() > MAX_LINES {
-        return Ok(None);
+    match object.get(field_text(FieldName::Lines)) {
+        Some(value) => lines_in(alloc, value),
+        None => Err(ReadFault::BadField {
+            name: FieldName::Lines,
+            line: 0,
+        }),
     }
+}
+
+/// The lines that the list is.
+fn lines_in<L: VoucherLine>(alloc: Global, value: &Value) -> Result<Lines<L>, ReadFault>
+    ensures outcome { OrNoMemory (IsList L.is_line FieldName.Lines 0 (view value.now)) result }
+    ensures count { IfOk result (λ lines. (1 ≤ length lines) × (length lines ≤ 100)) }
+{
+    let values = elements_in(value, FieldName::Lines, 0)?;
+    read_lines(alloc, values)
+}
+
+/// The lines that the elements are.
+fn read_lines<L: VoucherLine>(alloc: Global, values: &[Value]) -> Result<Lines<L>, ReadFault>
+    requires { length values.now ≤ 100 }
+    ensures outcome { OrNoMemory (Elements L.is_line FieldName.Lines 1 (items_view values.now)) result }
+    ensures count { IfOk result (λ lines. length lines ≡ length values.now) }
+{
     let mut lines = Lines::new(alloc);
     for value in values {
-        match L::read(alloc, value)? {
-            Some(line) => lines.push(line)?,
-            None => return Ok(None),
-        }
+        let line = L::read(alloc, value, lines.len() as u32 + 1)?;
+        let Ok(()) = lines.push(line) else {
+            return Err(ReadFault::NoMemory);
+        };
     }
-    Ok(Some(lines))
+    Ok(lines)
 }

@@ -1,38 +1,26 @@
-use Rattle.std.proofs.Common.{◌≤◌, length, arith}
-use Rattle.std.proofs.lemmas.Bool.Decides.{nat_tests}
+use Rattle.std.proofs.Common.{◌≡◌, ◌+◌, arith}
 use Rattle.std.proofs.lemmas.Grind.{common_steps}
-use Rattle.voucher_json.proofs.VoucherLines.{length-lines, no_lines, read_more, needed_more, read_all}
+use Rattle.std.proofs.lemmas.Result.{err_from_is_err_and}
+use Rattle.stock_model.specs.declared.read_faults.FieldName.TheVariants.{Lines}
+use Rattle.voucher_json.proofs.VoucherLines.{read_more, read_none, read_all}
 use Rattle.voucher_json.proofs.voucher_lines.read_lines.Goals as goal
-use Rattle.voucher_json.proofs.voucher_lines.read_lines.Goals.{then-is_empty-via-then-is_empty, then-is_empty-via-else-is_empty+then-values-gt-MAX_LINES}
 
-pub returns-then-is_empty-clause-none : goal.returns-then-is_empty-clause-none
-returns-then-is_empty-clause-none g c = λ lines are.
-    let count = length-lines g.L.VoucherLine.is_line c.args.values.now lines are.each in
-    let least : 1 ≤ length lines = are.least in
-    let most : length lines ≤ 100 = are.most in
-    elim c.then-is_empty.branch [
-      | then-is_empty-via-then-is_empty w ↦ grind (arith, nat_tests)
-      | then-is_empty-via-else-is_empty+then-values-gt-MAX_LINES w ↦ omega arith
-    ]
-
-pub returns-in-None-clause-none : goal.returns-in-None-clause-none
-returns-in-None-clause-none g c = λ lines are.
-    no_lines g.L.VoucherLine.is_line _ _ c.value-item.result _ c.loop-value-test.true c.value-item.is (rw c.in-None.is at c.in_ok-line.ensures.none) (c.loop-value.invariant.needed lines are.each)
+pub returns-in_err-line-clause-outcome : goal.returns-in_err-line-clause-outcome
+returns-in_err-line-clause-outcome g c =
+    let p = err_from_is_err_and c.from_residual.result c.from_residual.ensures.1 in
+    let place : c.len.result ≡ c.loop-value.value-index = omega (arith, c.len.ensures) in
+    rw (p.1, p.2)
+    (read_none g.L.VoucherLine.is_line Lines _ _ c.value-item.result _ c.loop-value.lines c.loop-value-test.true c.value-item.is (c.len.result + 1) (omega arith) c.in_err-line.ensures c.loop-value.invariant.read)
 
 pub loop-value-preserved : goal.loop-value-preserved
-loop-value-preserved g c = record {
-  each = grind (arith, common_steps);
-  read = λ rest are.
-      rw c.in_ok-push-in-Some.ensures.added
-      (read_more g.L.VoucherLine.is_line _ _ c.value-item.result c.in-Some.line c.loop-value.lines rest c.loop-value-test.true c.value-item.is (rw c.in-Some.is at c.in_ok-line.ensures.some) c.loop-value.invariant.read are);
-  needed = λ all are. needed_more g.L.VoucherLine.is_line _ _ c.value-item.result all c.loop-value-test.true c.value-item.is (c.loop-value.invariant.needed all are);
-}
-
-pub returns-clause-some : goal.returns-clause-some
-returns-clause-some g c =
-    let least : 1 ≤ length c.args.values.now = grind (arith, nat_tests) in
+loop-value-preserved g c =
+    let place : c.len.result ≡ c.loop-value.value-index = omega (arith, c.len.ensures) in
     record {
-      each = read_all g.L.VoucherLine.is_line _ _ _ c.loop-value-test.false c.loop-value.invariant.read;
-      least = rw c.loop-value.invariant.each (omega arith);
-      most = rw c.loop-value.invariant.each (omega arith);
+      each = grind (arith, common_steps);
+      read = λ end are.
+          rw c.in-Ok.ensures.added
+          (read_more g.L.VoucherLine.is_line Lines _ _ c.value-item.result c.in_ok-line.line c.loop-value.lines end c.loop-value-test.true c.value-item.is (c.len.result + 1) (omega arith) c.in_ok-line.ensures c.loop-value.invariant.read are);
     }
+
+pub returns-clause-outcome : goal.returns-clause-outcome
+returns-clause-outcome g c = read_all g.L.VoucherLine.is_line Lines _ _ c.loop-value.lines c.loop-value-test.false c.loop-value.invariant.read

@@ -1,12 +1,15 @@
--- The lines so far are those of the values so far, and any lines of the values go on with lines of the rest.
-use Rattle.std.proofs.Common.{◌≡◌, List, ◌++◌, length, drop}
+-- Whatever the rest of the elements comes to, all of them come to it after the lines so far.
+use Rattle.std.proofs.Common.{◌≡◌, ◌+◌, List, Result, length, drop}
 use Rattle.serde_json.specs.View.{items_view}
-use Rattle.voucher_json.specs.FirstForm.{AreLines}
+use Rattle.stock_model.specs.declared.read_faults.FieldName.TheVariants.{Lines}
+use Rattle.stock_model.specs.declared.read_faults.ReadFault.{ReadFault}
+use Rattle.voucher_json.specs.Walks.{Elements}
+use Rattle.voucher_json.proofs.VoucherLines.{after}
 use Rattle.voucher_json.proofs.voucher_lines.read_lines.Given as goal
 
 abbrev pub invariant-loop-value : goal.invariant-loop-value
 invariant-loop-value g l = record {
   each : length l.lines ≡ l.value-index;
-  read : (rest : List g.row.L.Denot) → AreLines g.L.VoucherLine.is_line (items_view (drop l.value-index l.values)) rest → AreLines g.L.VoucherLine.is_line (items_view l.values) (l.lines ++ rest);
-  needed : (all : List g.row.L.Denot) → AreLines g.L.VoucherLine.is_line (items_view l.values) all → AreLines g.L.VoucherLine.is_line (items_view (drop l.value-index l.values)) (drop l.value-index all);
+  read : (end : Result (List g.row.L.Denot) ReadFault) → Elements g.L.VoucherLine.is_line Lines (l.value-index + 1) (items_view (drop l.value-index l.values)) end
+      → Elements g.L.VoucherLine.is_line Lines 1 (items_view l.values) (after l.lines end);
 }

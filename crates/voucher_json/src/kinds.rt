@@ -1,0 +1,100 @@
+//! The words of the fields that have a choice of words.
+ghost use Rattle.std.specs.Prelude.{◌≡◌};
+ghost use Rattle.voucher_json.specs.Fields.{choose};
+ghost use Rattle.voucher_json.specs.Requests.{desk_kinds, kinds, methods, purposes, sheets, formats};
+
+use stock_model::queries::Sheet;
+use stock_model::vouchers::Purpose;
+use stock_nums::cause::Method;
+
+/// What a request does.
+#[derive(Clone, Copy, Debug, PartialEq, Eq)]
+pub enum Kind {
+    Item,
+    Store,
+    Receipt,
+    Issue,
+    Settle,
+    Report,
+}
+
+/// How the rows of a report are written.
+#[derive(Clone, Copy, Debug, PartialEq, Eq)]
+pub enum Format {
+    Json,
+}
+
+/// The kind that a word of `do` means.
+pub fn kind_named(word: &str, at_desk: bool) -> Option<Kind>
+    ensures { result ≡ choose (kinds at_desk) word.now }
+{
+    if !at_desk && word == "settle" {
+        return Some(Kind::Settle);
+    }
+    desk_kind_named(word)
+}
+
+/// The kind that a word of `do` means at a desk.
+fn desk_kind_named(word: &str) -> Option<Kind>
+    ensures { result ≡ choose desk_kinds word.now }
+{
+    if word == "item" {
+        Some(Kind::Item)
+    } else if word == "store" {
+        Some(Kind::Store)
+    } else if word == "receipt" {
+        Some(Kind::Receipt)
+    } else if word == "issue" {
+        Some(Kind::Issue)
+    } else if word == "report" {
+        Some(Kind::Report)
+    } else {
+        None
+    }
+}
+
+/// The cost formula that a word of `method` means.
+pub fn method_named(word: &str) -> Option<Method>
+    ensures { result ≡ choose methods word.now }
+{
+    if word == "average" {
+        Some(Method::Average)
+    } else {
+        None
+    }
+}
+
+/// The purpose that a word of `use` means.
+pub fn purpose_named(word: &str) -> Option<Purpose>
+    ensures { result ≡ choose purposes word.now }
+{
+    if word == "sold" {
+        Some(Purpose::Sold)
+    } else if word == "used" {
+        Some(Purpose::Used)
+    } else {
+        None
+    }
+}
+
+/// The sheet that a word of `of` means.
+pub fn sheet_named(word: &str) -> Option<Sheet>
+    ensures { result ≡ choose sheets word.now }
+{
+    if word == "balance" {
+        Some(Sheet::Balance)
+    } else {
+        None
+    }
+}
+
+/// The format that a word of `as` means.
+pub fn format_named(word: &str) -> Option<Format>
+    ensures { result ≡ choose formats word.now }
+{
+    if word == "json" {
+        Some(Format::Json)
+    } else {
+        None
+    }
+}

@@ -1,0 +1,309 @@
+use crate::field_names::field_text;
+use crate::reading::read_request;
+use std::alloc::Global;
+use std::test::Fail;
+use stock_model::queries::Query;
+use stock_model::read_faults::ReadFault;
+use stock_model::requests::Request;
+use stock_model::vouchers::{IssueLine, ReceiptLine, What};
+
+fn told_receipt(alloc: Global, text: &mut String, lines: &[ReceiptLine]) -> Result<(), Fail> {
+    for line in lines {
+        let (item, store) = (line.item.text(), line.store.text());
+        let told = format!(in alloc; ", {item} {store} {} {}", line.qty.0, line.amount.0)?;
+        text.push_str(told.as_str())?;
+    }
+    Ok(())
+}
+
+fn told_issue(alloc: Global, text: &mut String, lines: &[IssueLine]) -> Result<(), Fail> {
+    for line in lines {
+        let (item, store) = (line.item.text(), line.store.text());
+        let told = format!(in alloc; ", {item} {store} {}", line.qty.0)?;
+        text.push_str(told.as_str())?;
+    }
+    Ok(())
+}
+
+fn told_query(alloc: Global, query: &Query) -> Result<String, Fail> {
+    let mut text = format!(in alloc; "report {:?} {}", query.sheet, query.need.0)?;
+    if let Some(until) = &query.until {
+        text.push_str(format!(in alloc; " until {} {}", until.date, until.second)?.as_str())?;
+    }
+    if let Some(item) = &query.item {
+        text.push_str(format!(in alloc; " item {}", item.text())?.as_str())?;
+    }
+    if let Some(store) = &query.store {
+        text.push_str(format!(in alloc; " store {}", store.text())?.as_str())?;
+    }
+    Ok(text)
+}
+
+/// The fields of a request, in words.
+fn told(alloc: Global, request: &Request) -> Result<String, Fail> {
+    match request {
+        Request::Post(What::Item { code, method }) => {
+            Ok(format!(in alloc; "item {} {method:?}", code.text())?)
+        }
+        Request::Post(What::Store { code, account }) => {
+            Ok(format!(in alloc; "store {} {}", code.text(), account.0)?)
+        }
+        Request::Post(What::Receipt { at, lines }) => {
+            let mut text = format!(in alloc; "receipt {} {}", at.date, at.second)?;
+            told_receipt(alloc, &mut text, lines.as_slice())?;
+            Ok(text)
+        }
+        Request::Post(What::Issue { at, purpose, lines }) => {
+            let mut text = format!(in alloc; "issue {} {} {purpose:?}", at.date, at.second)?;
+            told_issue(alloc, &mut text, lines.as_slice())?;
+            Ok(text)
+        }
+        Request::Settle => Ok(String::from_str(alloc, "settle")?),
+        Request::Report(query) => told_query(alloc, query),
+    }
+}
+
+/// What a text is read as, in words.
+fn read(alloc: Global, text: &[u8], at_desk: bool) -> Result<String, Fail> {
+    match read_request(alloc, text, at_desk) {
+        Ok(request) => told(alloc, &request),
+        Err(ReadFault::BadJson) => Ok(String::from_str(alloc, "no json")?),
+        Err(ReadFault::BadField { name, line }) => {
+            Ok(format!(in alloc; "bad {} {line}", field_text(name))?)
+        }
+        Err(ReadFault::Limit { name, line }) => {
+            Ok(format!(in alloc; "limit {} {line}", field_text(name))?)
+        }
+        Err(ReadFault::NoMemory) => Ok(String::from_str(alloc, "no memory")?),
+    }
+}
+
+#[test]
+fn reads_each_kind(rt: HostRuntime) -> Result<(), Fail> {
+    let table = [
+        (
+            r#"{"do":"item","code":"a b","method":"average"}"#,
+            "item a b Average",
+        ),
+        (r#" {"account":0, "do":"store","code":""} "#, "store  0"),
+        (r#"{"do":"settle"}"#, "settle"),
+        (r#"{"do":"fly","do":"settle"}"#, "settle"),
+        (r#"{"of":"balance","do":"report"}"#, "report Balance 0"),
+        (
+            r#"{"do":"report","of":"balance","need":4294967295,"until":"2026-01-03T07:08:09","item":"B","store":"W1","as":"json"}"#,
+            "report Balance 4294967295 until 20260103 25689 item B store W1",
+        ),
+        (
+            r#"{"do":"receipt","at":"2026-01-03T07:08:09","lines":[{"item":"B","store":"W1","qty":1,"amount":0},{"item":"C","store":"W2","qty":1000000000,"amount":1000000000000}]}"#,
+            "receipt 20260103 25689, B W1 1 0, C W2 1000000000 1000000000000",
+        ),
+        (
+            r#"{"do":"issue","at":"2026-01-03T07:08:09","use":"used","lines":[{"item":"B","store":"W1","qty":1}]}"#,
+            "issue 20260103 25689 Used, B W1 1",
+        ),
+        (
+            r#"{"do":"issue","at":"2026-01-03T07:08:09","use":"sold","lines":[{"item":"B","store":"W1","qty":5}]}"#,
+            "issue 20260103 25689 Sold, B W1 5",
+        ),
+    ];
+    for (text, want) in table {
+        let found = read(rt.alloc(), text.as_bytes(), false)?;
+        assert_eq!(rt; found.as_str(), want, "{text}");
+    }
+    Ok(())
+}
+
+#[test]
+fn tells_the_first_fault(rt: HostRuntime) -> Result<(), Fail> {
+    let table = [
+        ("{", "no json"),
+        ("[]", "bad request 0"),
+        (r#"{"do":"fly"}"#, "bad do 0"),
+        (r#"{"do":"work","turns":1}"#, "bad do 0"),
+        (r#"{"do":"settle","x":1}"#, "bad other 0"),
+        (r#"{"do":"settle","desk":0}"#, "bad other 0"),
+        (
+            r#"{"do":"item","code":"A","method":"fifo","x":1}"#,
+            "bad method 0",
+        ),
+        (r#"{"do":"item","method":"fifo"}"#, "bad code 0"),
+        (
+            r#"{"do":"store","code":"W","account":1000000001}"#,
+            "limit account 0",
+        ),
+        (
+            r#"{"do":"receipt","at":"2026-02-30T00:00:00","lines":[]}"#,
+            "limit at 0",
+        ),
+        (
+            r#"{"do":"receipt","at":"2026-2-03T00:00:00","lines":[]}"#,
+            "bad at 0",
+        ),
+        (
+            "{\"do\":\"receipt\",\"at\":\"２6-02-03T00:00:00\"}",
+            "bad at 0",
+        ),
+        (
+            r#"{"do":"receipt","at":"2026-02-03T00:00:00","lines":[]}"#,
+            "limit lines 0",
+        ),
+        (
+            r#"{"do":"receipt","at":"2026-02-03T00:00:00","lines":{}}"#,
+            "bad lines 0",
+        ),
+        (
+            r#"{"do":"issue","at":"2026-02-03T00:00:00","use":"lost","lines":[]}"#,
+            "bad use 0",
+        ),
+        (r#"{"do":"report","of":"ledger","need":null}"#, "bad of 0"),
+        (
+            r#"{"do":"report","of":"balance","need":null}"#,
+            "bad need 0",
+        ),
+        (
+            r#"{"do":"report","of":"balance","need":-1}"#,
+            "limit need 0",
+        ),
+        (
+            r#"{"do":"report","of":"balance","until":null,"record":1}"#,
+            "bad until 0",
+        ),
+        (
+            r#"{"do":"report","of":"balance","item":null}"#,
+            "bad item 0",
+        ),
+        (r#"{"do":"report","of":"balance","as":"csv"}"#, "bad as 0"),
+        (
+            r#"{"do":"report","of":"balance","record":1}"#,
+            "bad other 0",
+        ),
+    ];
+    for (text, want) in table {
+        let found = read(rt.alloc(), text.as_bytes(), false)?;
+        assert_eq!(rt; found.as_str(), want, "{text}");
+    }
+    let at_desk = read(rt.alloc(), br#"{"do":"settle"}"#, true)?;
+    assert_eq!(rt; at_desk.as_str(), "bad do 0");
+    Ok(())
+}
+
+#[test]
+fn tells_faults_of_lines(rt: HostRuntime) -> Result<(), Fail> {
+    let alloc = rt.alloc();
+    let table = [
+        ("[]", "bad lines 2"),
+        (r#"{"qty":0}"#, "bad item 2"),
+        (
+            r#"{"item":"B","store":"W1","qty":0,"amount":1}"#,
+            "limit qty 2",
+        ),
+        (
+            r#"{"item":"B","store":"W1","qty":"5","amount":1}"#,
+            "bad qty 2",
+        ),
+        (
+            r#"{"item":"B","store":"W1","qty":5,"amount":-0}"#,
+            "bad amount 2",
+        ),
+        (
+            r#"{"item":"B","store":"W1","qty":1.0,"amount":1}"#,
+            "bad qty 2",
+        ),
+        (
+            r#"{"item":"B","store":"W1","qty":1e2,"amount":1}"#,
+            "bad qty 2",
+        ),
+        (
+            r#"{"item":"B","store":"W1","qty":18446744073709551616,"amount":1}"#,
+            "bad qty 2",
+        ),
+        (
+            r#"{"item":"B","store":"W1","qty":18446744073709551615,"amount":1}"#,
+            "limit qty 2",
+        ),
+        (
+            r#"{"item":"B","store":"W1","qty":-9223372036854775809,"amount":1}"#,
+            "bad qty 2",
+        ),
+        (
+            r#"{"item":"B","store":"W1","qty":1,"amount":-1}"#,
+            "limit amount 2",
+        ),
+        (r#"{"item":"B","tax":1e400}"#, "no json"),
+        (
+            r#"{"item":"B","store":"W1","qty":1,"amount":1,"tax":1}"#,
+            "bad other 2",
+        ),
+        (
+            r#"{"item":"B","store":"W1","qty":1,"qty":0,"amount":1}"#,
+            "limit qty 2",
+        ),
+    ];
+    for (line, want) in table {
+        let text = format!(in alloc;
+            "{{\"do\":\"receipt\",\"at\":\"2026-01-01T00:00:00\",\"lines\":[{{\"item\":\"B\",\"store\":\"W1\",\"qty\":1,\"amount\":1}},{line}]}}"
+        )?;
+        let found = read(alloc, text.as_bytes(), false)?;
+        assert_eq!(rt; found.as_str(), want, "{line}");
+    }
+    Ok(())
+}
+
+#[test]
+fn refuses_what_is_no_json(rt: HostRuntime) -> Result<(), Fail> {
+    let table: [(&[u8], &str); 7] = [
+        (b"", "no json"),
+        (b"\xef\xbb\xbf{\"do\":\"settle\"}", "no json"),
+        (b"{\"do\":\"settle\xff\"}", "no json"),
+        (b"{\"do\":\"settle\"}\0", "no json"),
+        (b"{\"do\":\"set\x1ftle\"}", "no json"),
+        (b"{\"do\":\"set\x7ftle\"}", "bad do 0"),
+        (b"{\"do\":\"settle\",\"x\":\"\\ud800\"}", "no json"),
+    ];
+    for (text, want) in table {
+        assert_eq!(rt; read(rt.alloc(), text, false)?.as_str(), want);
+    }
+    Ok(())
+}
+
+/// A request whose unknown field has so many arrays in one another.
+fn nested(alloc: Global, arrays: usize) -> Result<Vec<u8>, Fail> {
+    let mut text = Vec::new(alloc);
+    text.extend_from_slice(b"{\"do\":\"settle\",\"x\":")?;
+    for _ in 0..arrays {
+        text.push(b'[')?;
+    }
+    for _ in 0..arrays {
+        text.push(b']')?;
+    }
+    text.push(b'}')?;
+    Ok(text)
+}
+
+/// An issue of so many lines, of which the last is this.
+fn issue_of(alloc: Global, before: usize, last: &str) -> Result<String, Fail> {
+    let mut text = String::from_str(
+        alloc,
+        "{\"do\":\"issue\",\"at\":\"2026-01-01T00:00:00\",\"use\":\"sold\",\"lines\":[",
+    )?;
+    for _ in 0..before {
+        text.push_str("{\"item\":\"B\",\"store\":\"W1\",\"qty\":1},")?;
+    }
+    text.push_str(last)?;
+    text.push_str("]}")?;
+    Ok(text)
+}
+
+#[test]
+fn knows_the_deepest_and_the_longest(rt: HostRuntime) -> Result<(), Fail> {
+    let alloc = rt.alloc();
+    for (arrays, want) in [(126, "bad other 0"), (127, "no json")] {
+        let text = nested(alloc, arrays)?;
+        assert_eq!(rt; read(alloc, text.as_slice(), false)?.as_str(), want);
+    }
+    for (before, want) in [(99, "limit qty 100"), (100, "limit lines 0")] {
+        let text = issue_of(alloc, before, "{\"item\":\"B\",\"store\":\"W1\",\"qty\":0}")?;
+        assert_eq!(rt; read(alloc, text.as_bytes(), false)?.as_str(), want);
+    }
+    Ok(())
+}
