@@ -103,11 +103,11 @@ Settles-settled old new n legal is all = Settles-by_test old new n (ltb (covered
 -- a line that is too long is answered so, and nothing changed
 pub Step-long : (reads : List ℕ → Result Request ReadFault → Type 0) (old new : RunState) (line : List ℕ) (long : Bool) → long ≡ ltb max_line (length line) → long ≡ true → new.history ≡ old.history
     → Step reads old line Long new
-Step-long reads old new line long is yes same = inl (ltb-true max_line (length line) (sym is ∙ yes), refl, same)
+Step-long reads old new line long is tested same = inl (ltb-true max_line (length line) (sym is ∙ tested), refl, same)
 
 -- a line that is not too long
 pub fits : (line : List ℕ) (long : Bool) → long ≡ ltb max_line (length line) → long ≡ false → length line ≤ max_line
-fits line long is no = ltb-false max_line (length line) (sym is ∙ no)
+fits line long is tested = ltb-false max_line (length line) (sym is ∙ tested)
 
 -- want of memory is no fault that is printed
 bad_memory : (f : ReadFault) (reply : Reply) → reply ≡ Bad f → IsPrinted reply → f ≡ read_fault.NoMemory → ⊥
