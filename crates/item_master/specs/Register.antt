@@ -1,5 +1,5 @@
 -- How the items and warehouses are kept: values with their codes, and a map from the codes to the values.
-use Rattle.std.specs.Prelude.{ℕ, ◌≡◌, List, Option, String}
+use Rattle.std.specs.Prelude.{ℕ, ◌≡◌, List, [], ◌∷◌, Option, None, String}
 use Rattle.std.specs.BTreeMap.{BTreeMap, get_by_text}
 use Rattle.std.specs.Map.{lookup}
 use Rattle.std.specs.Str.{bytes_eq}
@@ -14,9 +14,15 @@ module _ {V : Type 0} where
   abbrev pub value_of : List (List ℕ × V) → List ℕ → Option V
   value_of entries code = lookup (λ c. bytes_eq c code) entries
 
+  -- no code is there twice
+  abbrev pub AreApart : List (List ℕ × V) → Type 0
+  AreApart [] = Unit {0}
+  AreApart (entry ∷ entries) = (value_of entries entry.0 ≡ None) × AreApart entries
+
   -- the map has, for each code, the first value with it
   pub record IsRegister {Y : Type 0} (entries : List (List ℕ × V)) (by_code : BTreeMap (String Y) V) : Type 0 where
     pub finds : (code : List ℕ) → get_by_text by_code code ≡ value_of entries code
+    pub apart : AreApart entries
 
 -- the item that is kept so
 abbrev pub item_head : List ℕ × (ItemNo × Method) → ItemHead

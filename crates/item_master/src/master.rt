@@ -1,4 +1,4 @@
-ghost use Rattle.std.specs.Prelude.{◌≡◌, ◌⊎◌, [], ◌∷◌, ◌++◌, None, Some, IfErr, OnOk, OnErr};
+ghost use Rattle.std.specs.Prelude.{◌≡◌, ◌⊎◌, ◌-◌, [], ◌∷◌, ◌++◌, length, take, None, Some, IfErr, OnOk, OnErr};
 ghost use Rattle.item_master.specs.Faults.{item_fault, store_fault};
 ghost use Rattle.item_master.specs.Heads.{item_in, store_in};
 
@@ -104,6 +104,24 @@ impl Master {
             Ok(()) => Ok(()),
             Err(_) => Err(MasterFault::NoMemory),
         }
+    }
+
+    /// Takes the item that was added last away again. Where there is none it changes nothing. It takes no
+    /// memory.
+    pub fn pop_item(&mut self)
+        ensures items { self.new.items ≡ take (length self.old.items - 1) self.old.items }
+        ensures stores_stay { self.new.stores ≡ self.old.stores }
+    {
+        self.items.pop();
+    }
+
+    /// Takes the warehouse that was added last away again. Where there is none it changes nothing. It
+    /// takes no memory.
+    pub fn pop_store(&mut self)
+        ensures stores { self.new.stores ≡ take (length self.old.stores - 1) self.old.stores }
+        ensures items_stay { self.new.items ≡ self.old.items }
+    {
+        self.stores.pop();
     }
 
     // Why an item with this code is refused.

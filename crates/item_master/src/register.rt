@@ -1,4 +1,4 @@
-ghost use Rattle.std.specs.Prelude.{◌≡◌, [], ◌∷◌, ◌++◌, None, OnOk, OnErr};
+ghost use Rattle.std.specs.Prelude.{◌≡◌, ◌-◌, [], ◌∷◌, ◌++◌, length, take, None, OnOk, OnErr};
 ghost use Rattle.item_master.specs.Register.{value_of};
 
 use std::alloc::Global;
@@ -56,5 +56,14 @@ impl<V: Copy + Drop> Register<V> {
         self.by_code.insert(key, value)?;
         self.entries.push_reserved(entry);
         Ok(())
+    }
+
+    /// Takes the last value away again. Where there is none it changes nothing. It takes no memory.
+    pub(crate) fn pop(&mut self)
+        ensures { self.new ≡ take (length self.old - 1) self.old }
+    {
+        if let Some((code, _)) = self.entries.pop() {
+            let _ = self.by_code.remove(code.text());
+        }
     }
 }
