@@ -1,5 +1,5 @@
 -- What one more value, and one less, make of a register.
-use Rattle.std.proofs.Common.{◌≡◌, ℕ, Bool, true, false, cond, List, [], ◌∷◌, ◌++◌, Option, None, Some, String, BTreeMap, refl, sym, subst, ap, ◌∙◌, arith, map}
+use Rattle.std.proofs.Common.{◌≡◌, ℕ, Bool, true, false, cond, List, [], ◌∷◌, ◌++◌, Option, None, Some, is_some, if◌then◌else◌, ◌-◌, length, take, String, BTreeMap, refl, sym, subst, ap, ◌∙◌, arith, map}
 use Rattle.std.specs.BTreeMap.{get_by_text}
 use Rattle.std.specs.Map.{update}
 use Rattle.std.specs.Str.{bytes_eq}
@@ -100,3 +100,12 @@ store_in-heads (e ∷ es) code = by_cases (bytes_eq e.0 code) refl (store_in-hea
     by_cases : (b : Bool) → bytes_eq e.0 code ≡ b → store_in (map store_head es) code ≡ value_of es code → store_in (map store_head (e ∷ es)) code ≡ value_of (e ∷ es) code
     by_cases true same rest = rw same refl
     by_cases false other rest = rw other rest
+
+-- where no fault is found first, nothing has the code
+pub absent_from : {X F : Type 0} (found : Option X) (taken : F) (rest : Option F) → (if is_some found then Some taken else rest) ≡ None → found ≡ None
+absent_from None taken rest fine = refl
+absent_from (Some x) taken rest fine = grind (arith, fine)
+
+-- all but the last, told as heads
+pub map-front : {X Y : Type 0} (f : X → Y) (xs : List X) → map f (take (length xs - 1) xs) ≡ take (length (map f xs) - 1) (map f xs)
+map-front f xs = rw (length-map f xs) (map-take f (length xs - 1) xs)
