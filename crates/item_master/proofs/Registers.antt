@@ -1,6 +1,7 @@
 -- What one more value, and one less, make of a register.
 use Rattle.std.proofs.Common.{◌≡◌, ℕ, Bool, true, false, cond, List, [], ◌∷◌, ◌++◌, Option, None, Some, is_some, if◌then◌else◌, ◌-◌, length, take, String, BTreeMap, refl, sym, subst, ap, ◌∙◌, arith, map}
 use Rattle.std.specs.BTreeMap.{get_by_text}
+use Rattle.std.proofs.lemmas.List.{length-map, take-map}
 use Rattle.std.specs.Map.{update}
 use Rattle.std.specs.Str.{bytes_eq}
 use Rattle.std.specs.Cmp.Lexicographic.{bytes_decides, nat_list_eq_equiv}
@@ -108,4 +109,4 @@ absent_from (Some x) taken rest fine = grind (arith, fine)
 
 -- all but the last, told as heads
 pub map-front : {X Y : Type 0} (f : X → Y) (xs : List X) → map f (take (length xs - 1) xs) ≡ take (length (map f xs) - 1) (map f xs)
-map-front f xs = rw (length-map f xs) (map-take f (length xs - 1) xs)
+map-front f xs = rw (length-map xs f, take-map f (length xs - 1) xs) refl

@@ -1,5 +1,3 @@
-use stock_nums::memory::NoMemory;
-
 /// Why an item or a warehouse was not added, in the order in which faults are looked for.
 #[derive(Clone, Copy, Debug, PartialEq, Eq)]
 pub enum MasterFault {
@@ -9,6 +7,6 @@ pub enum MasterFault {
     CodeShape,
     /// The warehouse's account is not from 100 to 9999.
     AccountRange,
-    /// Memory was wanting. This can come at any time.
+    /// Memory was wanting for an item or a warehouse that has no fault.
     NoMemory,
 }

@@ -69,7 +69,7 @@ impl Master {
         ensures sound { OnOk result (item_fault self.old.items code.now ≡ None) }
         ensures added { OnOk result (self.new.items ≡ self.old.items ++ record { number = number.0; code = code.now; method = method } ∷ []) }
         ensures stores_stay { self.new.stores ≡ self.old.stores }
-        ensures fault { IfErr result (λ f. (f ≡ MasterFault.NoMemory) ⊎ (item_fault self.old.items code.now ≡ Some f)) }
+        ensures fault { IfErr result (λ f. (item_fault self.old.items code.now ≡ Some f) ⊎ ((f ≡ MasterFault.NoMemory) × (item_fault self.old.items code.now ≡ None))) }
         ensures unchanged { OnErr result (self.new ≡ self.old) }
     {
         if let Some(fault) = self.item_fault(code) {
@@ -93,7 +93,7 @@ impl Master {
         ensures sound { OnOk result (store_fault self.old.stores code.now account.0 ≡ None) }
         ensures added { OnOk result (self.new.stores ≡ self.old.stores ++ record { number = number.0; code = code.now; account = account.0 } ∷ []) }
         ensures items_stay { self.new.items ≡ self.old.items }
-        ensures fault { IfErr result (λ f. (f ≡ MasterFault.NoMemory) ⊎ (store_fault self.old.stores code.now account.0 ≡ Some f)) }
+        ensures fault { IfErr result (λ f. (store_fault self.old.stores code.now account.0 ≡ Some f) ⊎ ((f ≡ MasterFault.NoMemory) × (store_fault self.old.stores code.now account.0 ≡ None))) }
         ensures unchanged { OnErr result (self.new ≡ self.old) }
     {
         if let Some(fault) = self.store_fault(code, account) {
@@ -159,18 +159,33 @@ mod tests {
     use std::test::Fail;
 
     #[test]
-    fn finds_what_was_added(rt: HostRuntime) -> Result<(), Fail> {
+    fn adds_finds_and_refuses(rt: HostRuntime) -> Result<(), Fail> {
         let mut master = Master::new(rt.alloc());
-        let tea = Code::of(rt.alloc(), "TEA")?;
-        let cup = Code::of(rt.alloc(), "CUP")?;
+        let (tea, main) = (Code::of(rt.alloc(), "TEA")?, Code::of(rt.alloc(), "MAIN")?);
         assert!(rt; master.add_item(RecordNo(1), &tea, Method::Average) == Ok(()));
-        assert!(rt; master.add_store(RecordNo(2), &tea, AccountNo(100)) == Ok(()));
-        assert!(rt; master.add_store(RecordNo(3), &cup, AccountNo(9999)) == Ok(()));
-        assert!(rt; master.add_item(RecordNo(4), &cup, Method::Fifo) == Ok(()));
+        let table = [
+            (2, "MAIN", 100, Ok(())),
+            (3, "TEA", 9999, Ok(())),
+            (4, "TEA", 99, Err(MasterFault::CodeTaken)),
+            (4, "a b", 99, Err(MasterFault::CodeShape)),
+            (4, "X", 99, Err(MasterFault::AccountRange)),
+            (4, "X", 10_000, Err(MasterFault::AccountRange)),
+        ];
+        for (number, text, account, want) in table {
+            let code = Code::of(rt.alloc(), text)?;
+            let got = master.add_store(RecordNo(number), &code, AccountNo(account));
+            assert!(rt; got == want, "{text} {account}");
+        }
+        let taken = master.add_item(RecordNo(4), &tea, Method::Fifo);
+        assert!(rt; taken == Err(MasterFault::CodeTaken));
         assert!(rt; master.item(&tea) == Some((ItemNo(1), Method::Average)));
-        assert!(rt; master.item(&cup) == Some((ItemNo(4), Method::Fifo)));
-        assert!(rt; master.store(&tea) == Some((StoreNo(2), AccountNo(100))));
-        assert!(rt; master.store(&cup) == Some((StoreNo(3), AccountNo(9999))));
+        assert!(rt; master.item(&main).is_none());
+        assert!(rt; master.store(&tea) == Some((StoreNo(3), AccountNo(9999))));
+        assert!(rt; master.store(&main) == Some((StoreNo(2), AccountNo(100))));
+        master.pop_store();
+        master.pop_item();
+        assert!(rt; master.store(&tea).is_none() && master.item(&tea).is_none());
+        assert!(rt; master.store(&main).is_some());
         Ok(())
     }
 }

@@ -1,5 +1,5 @@
 -- Without a fault nothing has the code.
-use Rattle.std.proofs.Common.{◌≡◌, None, sym, ap, ◌∙◌}
+use Rattle.std.proofs.Common.{sym, ap, ◌∙◌}
 use Rattle.item_master.specs.Heads.{item_in}
 use Rattle.item_master.specs.State.{MasterState}
 use Rattle.item_master.proofs.Registers.{item_in-heads, absent_from}

@@ -1,5 +1,5 @@
 -- The heads are those of all values but the last.
-use Rattle.std.proofs.Common.{◌≡◌, ◌-◌, List, length, take, map, ap, ◌∙◌}
+use Rattle.std.proofs.Common.{◌≡◌, map, ap}
 use Rattle.item_master.specs.Register.{store_head}
 use Rattle.item_master.specs.State.{MasterState}
 use Rattle.item_master.proofs.Registers.{map-front}

@@ -1,5 +1,5 @@
 -- The map has the new value too.
-use Rattle.std.proofs.Common.{◌≡◌, string_bytes, Some, ◌∷◌, [], ◌++◌, List, ℕ, sym, ap, ◌∙◌}
+use Rattle.std.proofs.Common.{◌≡◌, string_bytes, Some, ◌∷◌, [], ◌++◌, ap, ◌∙◌}
 use Rattle.std.proofs.lemmas.Map.Text.{btree_map_updates_text}
 use Rattle.std.proofs.lemmas.Result.{IfOk-at_ok}
 use Rattle.item_master.proofs.Registers.{IsRegister-push}

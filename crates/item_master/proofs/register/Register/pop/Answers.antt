@@ -1,5 +1,5 @@
 -- The map has the last code no more.
-use Rattle.std.proofs.Common.{◌≡◌, None, subst}
+use Rattle.std.proofs.Common.{None, subst}
 use Rattle.std.proofs.lemmas.Map.Text.{btree_map_updates_text}
 use Rattle.item_master.specs.Register.{IsRegister}
 use Rattle.item_master.proofs.Registers.{IsRegister-pop}
