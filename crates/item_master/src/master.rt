@@ -1,4 +1,4 @@
-ghost use Rattle.std.specs.Prelude.{◌≡◌, ◌⊎◌, ◌-◌, [], ◌∷◌, ◌++◌, length, take, None, Some, IfErr, OnOk, OnErr};
+ghost use Rattle.std.specs.Prelude.{◌≡◌, ◌-◌, [], ◌∷◌, ◌++◌, length, take, None, unwrap_or, IfErr, OnOk, OnErr};
 ghost use Rattle.item_master.specs.Faults.{item_fault, store_fault};
 ghost use Rattle.item_master.specs.Heads.{item_in, store_in};
 
@@ -59,7 +59,8 @@ impl Master {
         self.stores.value_of(code)
     }
 
-    /// Adds an item at the end of the items, or refuses it for its first fault. A refusal changes nothing.
+    /// Adds an item at the end of the items. Else it refuses it for its first fault, or for want of memory
+    /// where it has none. A refusal changes nothing.
     pub fn add_item(
         &mut self,
         number: RecordNo,
@@ -69,7 +70,7 @@ impl Master {
         ensures sound { OnOk result (item_fault self.old.items code.now ≡ None) }
         ensures added { OnOk result (self.new.items ≡ self.old.items ++ record { number = number.0; code = code.now; method = method } ∷ []) }
         ensures stores_stay { self.new.stores ≡ self.old.stores }
-        ensures fault { IfErr result (λ f. (item_fault self.old.items code.now ≡ Some f) ⊎ ((f ≡ MasterFault.NoMemory) × (item_fault self.old.items code.now ≡ None))) }
+        ensures fault { IfErr result (λ f. f ≡ unwrap_or (item_fault self.old.items code.now) MasterFault.NoMemory) }
         ensures unchanged { OnErr result (self.new ≡ self.old) }
     {
         if let Some(fault) = self.item_fault(code) {
@@ -82,8 +83,8 @@ impl Master {
         }
     }
 
-    /// Adds a warehouse at the end of the warehouses, or refuses it for its first fault. A refusal changes
-    /// nothing.
+    /// Adds a warehouse at the end of the warehouses. Else it refuses it for its first fault, or for want of
+    /// memory where it has none. A refusal changes nothing.
     pub fn add_store(
         &mut self,
         number: RecordNo,
@@ -93,7 +94,7 @@ impl Master {
         ensures sound { OnOk result (store_fault self.old.stores code.now account.0 ≡ None) }
         ensures added { OnOk result (self.new.stores ≡ self.old.stores ++ record { number = number.0; code = code.now; account = account.0 } ∷ []) }
         ensures items_stay { self.new.items ≡ self.old.items }
-        ensures fault { IfErr result (λ f. (store_fault self.old.stores code.now account.0 ≡ Some f) ⊎ ((f ≡ MasterFault.NoMemory) × (store_fault self.old.stores code.now account.0 ≡ None))) }
+        ensures fault { IfErr result (λ f. f ≡ unwrap_or (store_fault self.old.stores code.now account.0) MasterFault.NoMemory) }
         ensures unchanged { OnErr result (self.new ≡ self.old) }
     {
         if let Some(fault) = self.store_fault(code, account) {
