@@ -80,8 +80,7 @@ const SETTLE: &str = r#"{"do":"settle"}"#;
 
 const SETTLED: &str = "{\"covered\":0,\"status\":\"settled\"}\n";
 
-const REFUSED: &str =
-    "{\"fault\":\"bad-field\",\"field\":\"request\",\"line\":0,\"status\":\"bad\"}\n";
+const LONG: &str = "{\"fault\":\"long\",\"status\":\"bad\"}\n";
 
 const USAGE: &str =
     "stockd: words: batch [--file P] | serve --file P --port N --desks D | load N\n";
@@ -155,8 +154,8 @@ fn a_line_has_at_most_65_536_bytes(rt: HostRuntime) -> Result<(), Fail> {
     for (text, blanks, end, want) in [
         (SETTLE, blanks, "\n", SETTLED),
         (SETTLE, blanks, "", SETTLED),
-        (SETTLE, blanks + 1, "\n", REFUSED),
-        (SETTLE, blanks + 1, "", REFUSED),
+        (SETTLE, blanks + 1, "\n", LONG),
+        (SETTLE, blanks + 1, "", LONG),
         ("", 70_000, "\n", ""),
         ("", 70_000, "", ""),
     ] {

@@ -1,0 +1,4 @@
+pub mod Heads
+pub mod Faults
+pub mod Register
+pub mod State
