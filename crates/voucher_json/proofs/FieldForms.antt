@@ -1,10 +1,10 @@
 -- What look-ups into a value say of the forms of fields.
-use Rattle.std.proofs.Common.{◌≡◌, ℕ, ◌+◌, ◌<◌, ◌≤◌, ◌&&◌, ◌||◌, Bool, true, false, not, nat_le, List, [], ◌∷◌, length, Option, Some, None, Result, Ok, Err, String, Global, string_bytes, if◌then◌else◌, refl, ap, arith}
+use Rattle.std.proofs.Common.{◌≡◌, ℕ, ◌<◌, ◌≤◌, ◌||◌, Bool, not, List, [], ◌∷◌, length, Option, Some, Result, Ok, Err, String, Global, string_bytes, if◌then◌else◌, refl, ap, arith}
 use Rattle.std.proofs.lemmas.Bool.Decides.{nat_tests}
 use Rattle.std.specs.List.{list_any}
 use Rattle.std.specs.Map as entry_map
 use Rattle.std.specs.Prelude.{⊤}
-use Rattle.serde_json.specs.Data.{Data, Items, Members}
+use Rattle.serde_json.specs.Data.{Data, Items}
 use Rattle.serde_json.specs.Find.{as_object}
 use Rattle.serde_json.specs.View.{items_view, members_view}
 use Rattle.serde_json.specs.declared.value.Value.{Value}
@@ -12,7 +12,7 @@ use Rattle.stock_model.specs.declared.read_faults.FieldName.{FieldName}
 use Rattle.stock_model.specs.declared.read_faults.FieldName.TheVariants as field
 use Rattle.stock_model.specs.declared.read_faults.ReadFault.{ReadFault}
 use Rattle.stock_model.specs.declared.read_faults.ReadFault.TheVariants.{BadField, Limit}
-use Rattle.voucher_json.specs.Fields.{items_count, list_outcome, keys_of, is_named, has_other, NoOther}
+use Rattle.voucher_json.specs.Fields.{items_count, list_outcome, keys_of, is_named, NoOther}
 
 items_count-view : (values : List Value) → items_count (items_view values) ≡ length values
 items_count-view [] = refl

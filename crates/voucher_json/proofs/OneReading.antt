@@ -1,27 +1,24 @@
 -- A text is read in one way at most: each step of a walk comes to one outcome at most, and never to want of
 -- memory.
-use Rattle.std.proofs.Common.{◌≡◌, ℕ, ℤ, ◌+◌, pos, Bool, true, false, ◌&&◌, nat_le, is_some, option_and_then, List, [], ◌∷◌, Option, Some, None, Result, Ok, Err, IsTrue, if◌then◌else◌, inl, inr, refl, sym, ap, ◌∙◌, subst}
+use Rattle.std.proofs.Common.{◌≡◌, ℕ, ℤ, ◌+◌, pos, Bool, true, false, ◌&&◌, nat_le, is_some, option_and_then, List, [], ◌∷◌, Option, Some, None, Result, Ok, Err, IsTrue, if◌then◌else◌, inl, inr, sym, ap, ◌∙◌, subst}
 use Rattle.std.specs.Prelude.{⊤}
 use Rattle.serde_json.specs.Data.{Num, unsigned, negative, float, Data, Items, no_items, item}
 use Rattle.serde_json.specs.Find.{get, as_str, as_number, as_array, as_object}
 use Rattle.serde_json.specs.Read.{read}
-use Rattle.stock_nums.specs.MomentText.{SpellsMoment}
 use Rattle.stock_nums.specs.Quantities.{IsLineQuantity, is_line_amount}
 use Rattle.stock_nums.specs.declared.moment.Moment.{Moment}
 use Rattle.stock_nums.proofs.MomentSpelling.{one_moment}
-use Rattle.stock_model.specs.declared.queries.Query.{Query}
 use Rattle.stock_model.specs.declared.read_faults.FieldName.{FieldName}
 use Rattle.stock_model.specs.declared.read_faults.FieldName.TheVariants as field
 use Rattle.stock_model.specs.declared.read_faults.ReadFault.{ReadFault}
 use Rattle.stock_model.specs.declared.read_faults.ReadFault.TheVariants.{BadField, Limit, NoMemory}
 use Rattle.stock_model.specs.declared.requests.Request.{Request}
-use Rattle.stock_model.specs.declared.requests.Request.TheVariants.{Post, Settle, Report}
 use Rattle.stock_model.specs.declared.vouchers.IssueLine.{IssueLine}
 use Rattle.stock_model.specs.declared.vouchers.ReceiptLine.{ReceiptLine}
 use Rattle.voucher_json.specs.Walks.{GoesOn, Then, Ends, Yields, found_or_bad, IsPresent, Field, IsOptional, Optional, Elements}
 use Rattle.voucher_json.specs.FieldNames.{field_text}
 use Rattle.voucher_json.specs.Fields.{IsObject, IsText, choose, IsWord, items_count, has_other, number_outcome, IsNumber, IsMomentText, IsMoment, list_outcome, IsList, NoOther}
-use Rattle.voucher_json.specs.Requests.{kinds, methods, purposes, sheets, formats, IsItem, IsStore, IsReceiptLine, IsIssueLine, IsReceipt, IsIssue, IsReport, IsSettle, IsOfKind, IsRequest, IsReadAs}
+use Rattle.voucher_json.specs.Requests.{kinds, methods, purposes, sheets, formats, IsItem, IsStore, IsReceiptLine, IsIssueLine, IsReceipt, IsIssue, IsReport, IsOfKind, IsRequest, IsReadAs}
 use Rattle.voucher_json.specs.declared.kinds.Kind.{Kind}
 use Rattle.voucher_json.specs.declared.kinds.Kind.TheVariants as kind_of
 use denote.Struct.Props.{props}

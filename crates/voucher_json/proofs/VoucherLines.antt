@@ -7,7 +7,7 @@ use Rattle.serde_json.specs.declared.value.Value.{Value}
 use Rattle.stock_model.specs.declared.read_faults.FieldName.{FieldName}
 use Rattle.stock_model.specs.declared.read_faults.ReadFault.{ReadFault}
 use Rattle.stock_model.specs.declared.read_faults.ReadFault.TheVariants.{NoMemory}
-use Rattle.voucher_json.specs.Walks.{GoesOn, Then, Ends, Elements, OrNoMemory}
+use Rattle.voucher_json.specs.Walks.{GoesOn, Ends, Elements, OrNoMemory}
 
 -- what the rest comes to, after what was read
 abbrev pub after : {A : Type 0} → List A → Result (List A) ReadFault → Result (List A) ReadFault

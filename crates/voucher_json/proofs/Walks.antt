@@ -1,8 +1,8 @@
 -- Steps of a walk, one after another.
-use Rattle.std.proofs.Common.{◌≡◌, ◌⊎◌, Result, Ok, Err, inl, inr, refl}
+use Rattle.std.proofs.Common.{◌≡◌, Result, Ok, Err, inl, inr, refl}
 use Rattle.stock_model.specs.declared.read_faults.ReadFault.{ReadFault}
 use Rattle.stock_model.specs.declared.read_faults.ReadFault.TheVariants.{NoMemory}
-use Rattle.voucher_json.specs.Walks.{GoesOn, Then, OrNoMemory}
+use Rattle.voucher_json.specs.Walks.{Then, OrNoMemory}
 
 -- after a value the next step goes on
 pub goes : {A B : Type 0} (first : Result A ReadFault → Type 0) (next : A → Result B ReadFault → Type 0) (value : A) (end : Result B ReadFault)

@@ -1,5 +1,5 @@
 -- The forms of the fields.
-use Rattle.std.specs.Prelude.{ℕ, ◌+◌, ◌≡◌, ◌⊎◌, ◌&&◌, ◌||◌, Bool, true, false, not, nat_le, List, [], ◌∷◌, Option, Some, None, is_some, option_and_then, Result, Ok, Err, bytes_eq, if◌then◌else◌, ⊤}
+use Rattle.std.specs.Prelude.{ℕ, ◌+◌, ◌≡◌, ◌⊎◌, ◌&&◌, Bool, false, not, nat_le, List, [], ◌∷◌, Option, Some, None, is_some, option_and_then, Result, Ok, Err, bytes_eq, if◌then◌else◌, ⊤}
 use Rattle.std.specs.List.{list_any}
 use Rattle.serde_json.specs.Data.{Num, unsigned, negative, float, Data, Items, no_items, item, Members, no_members, member}
 use Rattle.serde_json.specs.Find.{as_str, as_number, as_array, as_object}

@@ -1,10 +1,9 @@
 -- How a text is read: as the request that it is, or with the first fault of the walk over its fields.
-use Rattle.std.specs.Prelude.{ℕ, ◌≡◌, ◌⊎◌, Bool, true, false, List, [], ◌∷◌, codes, Option, Some, None, unwrap_or, Result, Ok, Err, IsTrue, IsUtf8, pos, ⊤}
+use Rattle.std.specs.Prelude.{ℕ, ◌≡◌, ◌⊎◌, Bool, true, false, List, [], ◌∷◌, codes, Some, None, unwrap_or, Result, Err, IsTrue, IsUtf8, pos, ⊤}
 use Rattle.serde_json.specs.Data.{Data}
 use Rattle.serde_json.specs.Read.{read}
 use Rattle.stock_nums.specs.declared.cause.Method.{Method}
 use Rattle.stock_nums.specs.declared.cause.Method.TheVariants.{Average}
-use Rattle.stock_nums.specs.declared.moment.Moment.{Moment}
 use Rattle.stock_model.specs.Limits.{is_within_limits}
 use Rattle.stock_model.specs.declared.queries.Query.{Query}
 use Rattle.stock_model.specs.declared.queries.Sheet.{Sheet}
