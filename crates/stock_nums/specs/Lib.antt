@@ -1,7 +1,9 @@
 pub mod Calendar
 pub mod Causes
 pub mod Codes
+pub mod FirstIn
 pub mod HalfUp
 pub mod MomentText
+pub mod Part
 pub mod Places
 pub mod Quantities
