@@ -7,6 +7,7 @@ pub mod enough_laws;
 pub mod faults;
 pub mod issued;
 pub mod laws;
+pub mod layers;
 pub mod masters;
 pub mod movements;
 pub mod posting;

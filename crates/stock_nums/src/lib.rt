@@ -11,6 +11,7 @@ pub mod memory;
 pub mod moment;
 pub mod moment_text;
 pub mod numbers;
+pub mod part;
 pub mod place;
 mod sending;
 pub mod steps;
