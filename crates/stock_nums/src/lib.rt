@@ -4,6 +4,7 @@
 pub mod cause;
 pub mod code;
 pub mod entry;
+pub mod first_in;
 pub mod half_up;
 pub mod head;
 pub mod lines;
