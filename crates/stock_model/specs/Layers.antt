@@ -1,5 +1,5 @@
 -- The layers sheet: what is left of what entered, for each item in each warehouse.
-use Rattle.std.specs.Prelude.{◌==◌, pos, List, [], ◌∷◌, map, filter, if◌then◌else◌, unwrap_or}
+use Rattle.std.specs.Prelude.{ℕ, ◌==◌, pos, List, [], ◌∷◌, map, filter, if◌then◌else◌, unwrap_or, unsigned_abs}
 use Rattle.std.specs.Option.{option_map}
 use Rattle.std.specs.List.{find, flat_map}
 use Rattle.stock_nums.specs.declared.cause.Method.{Method}
@@ -61,3 +61,9 @@ layer_rows heads rows key = layer_rows_by (formula_at rows key) heads rows key
 unfoldable pub layers : Query → Selected → List LayerRow
 layers query selected =
     flat_map (layer_rows selected.heads selected.rows) (filter (is_asked_key query selected.heads) (keys_of selected.rows))
+
+abbrev pub shown_units : LayerRow → ℕ
+shown_units row = row.qty.0
+
+abbrev pub shown_value : LayerRow → ℕ
+shown_value row = unsigned_abs row.value.0

@@ -6,6 +6,7 @@ pub mod deeds;
 pub mod enough_laws;
 pub mod faults;
 pub mod issued;
+pub mod layer_laws;
 pub mod laws;
 pub mod layers;
 pub mod masters;
