@@ -163,9 +163,8 @@ All-from_Each P (e ∷ es) all = All-cons P e es all.0 (All-from_Each P es all.1
 -- the movements of a journal have one formula for each item
 pub posting_line-formula : (journal : List Record) → HaveOneFormula (posting_line journal)
 unfolding posting_line all_entries
-posting_line-formula journal =
-    (
-      formula_from 1 journal,
-      All-from_Each (HasFormula (formula_from 1 journal)) (put_all [] (all_entries journal))
+posting_line-formula journal = (
+  formula_from 1 journal,
+  All-from_Each (HasFormula (formula_from 1 journal)) (put_all [] (all_entries journal))
       (put_all-Each (HasFormula (formula_from 1 journal)) [] (all_entries journal) tt (entries_after-formula [] journal)),
-    )
+)

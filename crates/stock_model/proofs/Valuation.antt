@@ -272,9 +272,10 @@ LeavesFirst-next formula rows row key is_fifo held valued passes =
     let leaves = both-second (is_of key row) (not (is_entering row.entry.place.side)) passes in
     let few : units_of row ≤ stock_units rows key = subst (λ (k : Key). units_of row ≤ stock_units rows k) own (valued.units leaves) in
     let method : row.entry.method ≡ Fifo = valued.has ∙ ap (λ (k : Key). formula k.item.0) own ∙ is_fifo in
-    let cost : value_of row ≡ fifo_cost rows row.entry = valued.value leaves ∙ ap (λ (m : Method). cost_by m rows row.entry) method in
-    (omega (arith, few, held, row.entry.quantity.0),
-    cost ∙ ap (λ (k : Key). next_cost units_of value_of (filter (enters_at k) rows) (quantity_out rows k) (units_of row)) own)
+    let cost : value_of row ≡ fifo_cost rows row.entry = valued.value leaves ∙ ap (λ (m : Method). cost_by m rows row.entry) method in (
+      omega (arith, few, held, row.entry.quantity.0),
+      cost ∙ ap (λ (k : Key). next_cost units_of value_of (filter (enters_at k) rows) (quantity_out rows k) (units_of row)) own,
+    )
 
 -- of a key that is costed by the moving average, the last units take all the value that is left
 empty-next : (formula : ℕ → Method) (rows : List Row) (row : Row) (key : Key) → formula key.item.0 ≡ Average → value_out rows key ≤ value_in rows key → quantity_out rows key ≤ quantity_in rows key

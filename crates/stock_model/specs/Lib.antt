@@ -20,3 +20,4 @@ pub mod Enough
 pub mod Holdings
 pub mod WorkedShortages
 pub mod WorkedIssues
+pub mod WorkedLayers

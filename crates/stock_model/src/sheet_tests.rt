@@ -1,10 +1,11 @@
-//! A journal from its posting line to its balance sheet.
+//! A journal from its posting line to its balance sheet and its layers.
 ghost use Rattle.std.specs.Prelude.{◌^◌, ◌<◌, length, IsTrue, IfOk, IfSome};
 ghost use Rattle.stock_nums.specs.Calendar.{IsCalendarDate};
 ghost use Rattle.stock_model.specs.Bounds.{AreBounded};
 ghost use Rattle.stock_model.specs.Limits.{is_within_limits};
 
 use crate::enough_laws::no_shortage_is_enough;
+use crate::layers::layers;
 use crate::masters::heads;
 use crate::posting::posting_line;
 use crate::queries::{Query, Selected, Sheet};
@@ -132,5 +133,10 @@ fn a_receipt_of_the_day_before(rt: HostRuntime) -> Result<(), Fail> {
     assert_eq!(rt; row.store.text(), "W1");
     assert_eq!(rt; row.qty, Qty(14));
     assert_eq!(rt; row.value, Minor(1400));
+    let shown = layers(alloc, &query, &selected)?;
+    assert_eq!(rt; shown.len(), 1);
+    let row = &shown.as_slice()[0];
+    assert_eq!(rt; (row.voucher, row.line), (RecordNo(0), 0));
+    assert_eq!(rt; (row.qty, row.value), (Qty(14), Minor(1400)));
     Ok(())
 }

@@ -31,11 +31,10 @@ loop-entry-preserved c =
     let rows = c.loop-entry.rows in
     let e = c.entry-item.result in
     let row : c.valued-row.result ≡ valued rows e = c.valued-row.ensures ∙ ap (λ (before : List Row). valued before e) c.as_slice.ensures in
-    let pushed : c.push.new.self ≡ rows ++ valued rows e ∷ [] = c.in_ok-push.ensures.added ∙ ap (λ (r : Row). rows ++ r ∷ []) row in
-    (
+    let pushed : c.push.new.self ≡ rows ++ valued rows e ∷ [] = c.in_ok-push.ensures.added ∙ ap (λ (r : Row). rows ++ r ∷ []) row in (
       c.loop-entry.invariant.0,
       subst (λ (new : List Row). Valuing c.loop-entry.invariant.0.0 c.args.line.now new (c.loop-entry.entry-index + 1)) (sym pushed)
-      (Valuing-next c.loop-entry.invariant.0.0 c.args.line.now rows c.loop-entry.entry-index e c.loop-entry.invariant.1 c.loop-entry-test.true c.entry-item.is c.loop-entry.invariant.0.1 c.requires.enough c.requires.few),
+          (Valuing-next c.loop-entry.invariant.0.0 c.args.line.now rows c.loop-entry.entry-index e c.loop-entry.invariant.1 c.loop-entry-test.true c.entry-item.is c.loop-entry.invariant.0.1 c.requires.enough c.requires.few),
     )
 
 pub returns-in_err-push-clause-bounded : goal.returns-in_err-push-clause-bounded
