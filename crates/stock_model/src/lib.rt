@@ -9,6 +9,7 @@ pub mod issued;
 pub mod laws;
 pub mod masters;
 pub mod movements;
+pub mod names;
 pub mod posting;
 pub mod queries;
 pub mod read_faults;
