@@ -1,7 +1,6 @@
 -- The items and warehouses of a journal with one more record.
-use Rattle.std.proofs.Common.{◌≡◌, ℕ, ◌+◌, ◌<◌, List, [], ◌∷◌, ◌++◌, length, false, Option, None, Some, Result, Ok, Err, refl, sym, ap, ◌∙◌, arith}
+use Rattle.std.proofs.Common.{◌≡◌, ℕ, ◌+◌, ◌<◌, List, [], ◌∷◌, ◌++◌, length, Option, None, Some, refl, sym, ap, ◌∙◌, arith}
 use Rattle.std.specs.Option.{option_to_list}
-use Rattle.std.specs.Result.{is_err, OnOk}
 use Rattle.std.specs.List.{filter_map, enumerate_from}
 use Rattle.std.proofs.lemmas.List.{length-append}
 use Rattle.std.proofs.lemmas.List.Elements.{filter_map-append}
@@ -11,11 +10,6 @@ use Rattle.stock_model.specs.Faults.{max_records}
 use Rattle.stock_model.specs.Masters.{item_numbered, store_numbered}
 use Rattle.voucher_kinds.specs.Heads.{with_made}
 use Rattle.voucher_kinds.specs.Journals.{master_of, IsJournal}
-
--- a call that was no error
-pub on_ok-not_err : {T E P : Type 0} (r : Result T E) → is_err r ≡ false → OnOk r P → P
-on_ok-not_err (Ok x) is holds = holds
-on_ok-not_err (Err y) is holds = absurd (cc)
 
 -- one more element has the next number
 enumerate_from-push : {X : Type 0} (n : ℕ) (xs : List X) (x : X) → enumerate_from n (xs ++ x ∷ []) ≡ enumerate_from n xs ++ (n + length xs, x) ∷ []
@@ -43,9 +37,9 @@ master_of-push journal item =
     rw (filter_map-push item_numbered 1 journal item, filter_map-push store_numbered 1 journal item, at) refl
 
 -- a journal with one more record
-pub IsJournal-push : (journal : List Record) (master : MasterState) (item : Record) → IsJournal journal master → length journal < max_records
-    → IsJournal (journal ++ item ∷ []) (with_made master (length journal + 1) item.what)
-IsJournal-push journal master item is room = record {
-  few = rw (length-append journal (item ∷ [])) (omega (arith, room));
-  master_is = ap (λ (m : MasterState). with_made m (length journal + 1) item.what) is.master_is ∙ sym (master_of-push journal item);
+pub IsJournal-push : (journal new : List Record) (master with_it : MasterState) (item : Record) (n : ℕ) → IsJournal journal master → length journal < max_records
+    → n ≡ length journal + 1 → new ≡ journal ++ item ∷ [] → with_it ≡ with_made master n item.what → IsJournal new with_it
+IsJournal-push journal new master with_it item n is room number grows adds = record {
+  few = rw (grows, length-append journal (item ∷ [])) (omega (arith, room));
+  master_is = rw (grows, adds, number, is.master_is) (sym (master_of-push journal item));
 }
