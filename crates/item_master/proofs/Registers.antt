@@ -9,7 +9,7 @@ use Rattle.stock_nums.specs.declared.cause.Method.{Method}
 use Rattle.stock_nums.specs.declared.numbers.AccountNo.{AccountNo}
 use Rattle.stock_nums.specs.declared.numbers.ItemNo.{ItemNo}
 use Rattle.stock_nums.specs.declared.numbers.StoreNo.{StoreNo}
-use Rattle.item_master.specs.Heads.{item_in, store_in}
+use Rattle.stock_nums.specs.Heads.{item_in, store_in}
 use Rattle.item_master.specs.Register.{value_of, AreApart, IsRegister, item_head, store_head}
 
 -- a code with no value is not the first entry's, and has none among the others

@@ -3,7 +3,7 @@ use Rattle.std.specs.Prelude.{ℕ, List, Option, Some, None, is_some, if◌then�
 use Rattle.stock_nums.specs.Codes.{is_code}
 use Rattle.item_master.specs.declared.faults.MasterFault.{MasterFault}
 use Rattle.item_master.specs.declared.faults.MasterFault.TheVariants.{CodeTaken, CodeShape, AccountRange}
-use Rattle.item_master.specs.Heads.{ItemHead, StoreHead, item_in, store_in}
+use Rattle.stock_nums.specs.Heads.{ItemHead, StoreHead, item_in, store_in}
 
 -- the code is not of the stated shape
 abbrev pub code_shape : List ℕ → Option MasterFault

@@ -1,4 +1,3 @@
-pub mod Heads
 pub mod Faults
 pub mod Register
 pub mod State

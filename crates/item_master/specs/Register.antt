@@ -7,7 +7,7 @@ use Rattle.stock_nums.specs.declared.cause.Method.{Method}
 use Rattle.stock_nums.specs.declared.numbers.AccountNo.{AccountNo}
 use Rattle.stock_nums.specs.declared.numbers.ItemNo.{ItemNo}
 use Rattle.stock_nums.specs.declared.numbers.StoreNo.{StoreNo}
-use Rattle.item_master.specs.Heads.{ItemHead, StoreHead}
+use Rattle.stock_nums.specs.Heads.{ItemHead, StoreHead}
 
 module _ {V : Type 0} where
   -- the first value with this code

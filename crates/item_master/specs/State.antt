@@ -1,6 +1,6 @@
 -- A master as contracts see it.
 use Rattle.std.specs.Prelude.{List}
-use Rattle.item_master.specs.Heads.{ItemHead, StoreHead}
+use Rattle.stock_nums.specs.Heads.{ItemHead, StoreHead}
 
 -- the items and the warehouses, each in the order in which they were added
 pub record MasterState : Type 0 where

@@ -1,6 +1,6 @@
 ghost use Rattle.std.specs.Prelude.{◌≡◌, ◌-◌, [], ◌∷◌, ◌++◌, length, take, None, unwrap_or, IfErr, OnOk, OnErr};
 ghost use Rattle.item_master.specs.Faults.{item_fault, store_fault};
-ghost use Rattle.item_master.specs.Heads.{item_in, store_in};
+ghost use Rattle.stock_nums.specs.Heads.{item_in, store_in};
 
 use crate::faults::MasterFault;
 use crate::register::Register;

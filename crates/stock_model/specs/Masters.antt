@@ -1,28 +1,15 @@
 -- The items and warehouses of a journal. A record's number is its place in the journal, from 1.
-use Rattle.std.specs.Prelude.{ℕ, zero, suc, Bool, List, [], Option, Some, None, option_and_then, unwrap_or, nat_eq, slice_get}
-use Rattle.std.specs.Option.{option_map}
-use Rattle.std.specs.List.{find, filter_map, enumerate_from}
-use Rattle.std.specs.Cmp.Lexicographic.{pointwise}
+use Rattle.std.specs.Prelude.{ℕ, zero, suc, List, [], Option, Some, None, option_and_then, unwrap_or, slice_get}
+use Rattle.std.specs.List.{filter_map, enumerate_from}
 use Rattle.stock_nums.specs.declared.cause.Method.{Method}
 use Rattle.stock_nums.specs.declared.head.Head.{Head}
 use Rattle.stock_nums.specs.declared.numbers.AccountNo.{AccountNo}
 use Rattle.stock_nums.specs.declared.numbers.ItemNo.{ItemNo}
 use Rattle.stock_nums.specs.declared.numbers.StoreNo.{StoreNo}
+use Rattle.stock_nums.specs.Heads.{ItemHead, StoreHead, item_in, store_in}
 use Rattle.stock_model.specs.declared.vouchers.What.{What}
 use Rattle.stock_model.specs.declared.vouchers.What.TheVariants.{Item, Store, Receipt, Issue}
 use Rattle.stock_model.specs.declared.records.Record.{Record}
-
--- an item: the number of the record that made it, its code and its cost formula (IAS 2.25)
-pub record ItemHead : Type 0 where
-  pub number : ℕ
-  pub code : List ℕ
-  pub method : Method
-
--- a warehouse: the number of the record that made it, its code and its ledger account
-pub record StoreHead : Type 0 where
-  pub number : ℕ
-  pub code : List ℕ
-  pub account : ℕ
 
 -- the item that the record with this number makes, if it makes one
 abbrev pub item_made : ℕ → What → Option ItemHead
@@ -66,27 +53,13 @@ stores journal = filter_map store_numbered (enumerate_from 1 journal)
 abbrev pub heads : List Record → List Head
 heads journal = filter_map head_numbered (enumerate_from 1 journal)
 
-abbrev pub has_item_code : List ℕ → ItemHead → Bool
-has_item_code code head = pointwise nat_eq head.code code
-
-abbrev pub has_store_code : List ℕ → StoreHead → Bool
-has_store_code code head = pointwise nat_eq head.code code
-
--- an item as it is found: its number and its cost formula
-abbrev pub item_found : ItemHead → ItemNo × Method
-item_found head = (record { 0 = head.number }, head.method)
-
--- a warehouse as it is found: its number and its account
-abbrev pub store_found : StoreHead → StoreNo × AccountNo
-store_found head = (record { 0 = head.number }, record { 0 = head.account })
-
 -- the item with this code
 abbrev pub item_with : List Record → List ℕ → Option (ItemNo × Method)
-item_with journal code = option_map item_found (find (has_item_code code) (items journal))
+item_with journal code = item_in (items journal) code
 
 -- the warehouse with this code. Items and warehouses may have the same codes
 abbrev pub store_with : List Record → List ℕ → Option (StoreNo × AccountNo)
-store_with journal code = option_map store_found (find (has_store_code code) (stores journal))
+store_with journal code = store_in (stores journal) code
 
 -- the record with this number, from 1
 abbrev pub record_at : List Record → ℕ → Option Record

@@ -1,10 +1,9 @@
 //! What leaves by an issue.
-ghost use Rattle.std.specs.Prelude.{◌≡◌, ◌+◌, ◌^◌, ◌<◌, ◌≤◌, length, IfOk};
+ghost use Rattle.std.specs.Prelude.{◌≡◌, ◌≤◌, length, IfOk};
 ghost use Rattle.std.specs.List.{filter_map, enumerate_from};
 ghost use Rattle.stock_model.specs.Entries.{is_sold, issued, issued_line};
 
-use crate::masters::{item_with, store_with};
-use crate::records::Record;
+use crate::names::Names;
 use crate::vouchers::{IssueLine, Purpose};
 use std::alloc::Global;
 use stock_nums::cause::{Cause, Method};
@@ -15,40 +14,40 @@ use stock_nums::moment::Moment;
 use stock_nums::numbers::{AccountNo, ItemNo, RecordNo, StoreNo};
 use stock_nums::place::{Place, Side};
 
-/// What leaves by the lines of an issue at the moment, read as the next record after these.
-pub fn all_issued(
+/// What leaves by the lines of an issue with this number at the moment, their items and warehouses found
+/// among these. A line whose item or warehouse is unknown makes nothing leave.
+pub fn all_issued<N: Names>(
     alloc: Global,
-    records: &[Record],
+    names: &N,
+    voucher: RecordNo,
     at: Moment,
     purpose: Purpose,
     lines: &[IssueLine],
 ) -> Result<Lines<Entry>, NoMemory>
-    requires records { length records.now + 1 < 2 ^ 32 }
-    requires lines { length lines.now ≤ 100 }
-    ensures { IfOk result (λ es. es ≡ filter_map (issued_line records.now (length records.now + 1) at purpose) (enumerate_from 1 lines.now)) }
+    requires { length lines.now ≤ 100 }
+    ensures { IfOk result (λ es. es ≡ filter_map (issued_line (N.journal names.now) voucher.0 at purpose) (enumerate_from 1 lines.now)) }
 {
     let mut entries = Lines::new(alloc);
     for (i, line) in lines.iter().enumerate() {
-        if let Some(entry) = issued_line(records, at, purpose, i as u32 + 1, line) {
+        if let Some(entry) = issued_line(names, voucher, at, purpose, i as u32 + 1, line) {
             entries.push(entry)?;
         }
     }
     Ok(entries)
 }
 
-fn issued_line(
-    records: &[Record],
+fn issued_line<N: Names>(
+    names: &N,
+    voucher: RecordNo,
     at: Moment,
     purpose: Purpose,
     number: u32,
     line: &IssueLine,
 ) -> Option<Entry>
-    requires { length records.now + 1 < 2 ^ 32 }
-    ensures { result ≡ issued_line records.now (length records.now + 1) at purpose (number, line.now) }
+    ensures { result ≡ issued_line (N.journal names.now) voucher.0 at purpose (number, line.now) }
 {
-    let item = item_with(records, &line.item)?;
-    let store = store_with(records, &line.store)?;
-    let voucher = RecordNo(records.len() as u32 + 1);
+    let item = names.item_with(&line.item)?;
+    let store = names.store_with(&line.store)?;
     Some(leaving(voucher, at, purpose, number, line, item, store))
 }
 

@@ -11,6 +11,7 @@ pub mod layer_laws;
 pub mod layers;
 pub mod masters;
 pub mod movements;
+pub mod names;
 pub mod posting;
 pub mod queries;
 pub mod read_faults;

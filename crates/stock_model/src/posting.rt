@@ -3,11 +3,13 @@ ghost use Rattle.std.specs.Prelude.{◌≡◌, ◌^◌, ◌<◌, ◌≤◌, leng
 ghost use Rattle.stock_model.specs.PostingOrder.{put, put_all, posting_line};
 
 use crate::movements::entries;
+use crate::names::Listed;
 use crate::records::Record;
 use std::alloc::Global;
 use stock_nums::entry::Entry;
 use stock_nums::lines::Lines;
 use stock_nums::memory::NoMemory;
+use stock_nums::numbers::RecordNo;
 
 // Where the entry goes: the index of the first that comes after it.
 fn index_for(line: &[Entry], entry: &Entry) -> usize
@@ -48,7 +50,11 @@ pub fn posting_line(alloc: Global, records: &[Record]) -> Result<Lines<Entry>, N
 {
     let mut line = Lines::new(alloc);
     for index in 0..records.len() {
-        let new = entries(alloc, &records[..index], &records[index])?;
+        let before = Listed {
+            records: &records[..index],
+        };
+        let number = RecordNo(index as u32 + 1);
+        let new = entries(alloc, &before, number, &records[index])?;
         put_all(&mut line, new.as_slice())?;
     }
     Ok(line)

@@ -1,34 +1,34 @@
 //! Why a record is refused, whatever room there is.
-ghost use Rattle.std.specs.Prelude.{◌≡◌, ◌^◌, ◌<◌, ◌≤◌, length, map, if◌then◌else◌, nat_le, ◌&&◌, Some, None};
+ghost use Rattle.std.specs.Prelude.{◌≡◌, ◌≤◌, length, map, if◌then◌else◌, nat_le, ◌&&◌, Some, None};
 ghost use Rattle.stock_nums.specs.Codes.{is_code};
 ghost use Rattle.std.specs.Option.{option_map, option_or};
 ghost use Rattle.stock_model.specs.Faults.{first_line, lacks_item, lacks_store, voucher_fault};
 
 use crate::faults::PostFault;
-use crate::masters::{item_with, store_with};
+use crate::names::Names;
 use crate::records::Record;
 use crate::stock_lines::StockLine;
 use crate::vouchers::What;
 use stock_nums::code::Code;
 use stock_nums::numbers::AccountNo;
 
-/// The first fault of what a record says, read as the next one after these. It looks for a taken code,
-/// for a code and an account out of shape and range, for an unknown item, and for an unknown warehouse. None exactly where there is none.
-pub fn voucher_fault(records: &[Record], item: &Record) -> Option<PostFault>
-    requires { length records.now < 2 ^ 32 }
-    ensures { result ≡ voucher_fault records.now item.now.what }
+/// The first fault of what a record says, read as the next one of the journal with these items and
+/// warehouses. It looks for a taken code, for a code and an account out of shape and range, for an unknown
+/// item, and for an unknown warehouse. None exactly where there is none.
+pub fn voucher_fault<N: Names>(names: &N, item: &Record) -> Option<PostFault>
+    ensures { result ≡ voucher_fault (N.journal names.now) item.now.what }
 {
     match &item.what {
-        What::Item { code, method: _ } => code_fault(item_with(records, code).is_some(), code),
+        What::Item { code, method: _ } => code_fault(names.item_with(code).is_some(), code),
         What::Store { code, account } => {
-            store_fault(store_with(records, code).is_some(), code, *account)
+            store_fault(names.store_with(code).is_some(), code, *account)
         }
-        What::Receipt { at: _, lines } => unknown_name(records, lines.as_slice()),
+        What::Receipt { at: _, lines } => unknown_name(names, lines.as_slice()),
         What::Issue {
             at: _,
             purpose: _,
             lines,
-        } => unknown_name(records, lines.as_slice()),
+        } => unknown_name(names, lines.as_slice()),
     }
 }
 
@@ -59,40 +59,37 @@ fn store_fault(taken: bool, code: &Code, account: AccountNo) -> Option<PostFault
 }
 
 // The first unknown item that the lines name, or else the first unknown warehouse.
-fn unknown_name<T: StockLine>(records: &[Record], lines: &[T]) -> Option<PostFault>
-    requires records { length records.now < 2 ^ 32 }
-    requires lines { length lines.now ≤ 100 }
-    ensures { result ≡ option_or (option_map PostFault.UnknownItem (first_line (lacks_item records.now) 1 (map T.item_code lines.now))) (option_map PostFault.UnknownStore (first_line (lacks_store records.now) 1 (map T.store_code lines.now))) }
+fn unknown_name<N: Names, T: StockLine>(names: &N, lines: &[T]) -> Option<PostFault>
+    requires { length lines.now ≤ 100 }
+    ensures { result ≡ option_or (option_map PostFault.UnknownItem (first_line (lacks_item (N.journal names.now)) 1 (map T.item_code lines.now))) (option_map PostFault.UnknownStore (first_line (lacks_store (N.journal names.now)) 1 (map T.store_code lines.now))) }
 {
-    if let Some(line) = unknown_item(records, lines) {
+    if let Some(line) = unknown_item(names, lines) {
         return Some(PostFault::UnknownItem { line });
     }
-    if let Some(line) = unknown_store(records, lines) {
+    if let Some(line) = unknown_store(names, lines) {
         return Some(PostFault::UnknownStore { line });
     }
     None
 }
 
-fn unknown_item<T: StockLine>(records: &[Record], lines: &[T]) -> Option<u32>
-    requires records { length records.now < 2 ^ 32 }
-    requires lines { length lines.now ≤ 100 }
-    ensures { result ≡ first_line (lacks_item records.now) 1 (map T.item_code lines.now) }
+fn unknown_item<N: Names, T: StockLine>(names: &N, lines: &[T]) -> Option<u32>
+    requires { length lines.now ≤ 100 }
+    ensures { result ≡ first_line (lacks_item (N.journal names.now)) 1 (map T.item_code lines.now) }
 {
     for (i, line) in lines.iter().enumerate() {
-        if item_with(records, line.item()).is_none() {
+        if names.item_with(line.item()).is_none() {
             return Some(i as u32 + 1);
         }
     }
     None
 }
 
-fn unknown_store<T: StockLine>(records: &[Record], lines: &[T]) -> Option<u32>
-    requires records { length records.now < 2 ^ 32 }
-    requires lines { length lines.now ≤ 100 }
-    ensures { result ≡ first_line (lacks_store records.now) 1 (map T.store_code lines.now) }
+fn unknown_store<N: Names, T: StockLine>(names: &N, lines: &[T]) -> Option<u32>
+    requires { length lines.now ≤ 100 }
+    ensures { result ≡ first_line (lacks_store (N.journal names.now)) 1 (map T.store_code lines.now) }
 {
     for (i, line) in lines.iter().enumerate() {
-        if store_with(records, line.store()).is_none() {
+        if names.store_with(line.store()).is_none() {
             return Some(i as u32 + 1);
         }
     }

@@ -3,6 +3,7 @@ pub mod Causes
 pub mod Codes
 pub mod FirstIn
 pub mod HalfUp
+pub mod Heads
 pub mod MomentText
 pub mod Part
 pub mod Places

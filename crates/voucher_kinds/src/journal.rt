@@ -1,38 +1,57 @@
-ghost use Rattle.std.specs.Prelude.{◌≡◌, ◌⊎◌, ◌<◌, ◌≤◌, [], ◌∷◌, ◌++◌, length, take, IfOk, OnOk, OnErr, IfErr, Some, None};
+ghost use Rattle.std.specs.Prelude.{◌≡◌, ◌⊎◌, ◌+◌, ◌<◌, ◌≤◌, [], ◌∷◌, ◌++◌, length, take, IfOk, OnOk, OnErr, IfErr, Some, None};
 ghost use Rattle.std.specs.Option.{option_copied};
 ghost use Rattle.stock_model.specs.Faults.{max_records, voucher_fault};
 ghost use Rattle.stock_model.specs.Entries.{entries, entries_of};
 ghost use Rattle.stock_model.specs.Masters.{record_at};
 
+use crate::heads;
+use item_master::master::Master;
 use std::alloc::Global;
 use std::marker::Model;
 use stock_model::faults::PostFault;
+use stock_model::names::{Listed, Names};
 use stock_model::records::Record;
 use stock_model::{movements, refusals};
+use stock_nums::cause::Method;
+use stock_nums::code::Code;
 use stock_nums::entry::Entry;
 use stock_nums::lines::Lines;
 use stock_nums::memory::NoMemory;
-use stock_nums::numbers::RecordNo;
+use stock_nums::numbers::{AccountNo, ItemNo, RecordNo, StoreNo};
 
 /// How many records a journal holds at most.
 pub const MAX_RECORDS: usize = 50_000;
 
-/// The accepted records in the order of their numbers. Contracts see it as their list.
+/// The accepted records in the order of their numbers, and their items and warehouses, which are found
+/// without going over the records. Contracts see it as the list of the records.
 #[derive(Drop)]
 pub struct Journal {
     records: Lines<Record>,
+    master: Master,
 }
 
 impl Model for Journal {
-    ghost use Rattle.std.specs.Prelude.{List, ◌≤◌, length};
+    ghost use Rattle.std.specs.Prelude.{List};
     ghost use Rattle.stock_model.specs.declared.records.Record.{Record};
-    ghost use Rattle.stock_model.specs.Faults.{max_records};
+    ghost use Rattle.voucher_kinds.specs.Journals.{IsJournal};
 
     ghost Value = { List Record };
 
     ghost view = { λ journal. journal.records };
 
-    ghost invariant = { λ journal. length journal.records ≤ max_records };
+    ghost invariant = { λ journal. IsJournal journal.records journal.master };
+}
+
+impl Names for Journal {
+    ghost journal = { λ journal. journal };
+
+    fn item_with(&self, code: &Code) -> Option<(ItemNo, Method)> {
+        self.master.item(code)
+    }
+
+    fn store_with(&self, code: &Code) -> Option<(StoreNo, AccountNo)> {
+        self.master.store(code)
+    }
 }
 
 impl Journal {
@@ -42,6 +61,7 @@ impl Journal {
     {
         Journal {
             records: Lines::new(alloc),
+            master: Master::new(alloc),
         }
     }
 
@@ -51,11 +71,10 @@ impl Journal {
         ensures entries { IfOk result (λ es. es ≡ entries self.now item.now) }
         ensures fault { IfErr result (λ f. (f ≡ PostFault.NoMemory) ⊎ (voucher_fault self.now item.now.what ≡ Some f)) }
     {
-        let records = self.records.as_slice();
-        if let Some(fault) = refusals::voucher_fault(records, item) {
+        if let Some(fault) = refusals::voucher_fault(self, item) {
             return Err(fault);
         }
-        match movements::entries(alloc, records, item) {
+        match movements::entries(alloc, self, self.next(), item) {
             Ok(entries) => Ok(entries),
             Err(_) => Err(PostFault::NoMemory),
         }
@@ -69,9 +88,25 @@ impl Journal {
         ensures number { IfOk result (λ n. n.0 ≡ length self.new) }
         ensures unchanged { OnErr result (self.new ≡ self.old) }
     {
-        let number = RecordNo(self.records.len() as u32 + 1);
-        self.records.push(item)?;
-        Ok(number)
+        let number = self.next();
+        let made = heads::made_by(&item.what);
+        if heads::add_made(&mut self.master, number, &item.what).is_err() {
+            return Err(NoMemory);
+        }
+        match self.records.push(item) {
+            Ok(()) => Ok(number),
+            Err(_) => {
+                heads::take_away(&mut self.master, made);
+                Err(NoMemory)
+            }
+        }
+    }
+
+    // The number of the next record.
+    fn next(&self) -> RecordNo
+        ensures { result.0 ≡ length self.now + 1 }
+    {
+        RecordNo(self.records.len() as u32 + 1)
     }
 
     /// The record with this number. None exactly where the number is 0 or greater than the count.
@@ -107,8 +142,11 @@ impl Journal {
         ensures { IfOk result (λ es. es ≡ entries_of self.now number.0) }
     {
         let records = self.records.as_slice();
-        let before = number.0 as usize - 1;
-        movements::entries(alloc, &records[..before], &records[before])
+        let index = number.0 as usize - 1;
+        let before = Listed {
+            records: &records[..index],
+        };
+        movements::entries(alloc, &before, number, &records[index])
     }
 }
 

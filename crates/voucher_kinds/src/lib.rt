@@ -5,5 +5,6 @@ pub use stock_model::faults::PostFault;
 pub use stock_model::records::Record;
 pub use stock_model::vouchers::{ReceiptLine, What};
 
+mod heads;
 pub mod journal;
 mod sending;

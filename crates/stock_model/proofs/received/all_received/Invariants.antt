@@ -1,10 +1,10 @@
 -- What enters by the lines so far and by those left is what enters by all.
-use Rattle.std.proofs.Common.{◌≡◌, ◌+◌, ◌++◌, drop, length}
+use Rattle.std.proofs.Common.{◌≡◌, ◌+◌, ◌++◌, drop}
 use Rattle.std.specs.List.{filter_map, enumerate_from}
 use Rattle.stock_model.specs.Entries.{received_line}
 use Rattle.stock_model.proofs.received.all_received.Given as goal
 
 abbrev pub invariant-loop-i : goal.invariant-loop-i
-invariant-loop-i l =
-    let by = received_line l.records (length l.records + 1) l.at in
+invariant-loop-i g l =
+    let by = received_line (g.N.Names.journal l.names) l.voucher.0 l.at in
     l.entries ++ filter_map by (enumerate_from (l.i + 1) (drop l.i l.lines)) ≡ filter_map by (enumerate_from 1 l.lines)

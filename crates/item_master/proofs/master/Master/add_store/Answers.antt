@@ -1,6 +1,6 @@
 -- Without a fault nothing has the code.
 use Rattle.std.proofs.Common.{sym, ap, ◌∙◌}
-use Rattle.item_master.specs.Heads.{store_in}
+use Rattle.stock_nums.specs.Heads.{store_in}
 use Rattle.item_master.specs.State.{MasterState}
 use Rattle.item_master.proofs.Registers.{store_in-heads, absent_from}
 use Rattle.item_master.proofs.master.Master.add_store.Goals as goal

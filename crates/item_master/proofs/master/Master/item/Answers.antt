@@ -1,6 +1,6 @@
 -- The register finds what the list of heads has.
 use Rattle.std.proofs.Common.{sym, ap, ◌∙◌}
-use Rattle.item_master.specs.Heads.{item_in}
+use Rattle.stock_nums.specs.Heads.{item_in}
 use Rattle.item_master.specs.State.{MasterState}
 use Rattle.item_master.proofs.Registers.{item_in-heads}
 use Rattle.item_master.proofs.master.Master.item.Goals as goal

@@ -7,4 +7,4 @@ use Rattle.voucher_kinds.proofs.journal.Journal.entries_of.Goals as goal
 pub returns : goal.returns
 returns c =
     let same : c.as_slice-records.result.now ≡ c.args.self.now = cc in
-    IfOk-weaker c.entries.result _ _ (λ es e. e ∙ sym (rw (← same) (entries_of-index c.as_slice-records.result.now c.args.number.0 c.index-records-before.result c.requires.one (rw same c.requires.held) c.index-records-before.is))) c.entries.ensures
+    IfOk-weaker c.entries.result _ _ (λ es e. e ∙ sym (rw (← same) (entries_of-index c.as_slice-records.result.now c.args.number.0 c.index-records-index.result c.requires.one (rw same c.requires.held) c.index-records-index.is))) c.entries.ensures
