@@ -17,7 +17,8 @@ use Rattle.stock_model.specs.declared.vouchers.What.{What}
 use Rattle.stock_model.specs.declared.vouchers.What.TheVariants.{Item, Store, Receipt, Issue}
 use Rattle.stock_model.specs.Entries.{received, received_line, issued, issued_line, movements, entries, entries_after, all_entries}
 use Rattle.stock_model.specs.Formulas.{HasFormula, HaveOneFormula}
-use Rattle.stock_model.specs.Masters.{ItemHead, has_item_code, item_found, item_made, item_numbered, item_with, store_with}
+use Rattle.stock_nums.specs.Heads.{ItemHead, has_item_code, item_found}
+use Rattle.stock_model.specs.Masters.{item_made, item_numbered, item_with, store_with}
 use Rattle.stock_model.specs.PostingOrder.{put, put_all, posting_line}
 use Rattle.stock_model.proofs.Pairwise.{Each, Each-append}
 
