@@ -1,0 +1,5 @@
+//! The movements of a book in posting order, each found by its place without going over them all.
+#![tactic(auto)]
+
+mod sending;
+pub mod timeline;

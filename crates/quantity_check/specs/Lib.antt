@@ -1,0 +1,4 @@
+pub mod Kept
+pub mod State
+pub mod OwnPlaces
+pub mod Shorts

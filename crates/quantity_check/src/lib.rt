@@ -1,0 +1,5 @@
+//! Whether there is enough of each item in each warehouse at all moments, kept as movements are added.
+#![tactic(auto)]
+
+pub mod running;
+mod sending;
