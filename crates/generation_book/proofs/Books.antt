@@ -5,7 +5,15 @@ use Rattle.std.proofs.lemmas.Bool.{lt-ltb, le-ltb}
 use Rattle.std.proofs.lemmas.Bool.Decides.{nat_tests}
 use Rattle.std.proofs.lemmas.List.{take-append-le, take_all}
 use Rattle.stock_model.proofs.Enough.{IsEnough-nil, IsEnough-from_none}
-use Rattle.stock_model.proofs.Growth.{all_entries-snoc, posting_line-snoc, length-put_all, length-posting_line}
+use Rattle.stock_model.proofs.Formulas.{posting_line-formula}
+use Rattle.stock_model.proofs.PostingLine.{IsInPostingOrder-posting_line}
+use Rattle.stock_model.specs.InOrder.{IsInPostingOrder}
+use Rattle.quantity_check.specs.declared.running.Short.{Short}
+use Rattle.quantity_check.specs.OwnPlaces.{HaveOwnPlaces}
+use Rattle.quantity_check.specs.Shorts.{short_of as lacks_of}
+use Rattle.quantity_check.proofs.OwnPlaceLemmas.{HaveOwnPlaces-put_all}
+use Rattle.generation_book.specs.Shorts.{fault_of}
+use Rattle.stock_model.proofs.Growth.{all_entries-snoc, posting_line-snoc, length-posting_line}
 use Rattle.stock_model.proofs.Valuation.{AreBounded-rows_of}
 use Rattle.stock_nums.specs.declared.entry.Entry.{Entry}
 use Rattle.stock_nums.specs.declared.entry.Row.{Row}
@@ -197,7 +205,7 @@ IsBook-start =
       covers = refl;
       within = omega arith;
       valued = refl;
-      bounded = AreBounded-rows_of [] (omega arith) IsEnough-nil;
+      bounded = AreBounded-rows_of [] (posting_line-formula []) (omega arith) IsEnough-nil;
       legal = tt;
     }
 
@@ -221,13 +229,34 @@ pub history-covered : (events : List Event) (journal : List Record) (line : List
 history-covered events journal line c rows told book is = ap history.covered (sym is) ∙ sym book.covers
 
 -- the line with the movements of one more record put among its own
-pub posting_line-merged : (journal : List Record) (item : Record) (line es all : List Entry) → line ≡ posting_line journal → es ≡ entries journal item → all ≡ put_all line es
-    → all ≡ posting_line (journal ++ item ∷ [])
-posting_line-merged journal item line es all posted new is = is ∙ rw (posted, new) (sym (posting_line-snoc journal item))
+pub put_all-entries : (journal : List Record) (item : Record) (line es : List Entry) → line ≡ posting_line journal → es ≡ entries journal item
+    → put_all line es ≡ posting_line (journal ++ item ∷ [])
+put_all-entries journal item line es posted new = rw (posted, new) (sym (posting_line-snoc journal item))
 
--- its movements are few
-pub length-merged : (line es all : List Entry) → all ≡ put_all line es → length all ≡ length line + length es
-length-merged line es all is = ap length is ∙ length-put_all line es
+-- these have places of their own
+pub entries-own_places : (journal : List Record) (item : Record) (line es : List Entry) → line ≡ posting_line journal → es ≡ entries journal item → HaveOwnPlaces (line ++ es)
+entries-own_places journal item line es posted new =
+    HaveOwnPlaces-put_all line es
+    (subst IsInPostingOrder (sym (put_all-entries journal item line es posted new)) (IsInPostingOrder-posting_line (journal ++ item ∷ [])))
+
+-- where there is always enough with them, there is with the record
+pub entries-enough : (journal : List Record) (item : Record) (line es : List Entry) → line ≡ posting_line journal → es ≡ entries journal item → fault journal item ≡ None → IsEnough (put_all line es)
+entries-enough journal item line es posted new none =
+    subst IsEnough (sym (put_all-entries journal item line es posted new)) (IsEnough-from_none (posting_line (journal ++ item ∷ [])) (NoFault-from journal item none).enough)
+
+-- what lacks with them is the fault of the record
+pub fault-lacks : (journal : List Record) (item : Record) (f : Short) → voucher_fault journal item.what ≡ None → length journal < max_records
+    → length (all_entries journal) + length (entries journal item) ≤ max_entries → option_map lacks_of (shortage (posting_line (journal ++ item ∷ []))) ≡ Some f
+    → fault journal item ≡ Some (fault_of f)
+fault-lacks journal item f sound records room is =
+    let step : (o : Option Shortage) → shortage (posting_line (journal ++ item ∷ [])) ≡ o → option_map lacks_of o ≡ Some f → fault journal item ≡ Some (fault_of f) =
+    λ o. elim o as (λ v. shortage (posting_line (journal ++ item ∷ [])) ≡ v → option_map lacks_of v ≡ Some f → fault journal item ≡ Some (fault_of f)) [
+      | None ↦ λ none told. cc
+      | Some s ↦ λ some told.
+          let same : lacks_of s ≡ f = cc in
+          fault-short journal item s sound records room some ∙ ap (λ (short : Short). Some (fault_of short)) same
+    ] in
+    step (shortage (posting_line (journal ++ item ∷ []))) refl is
 
 -- whether what a report needs is covered, is accepted, or isn't
 pub need_at-ready : (told : List Deed) (query : Query) (c : ℕ) → history.covered told ≡ c → query.need.0 ≤ c → need_at told query ≡ need.Ready

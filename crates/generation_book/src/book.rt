@@ -3,19 +3,19 @@ ghost use Rattle.std.specs.Option.{option_copied};
 ghost use Rattle.stock_model.specs.declared.deeds.Deed.TheVariants as deed;
 ghost use Rattle.stock_model.specs.Answers.{need_at, unmet_need, is_later, is_until, selected};
 ghost use Rattle.stock_model.specs.Bounds.{AreBounded};
-ghost use Rattle.stock_model.specs.Faults.{fault, short_of};
+ghost use Rattle.stock_model.specs.Entries.{entries};
+ghost use Rattle.stock_model.specs.Faults.{fault};
 ghost use Rattle.stock_model.specs.History as history;
 ghost use Rattle.stock_model.specs.Masters.{record_at};
-ghost use Rattle.stock_model.specs.PostingOrder.{posting_line, put_all};
+ghost use Rattle.generation_book.specs.Shorts.{fault_of};
 
 use crate::events::Event;
+use quantity_check::running::{Running, Short};
 use std::alloc::Global;
 use std::marker::Model;
 use stock_model::faults::PostFault;
-use stock_model::posting::put_all;
 use stock_model::queries::{Need, Query, SelectFault, Selected};
 use stock_model::records::Record;
-use stock_model::shortages::{Shortage, first_shortage};
 use stock_model::{masters, replay};
 use stock_nums::entry::{Entry, Row};
 use stock_nums::lines::Lines;
@@ -33,8 +33,8 @@ pub const MAX_ENTRIES: usize = 4_000;
 pub struct Book {
     journal: Journal,
     events: Vec<Event>,
-    /// The movements of all accepted records, in posting order.
-    line: Lines<Entry>,
+    /// The movements of all accepted records, in posting order, with which no warehouse lacks anything.
+    movements: Running,
     covered: RecordNo,
     rows: Lines<Row>,
 }
@@ -48,7 +48,7 @@ impl Model for Book {
 
     ghost view = { λ book. record { history = deeds book.events.items book.journal } };
 
-    ghost invariant = { λ book. IsBook book.events.items book.journal book.line book.covered.0 book.rows };
+    ghost invariant = { λ book. IsBook book.events.items book.journal book.movements.entries book.covered.0 book.rows };
 }
 
 impl Book {
@@ -59,7 +59,7 @@ impl Book {
         Book {
             journal: Journal::new(alloc),
             events: Vec::new(alloc),
-            line: Lines::new(alloc),
+            movements: Running::new(alloc),
             covered: RecordNo(0),
             rows: Lines::new(alloc),
         }
@@ -74,46 +74,44 @@ impl Book {
         ensures unchanged { OnErr result (self.new ≡ self.old) }
         ensures legal { OnOk result (history.IsLegal self.new.history) }
     {
-        let line = match self.line_with(alloc, &item) {
-            Ok(line) => line,
+        let entries = match self.new_entries(alloc, &item) {
+            Ok(entries) => entries,
             Err(fault) => return Err(fault),
         };
         if self.events.reserve(1).is_err() {
+            return Err(PostFault::NoMemory);
+        }
+        if self.movements.reserve(entries.len()).is_err() {
             return Err(PostFault::NoMemory);
         }
         let Ok(number) = self.journal.push(item) else {
             return Err(PostFault::NoMemory);
         };
         self.events.push_reserved(Event::Kept);
-        self.line = line;
+        self.movements.add(entries.as_slice());
         Ok(number)
     }
 
-    /// The posting line with the movements of a record that has no fault, or its first fault.
-    fn line_with(&self, alloc: Global, item: &Record) -> Result<Lines<Entry>, PostFault>
+    /// The movements of a record that has no fault, or its first fault.
+    fn new_entries(&self, alloc: Global, item: &Record) -> Result<Lines<Entry>, PostFault>
         ensures sound { OnOk result (fault (history.records self.now.history) item.now ≡ None) }
-        ensures line { IfOk result (λ line. line ≡ posting_line (history.records self.now.history ++ item.now ∷ [])) }
+        ensures entries { IfOk result (λ es. es ≡ entries (history.records self.now.history) item.now) }
         ensures fault { IfErr result (λ f. (f ≡ PostFault.NoMemory) ⊎ (fault (history.records self.now.history) item.now ≡ Some f)) }
     {
         let entries = match self.journal.check(alloc, item) {
             Ok(entries) => entries,
             Err(fault) => return Err(fault),
         };
-        if self.journal.count() as usize >= MAX_RECORDS
-            || entries.len() > MAX_ENTRIES - self.line.len()
-        {
+        let held = self.movements.timeline().entries().len();
+        if self.journal.count() as usize >= MAX_RECORDS || entries.len() > MAX_ENTRIES - held {
             return Err(PostFault::Full {
                 records: self.journal.count(),
-                entries: self.line.len() as u32,
+                entries: held as u32,
             });
         }
-        let Ok(line) = merged(alloc, self.line.as_slice(), entries.as_slice()) else {
-            return Err(PostFault::NoMemory);
-        };
-        match first_shortage(alloc, line.as_slice()) {
-            Ok(None) => Ok(line),
-            Ok(Some(shortage)) => Err(short_of(shortage)),
-            Err(_) => Err(PostFault::NoMemory),
+        match self.movements.try_entries(alloc, entries.as_slice()) {
+            Ok(()) => Ok(entries),
+            Err(short) => Err(fault_of(short)),
         }
     }
 
@@ -129,7 +127,7 @@ impl Book {
         if self.covered.0 >= accepted.0 {
             return Ok(self.covered);
         }
-        let rows = replay::rows_of(alloc, self.line.as_slice())?;
+        let rows = replay::rows_of(alloc, self.movements.timeline().entries())?;
         self.events.reserve(1)?;
         self.events.push_reserved(Event::Published(accepted));
         self.covered = accepted;
@@ -213,15 +211,6 @@ impl Book {
     }
 }
 
-// A copy of the line, with the entries put among its own.
-fn merged(alloc: Global, line: &[Entry], entries: &[Entry]) -> Result<Lines<Entry>, NoMemory>
-    ensures { IfOk result (λ all. all ≡ put_all line.now entries.now) }
-{
-    let mut all = Lines::from_vec(Vec::from_slice(alloc, line)?);
-    put_all(&mut all, entries)?;
-    Ok(all)
-}
-
 // The rows whose moment is not after this one, where there is one.
 fn rows_until(alloc: Global, rows: &[Row], until: Option<Moment>) -> Result<Lines<Row>, NoMemory>
     ensures { IfOk result (λ kept. kept ≡ filter (is_until until) rows.now) }
@@ -250,14 +239,23 @@ fn is_later(a: Moment, b: Moment) -> bool
     a > b
 }
 
-fn short_of(shortage: Shortage) -> PostFault
-    ensures { result ≡ short_of shortage }
+// The fault of movements that can't be added.
+fn fault_of(short: Short) -> PostFault
+    ensures { result ≡ fault_of short }
 {
-    PostFault::Short {
-        place: shortage.place,
-        item: shortage.item,
-        store: shortage.store,
-        lacking: shortage.lacking,
+    match short {
+        Short::Lacks {
+            place,
+            item,
+            store,
+            lacking,
+        } => PostFault::Short {
+            place,
+            item,
+            store,
+            lacking,
+        },
+        Short::NoMemory => PostFault::NoMemory,
     }
 }
 

@@ -2,7 +2,9 @@
 use Rattle.std.proofs.Common.{[], ◌∷◌, ◌++◌, ◌≡◌, sym, ap, ◌∙◌, subst, arith, List}
 use Rattle.stock_nums.specs.declared.entry.Entry.{Entry}
 use Rattle.stock_model.specs.Bounds.{AreBounded}
+use Rattle.stock_model.specs.Formulas.{HaveOneFormula}
 use Rattle.stock_model.specs.Replay.{rows_of}
+use Rattle.stock_model.proofs.Formulas.{posting_line-formula}
 use Rattle.generation_book.specs.State.{BookState}
 use Rattle.generation_book.specs.Book.{deeds}
 use Rattle.generation_book.specs.declared.events.Event.{Event}
@@ -22,12 +24,16 @@ returns-then-self-accepted-clause-covered c =
     let told : deeds c.self.inside.events.items c.self.inside.journal ≡ c.args.self.now.history = ap (λ (b : BookState). b.history) c.self.view_is in
     omega (arith, history-accepted _ _ _ _ _ c.args.self.now.history c.self.invariant told, c.self.invariant.within, c.count.ensures.count)
 
+pub rows_of-requires-clause-formulas : goal.rows_of-requires-clause-formulas
+rows_of-requires-clause-formulas c =
+    subst HaveOneFormula (sym (c.entries.ensures.entries ∙ c.timeline.ensures.entries ∙ c.self.invariant.posted)) (posting_line-formula c.self.inside.journal)
+
 pub invariant_of-self-2 : goal.invariant_of-self-2
 invariant_of-self-2 c =
     let events = c.push_reserved.ensures.items ∙ ap (λ (es : List Event). es ++ Published (record { 0 = c.count.result }) ∷ []) c.in_ok-reserve.ensures.items in
     rw events
-    (IsBook-published c.self.inside.events.items c.self.inside.journal c.self.inside.line c.self.inside.covered.0 c.self.inside.rows (record { 0 = c.count.result }) c.in_ok-rows.rows c.self.invariant c.count.ensures.count (omega arith)
-    (c.in_ok-rows.ensures.rows ∙ ap rows_of c.as_slice.ensures) (subst (λ (line : List Entry). AreBounded (rows_of line)) c.as_slice.ensures c.rows_of.ensures.bounded))
+    (IsBook-published c.self.inside.events.items c.self.inside.journal c.self.inside.movements.entries c.self.inside.covered.0 c.self.inside.rows (record { 0 = c.count.result }) c.in_ok-rows.rows c.self.invariant c.count.ensures.count (omega arith)
+    (c.in_ok-rows.ensures.rows ∙ ap rows_of (c.entries.ensures.entries ∙ c.timeline.ensures.entries)) (subst (λ (line : List Entry). AreBounded (rows_of line)) (c.entries.ensures.entries ∙ c.timeline.ensures.entries) c.rows_of.ensures.bounded))
 
 pub returns-clause-settled : goal.returns-clause-settled
 returns-clause-settled c =
