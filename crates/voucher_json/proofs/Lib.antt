@@ -1,7 +1,8 @@
 pub mod FieldForms
 pub mod Moments
 pub mod OneReading
+pub mod RecordTexts
 pub mod ReplyTexts
-pub mod Requests
+pub mod Texts
 pub mod VoucherLines
 pub mod Walks

@@ -12,7 +12,8 @@ use Rattle.stock_model.specs.declared.replies.Reply.{Reply}
 use Rattle.stock_model.specs.declared.replies.Reply.TheVariants.{Accepted, Refused, Short, Pending, NoSuchRecord, Worked, Settled, Balance, Long, Bad, StoreFailed, MemoryFailed, Http}
 use Rattle.voucher_json.specs.ReplyText.{row_data, refusal_data, bad_data, reply_data}
 
-is_float-of_integer : (z : ℤ) → is_float (of_integer z) ≡ false
+-- no integer is a float
+pub is_float-of_integer : (z : ℤ) → is_float (of_integer z) ≡ false
 is_float-of_integer (pos n) = refl
 is_float-of_integer (negsuc n) = refl
 

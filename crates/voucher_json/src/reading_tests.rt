@@ -85,6 +85,7 @@ fn reads_each_kind(rt: HostRuntime) -> Result<(), Fail> {
             r#"{"do":"item","code":"a b","method":"average"}"#,
             "item a b Average",
         ),
+        (r#"{"do":"item","code":"A","method":"fifo"}"#, "item A Fifo"),
         (r#" {"account":0, "do":"store","code":""} "#, "store  0"),
         (r#"{"do":"settle"}"#, "settle"),
         (r#"{"do":"fly","do":"settle"}"#, "settle"),
@@ -123,10 +124,10 @@ fn tells_the_first_fault(rt: HostRuntime) -> Result<(), Fail> {
         (r#"{"do":"settle","x":1}"#, "bad other 0"),
         (r#"{"do":"settle","desk":0}"#, "bad other 0"),
         (
-            r#"{"do":"item","code":"A","method":"fifo","x":1}"#,
+            r#"{"do":"item","code":"A","method":"lifo","x":1}"#,
             "bad method 0",
         ),
-        (r#"{"do":"item","method":"fifo"}"#, "bad code 0"),
+        (r#"{"do":"item","method":"lifo"}"#, "bad code 0"),
         (
             r#"{"do":"store","code":"W","account":1000000001}"#,
             "limit account 0",

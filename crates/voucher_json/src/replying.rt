@@ -1,11 +1,11 @@
 //! The texts of the replies.
-ghost use Rattle.std.specs.Prelude.{◌≡◌, map, IfOk, string_bytes};
+ghost use Rattle.std.specs.Prelude.{◌≡◌, map, IfOk};
 ghost use Rattle.serde_json.specs.View.{view};
-ghost use Rattle.stock_nums.specs.MomentText.{moment_text};
 ghost use Rattle.stock_model.specs.declared.replies.Reply.{Reply};
 ghost use Rattle.voucher_json.specs.ReplyText.{refusal_data, short_data, row_data, reply_data, reply_text, bad_data, fault_data, line_fault_data, field_fault_data, IsTold, IsReadFaultTold, IsPrinted};
 
 use crate::field_names::field_text;
+use crate::moment_strings::moment_string;
 use serde_json::{Value, json};
 use std::alloc::{AllocError, Global};
 use stock_model::faults::PostFault;
@@ -14,8 +14,6 @@ use stock_model::replies::{BalanceRow, Reply};
 use stock_nums::code::Code;
 use stock_nums::lines::Lines;
 use stock_nums::memory::NoMemory;
-use stock_nums::moment::Moment;
-use stock_nums::moment_text::moment_text;
 use stock_nums::numbers::{Qty, RecordNo};
 use stock_nums::place::Place;
 
@@ -147,16 +145,6 @@ fn short_value(
     })
 }
 
-/// The text of a moment. It is ASCII, so nothing of it is lost.
-fn moment_string(alloc: Global, moment: Moment) -> Result<String, AllocError>
-    ensures { IfOk result (λ text. string_bytes text ≡ moment_text moment) }
-{
-    let Ok(text) = moment_text(alloc, moment) else {
-        return Err(AllocError);
-    };
-    String::from_utf8_lossy(alloc, text.as_slice())
-}
-
 /// The JSON value of the reply that the wanted record is not covered yet.
 fn pending_value(alloc: Global, covered: RecordNo, wanted: RecordNo) -> Result<Value, AllocError>
     ensures { IfOk result (λ value. view value ≡ reply_data (Reply.Pending covered wanted)) }
@@ -199,6 +187,7 @@ mod tests {
     use super::*;
     use std::process::Abort;
     use std::test::Fail;
+    use stock_nums::moment::Moment;
     use stock_nums::numbers::Minor;
     use stock_nums::place::Side;
 
