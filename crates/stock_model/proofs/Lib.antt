@@ -7,5 +7,8 @@ pub mod Histories
 pub mod Enough
 pub mod Holdings
 pub mod VoucherLines
+pub mod FirstOut
+pub mod Formulas
 pub mod Valuation
 pub mod Until
+pub mod LayersLeft

@@ -1,11 +1,10 @@
 -- The movements up to a moment are the first ones of the posting line, and bounded as all are.
-use Rattle.std.proofs.Common.{◌≡◌, ℕ, zero, suc, ◌+◌, ◌<◌, ◌≤◌, Bool, true, false, cond, ◌&&◌, Option, Some, None, List, [], ◌∷◌, ◌++◌, length, take, map, filter, fold, inl, inr, refl, sym, ap, ◌∙◌, subst, append_assoc, arith}
+use Rattle.std.proofs.Common.{◌≡◌, ℕ, zero, suc, ◌+◌, ◌≤◌, Bool, true, false, cond, Option, Some, None, List, [], ◌∷◌, ◌++◌, take, map, filter, fold, inl, inr, refl, sym, ap, ◌∙◌, subst, append_assoc, arith}
 use Rattle.std.specs.List.{list_all}
-use Rattle.std.proofs.lemmas.Bool.{false≢true, cases_lt}
+use Rattle.std.proofs.lemmas.Bool.{cases_lt}
 use Rattle.std.proofs.lemmas.Bool.Decides.{nat_tests}
 use Rattle.std.proofs.lemmas.List.{append-nil, length-take, take-take, take_all, map-append}
 use Rattle.stock_nums.specs.declared.entry.Entry.{Entry}
-use Rattle.stock_nums.specs.declared.entry.Key.{Key}
 use Rattle.stock_nums.specs.declared.entry.Row.{Row}
 use Rattle.stock_nums.specs.declared.moment.Moment.{Moment}
 use Rattle.stock_model.specs.declared.records.Record.{Record}

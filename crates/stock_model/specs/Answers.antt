@@ -18,12 +18,13 @@ use Rattle.stock_model.specs.declared.queries.SelectFault.TheVariants as unmet
 use Rattle.stock_model.specs.declared.faults.PostFault.{PostFault}
 use Rattle.stock_model.specs.declared.faults.PostFault.TheVariants as fault_of
 use Rattle.stock_model.specs.declared.replies.Reply.{Reply}
-use Rattle.stock_model.specs.declared.replies.Reply.TheVariants.{Accepted, Refused, Short, Pending, NoSuchRecord, Balance, StoreFailed}
+use Rattle.stock_model.specs.declared.replies.Reply.TheVariants.{Accepted, Refused, Short, Pending, NoSuchRecord, Balance, Layers, StoreFailed}
 use Rattle.stock_model.specs.Masters.{heads, code_at}
 use Rattle.stock_model.specs.Replay.{replay}
 use Rattle.stock_model.specs.Faults.{fault}
 use Rattle.stock_model.specs.History.{records, accepted, covered, covered_records}
 use Rattle.stock_model.specs.Sheets.{balance}
+use Rattle.stock_model.specs.Layers.{layers}
 
 -- the first moment is after the second
 abbrev pub is_later : Moment → Moment → Bool
@@ -65,6 +66,7 @@ unmet_need (need.NoSuchRecord accepted wanted) = Some (unmet.NoSuchRecord accept
 
 abbrev pub sheet_reply : Query → Sheet → Selected → Reply
 sheet_reply query sheet.Balance chosen = Balance chosen.covered (balance query chosen)
+sheet_reply query sheet.Layers chosen = Layers chosen.covered (layers query chosen)
 
 -- the answer to a report whose need is so met
 abbrev pub report_by : Need → List Deed → Query → Reply

@@ -8,6 +8,8 @@ pub mod Replay
 pub mod Faults
 pub mod History
 pub mod Sheets
+pub mod Layers
+pub mod Formulas
 pub mod Answers
 pub mod InputLines
 pub mod Run

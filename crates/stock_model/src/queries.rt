@@ -10,6 +10,8 @@ use stock_nums::numbers::RecordNo;
 pub enum Sheet {
     /// The quantity and value of each item in each warehouse.
     Balance,
+    /// The layers of each item in each warehouse that have units left.
+    Layers,
 }
 
 /// What a report asks for.

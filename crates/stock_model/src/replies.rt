@@ -14,6 +14,22 @@ pub struct BalanceRow {
     pub value: Minor,
 }
 
+/// A row of the layers sheet: the units that are left of what entered a warehouse together. An item that is
+/// costed by the moving average has one row for all its units, with record 0 and line 0.
+#[derive(Drop)]
+pub struct LayerRow {
+    pub item: Code,
+    pub store: Code,
+    /// The record by which the units entered.
+    pub voucher: RecordNo,
+    /// The line of that record, from 1.
+    pub line: u32,
+    /// The units that are left, from 1.
+    pub qty: Qty,
+    /// What they are worth, in minor units.
+    pub value: Minor,
+}
+
 /// What a line of input is answered.
 #[derive(Drop)]
 pub enum Reply {
@@ -47,6 +63,11 @@ pub enum Reply {
     Balance {
         covered: RecordNo,
         rows: Lines<BalanceRow>,
+    },
+    /// The layers sheet of the first `covered` records.
+    Layers {
+        covered: RecordNo,
+        rows: Lines<LayerRow>,
     },
     /// The line has more than 65,536 bytes.
     Long,

@@ -107,7 +107,12 @@ fn is_asked_code(asked: &Option<Code>, code: &Code) -> bool
 }
 
 // Whether the key is of the item and the warehouse that are asked for.
-fn is_asked_key(alloc: Global, query: &Query, heads: &[Head], key: &Key) -> Result<bool, NoMemory>
+pub(crate) fn is_asked_key(
+    alloc: Global,
+    query: &Query,
+    heads: &[Head],
+    key: &Key,
+) -> Result<bool, NoMemory>
     ensures { IfOk result (λ asked. asked ≡ is_asked_key query.now heads.now key.now) }
 {
     let item = code_of(alloc, heads, key.item.0)?;

@@ -8,13 +8,13 @@ use stock_nums::numbers::{Minor, Qty};
 use stock_nums::place::Side;
 
 // Whether the row is of this item and this warehouse.
-fn is_of(key: &Key, row: &Row) -> bool
+pub(crate) fn is_of(key: &Key, row: &Row) -> bool
     ensures { result ≡ is_of key.now row.now }
 {
     row.entry.item == key.item && row.entry.store == key.store
 }
 
-fn enters_at(key: &Key, row: &Row) -> bool
+pub(crate) fn enters_at(key: &Key, row: &Row) -> bool
     ensures { result ≡ enters_at key.now row.now }
 {
     is_of(key, row) && row.entry.place.side == Side::Enters

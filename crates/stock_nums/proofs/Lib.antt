@@ -1,4 +1,6 @@
+pub mod FirstIn
 pub mod HalfUp
 pub mod MomentSpelling
 pub mod MomentWriting
+pub mod PartLemmas
 pub mod PlaceOrder

@@ -4,6 +4,7 @@
 pub mod cause;
 pub mod code;
 pub mod entry;
+pub mod first_in;
 pub mod half_up;
 pub mod head;
 pub mod lines;
@@ -11,6 +12,7 @@ pub mod memory;
 pub mod moment;
 pub mod moment_text;
 pub mod numbers;
+pub mod part;
 pub mod place;
 mod sending;
 pub mod steps;
