@@ -4,7 +4,7 @@ use Rattle.serde_json.specs.Data.{Data}
 use Rattle.stock_model.specs.Limits.{is_within_limits}
 use Rattle.stock_model.specs.declared.queries.Query.{Query}
 use Rattle.stock_model.specs.declared.queries.Sheet.{Sheet}
-use Rattle.stock_model.specs.declared.queries.Sheet.TheVariants.{Balance}
+use Rattle.stock_model.specs.declared.queries.Sheet.TheVariants.{Balance, Layers}
 use Rattle.stock_model.specs.declared.read_faults.FieldName.TheVariants as field
 use Rattle.stock_model.specs.declared.read_faults.ReadFault.{ReadFault}
 use Rattle.stock_model.specs.declared.requests.Request.{Request}
@@ -28,7 +28,7 @@ kinds false = (codes "settle", kind_of.Settle) ∷ desk_kinds
 
 -- the words of `of`
 abbrev pub sheets : List (List ℕ × Sheet)
-sheets = (codes "balance", Balance) ∷ []
+sheets = (codes "balance", Balance) ∷ (codes "layers", Layers) ∷ []
 
 -- the words of `as`
 abbrev pub formats : List (List ℕ × Format)

@@ -101,6 +101,8 @@ pub fn sheet_named(word: &str) -> Option<Sheet>
 {
     if word == "balance" {
         Some(Sheet::Balance)
+    } else if word == "layers" {
+        Some(Sheet::Layers)
     } else {
         None
     }

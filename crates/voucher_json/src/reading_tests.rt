@@ -91,6 +91,10 @@ fn reads_each_kind(rt: HostRuntime) -> Result<(), Fail> {
         (r#"{"do":"fly","do":"settle"}"#, "settle"),
         (r#"{"of":"balance","do":"report"}"#, "report Balance 0"),
         (
+            r#"{"do":"report","of":"layers","need":7,"as":"json"}"#,
+            "report Layers 7",
+        ),
+        (
             r#"{"do":"report","of":"balance","need":4294967295,"until":"2026-01-03T07:08:09","item":"B","store":"W1","as":"json"}"#,
             "report Balance 4294967295 until 20260103 25689 item B store W1",
         ),
