@@ -1,6 +1,7 @@
 //! The stored texts of records.
-ghost use Rattle.std.specs.Prelude.{◌≡◌, map, All, IfOk, IsUtf8};
+ghost use Rattle.std.specs.Prelude.{◌≡◌, ℕ, List, map, All, IsTrue, IfOk, IsUtf8};
 ghost use Rattle.serde_json.specs.View.{view};
+ghost use Rattle.stock_nums.specs.Codes.{is_code};
 ghost use Rattle.stock_model.specs.declared.records.Record.{Record};
 ghost use Rattle.stock_model.specs.declared.vouchers.What.{What};
 ghost use Rattle.voucher_json.specs.RecordTexts.{method_word, purpose_word, receipt_line_data, issue_line_data, what_data, record_data, record_text, codes_of};
@@ -27,9 +28,10 @@ pub fn record_text(alloc: Global, item: &Record) -> Result<Lines<u8>, NoMemory>
     Ok(Lines::from_vec(text.into_bytes()))
 }
 
-/// The stored text of a record whose codes are UTF-8 is UTF-8.
+/// The stored text of a record whose codes are UTF-8 is UTF-8, and well-formed codes are.
 pub fn record_texts_are_utf8()
-    ensures { (r : Record) → All IsUtf8 (codes_of r.what) → IsUtf8 (record_text r) }
+    ensures text { (r : Record) → All IsUtf8 (codes_of r.what) → IsUtf8 (record_text r) }
+    ensures code { (code : List ℕ) → IsTrue (is_code code) → IsUtf8 code }
 {}
 
 /// The JSON value of a record.
