@@ -18,7 +18,8 @@ items_count-view : (values : List Value) → items_count (items_view values) ≡
 items_count-view [] = refl
 items_count-view (value ∷ values) = omega (arith, items_count-view values)
 
-count_within : (name : FieldName) (line : ℕ) (items : Items) (count : ℕ) → items_count items ≡ count → 1 ≤ count → count ≤ 100 → list_outcome name line (Some items) ≡ Ok items
+-- a list of as many elements
+pub count_within : (name : FieldName) (line : ℕ) (items : Items) (count : ℕ) → items_count items ≡ count → 1 ≤ count → count ≤ 100 → list_outcome name line (Some items) ≡ Ok items
 count_within name line items count is least most = rw is (grind (arith, nat_tests))
 
 count_none : (name : FieldName) (line : ℕ) (items : Items) (count : ℕ) → items_count items ≡ count → count ≡ 0 → list_outcome name line (Some items) ≡ Err (Limit name line)

@@ -1,7 +1,12 @@
+pub mod CompactTexts
 pub mod FieldForms
 pub mod Moments
 pub mod OneReading
+pub mod RecordTexts
+pub mod RecordUtf8
+pub mod RecordWalks
 pub mod ReplyTexts
-pub mod Requests
+pub mod StoredRecords
+pub mod Texts
 pub mod VoucherLines
 pub mod Walks

@@ -1,6 +1,6 @@
 -- A text is read in one way at most: each step of a walk comes to one outcome at most, and never to want of
 -- memory.
-use Rattle.std.proofs.Common.{◌≡◌, ℕ, ℤ, ◌+◌, pos, Bool, true, false, ◌&&◌, nat_le, is_some, option_and_then, List, [], ◌∷◌, Option, Some, None, Result, Ok, Err, IsTrue, if◌then◌else◌, inl, inr, sym, ap, ◌∙◌, subst}
+use Rattle.std.proofs.Common.{◌≡◌, ℕ, ℤ, ◌+◌, ◌≤◌, pos, Bool, true, false, ◌&&◌, nat_le, is_some, option_and_then, List, [], ◌∷◌, ◌++◌, Option, Some, None, Result, Ok, Err, IsTrue, if◌then◌else◌, inl, inr, sym, ap, ◌∙◌, subst}
 use Rattle.std.specs.Prelude.{⊤}
 use Rattle.serde_json.specs.Data.{Num, unsigned, negative, float, Data, Items, no_items, item}
 use Rattle.serde_json.specs.Find.{get, as_str, as_number, as_array, as_object}
@@ -8,19 +8,28 @@ use Rattle.serde_json.specs.Read.{read}
 use Rattle.stock_nums.specs.Quantities.{IsLineQuantity, is_line_amount}
 use Rattle.stock_nums.specs.declared.moment.Moment.{Moment}
 use Rattle.stock_nums.proofs.MomentSpelling.{one_moment}
+use Rattle.stock_model.specs.Limits.{is_within_limits}
 use Rattle.stock_model.specs.declared.read_faults.FieldName.{FieldName}
 use Rattle.stock_model.specs.declared.read_faults.FieldName.TheVariants as field
 use Rattle.stock_model.specs.declared.read_faults.ReadFault.{ReadFault}
 use Rattle.stock_model.specs.declared.read_faults.ReadFault.TheVariants.{BadField, Limit, NoMemory}
+use Rattle.stock_model.specs.declared.records.Record.{Record}
 use Rattle.stock_model.specs.declared.requests.Request.{Request}
 use Rattle.stock_model.specs.declared.vouchers.IssueLine.{IssueLine}
 use Rattle.stock_model.specs.declared.vouchers.ReceiptLine.{ReceiptLine}
+use Rattle.stock_model.specs.declared.vouchers.What.{What}
 use Rattle.voucher_json.specs.Walks.{GoesOn, Then, Ends, Yields, found_or_bad, IsPresent, Field, IsOptional, Optional, Elements}
 use Rattle.voucher_json.specs.FieldNames.{field_text}
 use Rattle.voucher_json.specs.Fields.{IsObject, IsText, choose, IsWord, items_count, has_other, number_outcome, IsNumber, IsMomentText, IsMoment, list_outcome, IsList, NoOther}
-use Rattle.voucher_json.specs.Requests.{kinds, methods, purposes, sheets, formats, IsItem, IsStore, IsReceiptLine, IsIssueLine, IsReceipt, IsIssue, IsReport, IsOfKind, IsRequest, IsReadAs}
+use Rattle.voucher_json.specs.Records.{record_kinds, methods, purposes, IsItem, IsStore, IsReceiptLine, IsIssueLine, IsReceipt, IsIssue, IsWhat}
+use Rattle.voucher_json.specs.RecordTexts.{record_text}
+use Rattle.voucher_json.specs.Requests.{kinds, sheets, formats, IsReport, IsOfKind, IsRequest, IsReadAs}
+use Rattle.voucher_json.specs.StoredRecords.{record_fields, IsRecord, IsOtherSpelling, IsRecordReadAs}
+use Rattle.voucher_json.specs.Texts.{IsJson, IsWalked}
 use Rattle.voucher_json.specs.declared.kinds.Kind.{Kind}
 use Rattle.voucher_json.specs.declared.kinds.Kind.TheVariants as kind_of
+use Rattle.voucher_json.specs.declared.kinds.RecordKind.{RecordKind}
+use Rattle.voucher_json.specs.declared.kinds.RecordKind.TheVariants as record_of
 use denote.Struct.Props.{props}
 
 -- a walk comes to one end at most, and not to want of memory
@@ -174,6 +183,12 @@ made-same {A} P prop make x y same p q =
 IsLineQuantity-prop : (qty : ℕ) → IsProp (IsLineQuantity qty)
 IsLineQuantity-prop qty = hlevel props
 
+at_most_16-prop : (n : ℕ) → IsProp (n ≤ 16)
+at_most_16-prop n = hlevel props
+
+within-prop : (what : What) → IsProp (IsTrue (is_within_limits what))
+within-prop what = hlevel props
+
 is_line_amount-prop : (amount : ℤ) → IsProp (IsTrue (is_line_amount amount))
 is_line_amount-prop amount = hlevel props
 
@@ -222,30 +237,30 @@ one_issue_line name place value =
     yields (λ (line : IssueLine). (line.item ≡ code) × (line.store ≡ store) × (line.qty.0 ≡ qty))
     (λ a b is_a is_b. issue_line-same a b (is_a.0 ∙ sym is_b.0) (is_a.1 ∙ sym is_b.1) (is_a.2 ∙ sym is_b.2)))))))
 
-one_item : (value : Data) → IsDecided (IsItem value)
-one_item value =
+one_item : (shared : List FieldName) (value : Data) → IsDecided (IsItem shared value)
+one_item shared value =
     both _ _ (one_field IsText one_text field.Code 0 value) (λ code.
     both _ _ (one_field (IsWord methods) (one_word methods) field.Method 0 value) (λ method.
-    both _ _ (no_other (field.Do ∷ field.Code ∷ field.Method ∷ []) 0 value) (λ none. ends _)))
+    both _ _ (no_other (shared ++ field.Code ∷ field.Method ∷ []) 0 value) (λ none. ends _)))
 
-one_store : (value : Data) → IsDecided (IsStore value)
-one_store value =
+one_store : (shared : List FieldName) (value : Data) → IsDecided (IsStore shared value)
+one_store shared value =
     both _ _ (one_field IsText one_text field.Code 0 value) (λ code.
     both _ _ (one_field (IsNumber 0 1_000_000_000) (one_number 0 1_000_000_000) field.Account 0 value) (λ account.
-    both _ _ (no_other (field.Do ∷ field.Code ∷ field.Account ∷ []) 0 value) (λ none. ends _)))
+    both _ _ (no_other (shared ++ field.Code ∷ field.Account ∷ []) 0 value) (λ none. ends _)))
 
-one_receipt : (value : Data) → IsDecided (IsReceipt value)
-one_receipt value =
+one_receipt : (shared : List FieldName) (value : Data) → IsDecided (IsReceipt shared value)
+one_receipt shared value =
     both _ _ (one_field IsMoment one_moment_in field.At 0 value) (λ at.
     both _ _ (one_field (IsList IsReceiptLine) (one_list IsReceiptLine one_receipt_line) field.Lines 0 value) (λ lines.
-    both _ _ (no_other (field.Do ∷ field.At ∷ field.Lines ∷ []) 0 value) (λ none. ends _)))
+    both _ _ (no_other (shared ++ field.At ∷ field.Lines ∷ []) 0 value) (λ none. ends _)))
 
-one_issue : (value : Data) → IsDecided (IsIssue value)
-one_issue value =
+one_issue : (shared : List FieldName) (value : Data) → IsDecided (IsIssue shared value)
+one_issue shared value =
     both _ _ (one_field IsMoment one_moment_in field.At 0 value) (λ at.
     both _ _ (one_field (IsWord purposes) (one_word purposes) field.Use 0 value) (λ purpose.
     both _ _ (one_field (IsList IsIssueLine) (one_list IsIssueLine one_issue_line) field.Lines 0 value) (λ lines.
-    both _ _ (no_other (field.Do ∷ field.At ∷ field.Use ∷ field.Lines ∷ []) 0 value) (λ none. ends _))))
+    both _ _ (no_other (shared ++ field.At ∷ field.Use ∷ field.Lines ∷ []) 0 value) (λ none. ends _))))
 
 one_report : (value : Data) → IsDecided (IsReport value)
 one_report value =
@@ -257,11 +272,14 @@ one_report value =
     both _ _ (optional (IsWord formats) (one_word formats) field.As value) (λ format.
     both _ _ (no_other (field.Do ∷ field.Of ∷ field.Need ∷ field.Until ∷ field.Item ∷ field.Store ∷ field.As ∷ []) 0 value) (λ none. ends _)))))))
 
+one_what : (shared : List FieldName) (kind : RecordKind) (value : Data) → IsDecided (IsWhat shared kind value)
+one_what shared record_of.Item value = one_item shared value
+one_what shared record_of.Store value = one_store shared value
+one_what shared record_of.Receipt value = one_receipt shared value
+one_what shared record_of.Issue value = one_issue shared value
+
 one_of_kind : (kind : Kind) (value : Data) → IsDecided (IsOfKind kind value)
-one_of_kind kind_of.Item value = both _ _ (one_item value) (λ what. ends _)
-one_of_kind kind_of.Store value = both _ _ (one_store value) (λ what. ends _)
-one_of_kind kind_of.Receipt value = both _ _ (one_receipt value) (λ what. ends _)
-one_of_kind kind_of.Issue value = both _ _ (one_issue value) (λ what. ends _)
+one_of_kind (kind_of.Post kind) value = both _ _ (one_what (field.Do ∷ []) kind value) (λ what. ends _)
 one_of_kind kind_of.Settle value = both _ _ (no_other (field.Do ∷ []) 0 value) (λ none. ends _)
 one_of_kind kind_of.Report value = both _ _ (one_report value) (λ query. ends _)
 
@@ -270,25 +288,75 @@ one_request at_desk value =
     both _ _ (one_object field.Request 0 value) (λ is_one.
     both _ _ (one_field (IsWord (kinds at_desk)) (one_word (kinds at_desk)) field.Do 0 value) (λ kind. one_of_kind kind value))
 
+-- records of one desk that say the same are one record
+record-same : (a b : Record) → a.desk.0 ≡ b.desk.0 → a.what ≡ b.what → a ≡ b
+record-same a b desk_is what_is =
+    made-same (λ (x : ℕ). x ≤ 16) at_most_16-prop (λ (x : ℕ) (p : x ≤ 16). record_of_parts x p a.what a.limits) a.desk.0 b.desk.0 desk_is a.desks b.desks
+    ∙ made-same (λ (w : What). IsTrue (is_within_limits w)) within-prop (record_of_parts b.desk.0 b.desks) a.what b.what what_is a.limits b.limits
+  where
+    record_of_parts : (desk : ℕ) → desk ≤ 16 → (what : What) → IsTrue (is_within_limits what) → Record
+    record_of_parts desk desks what limits = record { desk = record { 0 = desk }; what = what; desks = desks; limits = limits }
+
+one_record : (value : Data) → IsDecided (IsRecord value)
+one_record value =
+    both _ _ (one_object field.Request 0 value) (λ is_one.
+    both _ _ (one_field (IsWord record_kinds) (one_word record_kinds) field.Do 0 value) (λ kind.
+    both _ _ (one_field (IsNumber 0 16) (one_number 0 16) field.Desk 0 value) (λ desk.
+    both _ _ (one_what record_fields kind value) (λ what.
+    yields (λ (found : Record). (found.desk.0 ≡ desk) × (found.what ≡ what)) (λ a b is_a is_b. record-same a b (is_a.0 ∙ sym is_b.0) (is_a.1 ∙ sym is_b.1))))))
+
+one_json_of : (text : List ℕ) (a b : Result Data ReadFault) → IsJson text a → IsJson text b → a ≡ b
+one_json_of text (Ok x) (Ok y) is_a is_b =
+    let read_x : read text ≡ Some x = is_a.1 in
+    let read_y : read text ≡ Some y = is_b.1 in
+    cc
+one_json_of text (Ok x) (Err g) is_a is_b =
+    let reads : read text ≡ Some x = is_a.1 in
+    let none : read text ≡ None = is_b.0 is_a.0 in
+    cc
+one_json_of text (Err f) (Ok y) is_a is_b =
+    let reads : read text ≡ Some y = is_b.1 in
+    let none : read text ≡ None = is_a.0 is_b.0 in
+    cc
+one_json_of text (Err f) (Err g) is_a is_b = ap Err (is_a.1 ∙ sym is_b.1)
+
+one_json : (text : List ℕ) → IsDecided (IsJson text)
+one_json text = record { one = one_json_of text; memory = λ (is : IsJson text (Err NoMemory)). let bad = is.1 in cc }
+
 -- a text is read in one way at most
 pub one_reading : (at_desk : Bool) (text : List ℕ) (a b : Result Request ReadFault) → IsReadAs at_desk text a → IsReadAs at_desk text b → a ≡ b
-one_reading at_desk text a b (inl is_a) (inl is_b) =
-    let read_a : read text ≡ Some is_a.value = is_a.reads in
-    let read_b : read text ≡ Some is_b.value = is_b.reads in
-    let same : is_a.value ≡ is_b.value = cc in
-    let P : Data → Type 0 = λ value. IsRequest at_desk value a in
-    (one_request at_desk is_b.value).one a b (subst P same is_a.is) is_b.is
-one_reading at_desk text a b (inl is_a) (inr is_b) =
-    let reads : read text ≡ Some is_a.value = is_a.reads in
-    let none : read text ≡ None = is_b.none is_a.utf8 in
-    cc
-one_reading at_desk text a b (inr is_a) (inl is_b) =
-    let reads : read text ≡ Some is_b.value = is_b.reads in
-    let none : read text ≡ None = is_a.none is_b.utf8 in
-    cc
-one_reading at_desk text a b (inr is_a) (inr is_b) = is_a.bad ∙ sym is_b.bad
+one_reading at_desk text = (both _ _ (one_json text) (one_request at_desk)).one
 
 -- no text is read as want of memory
 pub no_memory_read : (at_desk : Bool) (text : List ℕ) → IsReadAs at_desk text (Err NoMemory) → ⊥
-no_memory_read at_desk text (inl is) = (one_request at_desk is.value).memory is.is
-no_memory_read at_desk text (inr is) = let bad = is.bad in cc
+no_memory_read at_desk text = (both _ _ (one_json text) (one_request at_desk)).memory
+
+-- the walk of a stored text comes to one end at most
+one_walk : (text : List ℕ) → IsDecided (IsWalked IsRecord text)
+one_walk text = both _ _ (one_json text) one_record
+
+walks_apart : (text : List ℕ) (found : Record) (fault : ReadFault) → IsWalked IsRecord text (Ok found) → IsWalked IsRecord text (Err fault) → ⊥
+walks_apart text found fault is_a is_b = let same : Ok found ≡ Err fault = (one_walk text).one _ _ is_a is_b in cc
+
+spelled_apart : (text : List ℕ) (found : Record) (fault : ReadFault) → IsWalked IsRecord text (Ok found) → text ≡ record_text found → IsOtherSpelling text fault → ⊥
+spelled_apart text found fault is written other =
+    let same : Ok found ≡ Ok other.found = (one_walk text).one _ _ is other.walked in
+    let one : found ≡ other.found = cc in
+    other.other (written ∙ ap record_text one)
+
+-- a stored text is read in one way at most
+pub one_record_reading : (text : List ℕ) (a b : Result Record ReadFault) → IsRecordReadAs text a → IsRecordReadAs text b → a ≡ b
+one_record_reading text (Ok x) (Ok y) is_a is_b = (one_walk text).one _ _ is_a.0 is_b.0
+one_record_reading text (Ok x) (Err g) is_a (inl is_b) = absurd (walks_apart text x g is_a.0 is_b)
+one_record_reading text (Ok x) (Err g) is_a (inr is_b) = absurd (spelled_apart text x g is_a.0 is_a.1 is_b)
+one_record_reading text (Err f) (Ok y) (inl is_a) is_b = absurd (walks_apart text y f is_b.0 is_a)
+one_record_reading text (Err f) (Ok y) (inr is_a) is_b = absurd (spelled_apart text y f is_b.0 is_b.1 is_a)
+one_record_reading text (Err f) (Err g) (inl is_a) (inl is_b) = (one_walk text).one _ _ is_a is_b
+one_record_reading text (Err f) (Err g) (inl is_a) (inr is_b) = absurd (walks_apart text is_b.found f is_b.walked is_a)
+one_record_reading text (Err f) (Err g) (inr is_a) (inl is_b) = absurd (walks_apart text is_a.found g is_a.walked is_b)
+one_record_reading text (Err f) (Err g) (inr is_a) (inr is_b) = ap Err (is_a.bad ∙ sym is_b.bad)
+
+-- no stored text is read as want of memory
+pub no_memory_record : (text : List ℕ) → IsRecordReadAs text (Err NoMemory) → ⊥
+no_memory_record text (inl is) = (one_walk text).memory is
+no_memory_record text (inr is) = let bad = is.bad in cc

@@ -8,17 +8,23 @@ use Rattle.stock_model.specs.declared.faults.PostFault.TheVariants as fault_of
 use Rattle.stock_model.specs.declared.read_faults.ReadFault.{ReadFault}
 use Rattle.stock_model.specs.declared.read_faults.ReadFault.TheVariants as unread
 use Rattle.stock_model.specs.declared.replies.BalanceRow.{BalanceRow}
+use Rattle.stock_model.specs.declared.replies.LayerRow.{LayerRow}
 use Rattle.stock_model.specs.declared.replies.Reply.{Reply}
-use Rattle.stock_model.specs.declared.replies.Reply.TheVariants.{Accepted, Refused, Short, Pending, NoSuchRecord, Worked, Settled, Balance, Long, Bad, StoreFailed, MemoryFailed, Http}
-use Rattle.voucher_json.specs.ReplyText.{row_data, refusal_data, bad_data, reply_data}
+use Rattle.stock_model.specs.declared.replies.Reply.TheVariants.{Accepted, Refused, Short, Pending, NoSuchRecord, Worked, Settled, Balance, Layers, Long, Bad, StoreFailed, MemoryFailed, Http}
+use Rattle.voucher_json.specs.ReplyText.{row_data, layer_data, refusal_data, bad_data, reply_data}
 
-is_float-of_integer : (z : ℤ) → is_float (of_integer z) ≡ false
+-- no integer is a float
+pub is_float-of_integer : (z : ℤ) → is_float (of_integer z) ≡ false
 is_float-of_integer (pos n) = refl
 is_float-of_integer (negsuc n) = refl
 
 has_float-rows : (rows : List BalanceRow) → items_have_float (items_of (map row_data rows)) ≡ false
 has_float-rows [] = refl
 has_float-rows (row ∷ rows) = rw (is_float-of_integer row.value.0, has_float-rows rows)
+
+has_float-layers : (rows : List LayerRow) → items_have_float (items_of (map layer_data rows)) ≡ false
+has_float-layers [] = refl
+has_float-layers (row ∷ rows) = rw (is_float-of_integer row.value.0, has_float-layers rows)
 
 has_float-refusal : (fault : PostFault) → has_float (refusal_data fault) ≡ false
 has_float-refusal fault_of.CodeTaken = refl
@@ -53,6 +59,7 @@ has_float-reply (NoSuchRecord accepted wanted) = refl
 has_float-reply (Worked covered) = refl
 has_float-reply (Settled covered) = refl
 has_float-reply (Balance covered rows) = rw (has_float-rows rows)
+has_float-reply (Layers covered rows) = rw (has_float-layers rows)
 has_float-reply Long = refl
 has_float-reply (Bad fault) = has_float-bad fault
 has_float-reply StoreFailed = refl

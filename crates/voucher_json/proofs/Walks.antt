@@ -24,3 +24,7 @@ stops first next fault is = inr (record { outcome = Err fault; is = is; goes_on 
 pub stops_had : {A B : Type 0} (first : Result A ReadFault → Type 0) (next : A → Result B ReadFault → Type 0) (fault : ReadFault) → OrNoMemory first (Err fault) → OrNoMemory (Then first next) (Err fault)
 stops_had first next fault (inl lacks) = inl (let same : fault ≡ NoMemory = cc in cc)
 stops_had first next fault (inr is) = stops first next fault is
+
+-- where memory is not wanting
+pub comes : {A B : Type 0} (first : Result A ReadFault → Type 0) (next : A → Result B ReadFault → Type 0) (value : A) (end : Result B ReadFault) → first (Ok value) → next value end → Then first next end
+comes first next value end is goes_on = record { outcome = Ok value; is = is; goes_on = goes_on }

@@ -1,5 +1,9 @@
 pub mod FieldNames
 pub mod Fields
+pub mod RecordTexts
+pub mod Records
 pub mod ReplyText
 pub mod Requests
+pub mod StoredRecords
+pub mod Texts
 pub mod Walks

@@ -12,8 +12,9 @@ use Rattle.stock_model.specs.declared.read_faults.FieldName.{FieldName}
 use Rattle.stock_model.specs.declared.read_faults.ReadFault.{ReadFault}
 use Rattle.stock_model.specs.declared.read_faults.ReadFault.TheVariants as unread
 use Rattle.stock_model.specs.declared.replies.BalanceRow.{BalanceRow}
+use Rattle.stock_model.specs.declared.replies.LayerRow.{LayerRow}
 use Rattle.stock_model.specs.declared.replies.Reply.{Reply}
-use Rattle.stock_model.specs.declared.replies.Reply.TheVariants.{Accepted, Refused, Short, Pending, NoSuchRecord, Worked, Settled, Balance, Long, Bad, StoreFailed, MemoryFailed, Http}
+use Rattle.stock_model.specs.declared.replies.Reply.TheVariants.{Accepted, Refused, Short, Pending, NoSuchRecord, Worked, Settled, Balance, Layers, Long, Bad, StoreFailed, MemoryFailed, Http}
 use Rattle.voucher_json.specs.FieldNames.{field_text}
 
 -- a fault and the status alone: {"fault":..,"status":..}
@@ -97,6 +98,25 @@ row_data row = object (member (codes "item") (string row.item) (member (codes "q
 abbrev pub rows_data : List BalanceRow → Items
 rows_data rows = items_of (map row_data rows)
 
+-- {"item":..,"line":..,"qty":..,"record":..,"store":..,"value":..}
+abbrev pub layer_data : LayerRow → Data
+layer_data row =
+    object
+    (member (codes "item") (string row.item)
+    (member (codes "line") (number (unsigned row.line))
+    (member (codes "qty") (number (unsigned row.qty.0))
+    (member (codes "record") (number (unsigned row.voucher.0))
+    (member (codes "store") (string row.store)
+    (member (codes "value") (number (of_integer row.value.0)) no_members))))))
+
+-- the layers, one after another
+abbrev pub layers_data : List LayerRow → Items
+layers_data rows = items_of (map layer_data rows)
+
+-- a sheet of this name: {"covered":..,"report":..,"rows":[..],"status":"ok"}
+abbrev pub sheet_data : List ℕ → ℕ → Items → Data
+sheet_data name covered rows = object (member (codes "covered") (number (unsigned covered)) (member (codes "report") (string name) (member (codes "rows") (array rows) (member (codes "status") (string (codes "ok")) no_members))))
+
 -- the JSON value of a reply
 abbrev pub reply_data : Reply → Data
 reply_data (Accepted number_of_it) = object (member (codes "record") (number (unsigned number_of_it.0)) (member (codes "status") (string (codes "accepted")) no_members))
@@ -106,7 +126,8 @@ reply_data (Pending covered wanted) = object (member (codes "covered") (number (
 reply_data (NoSuchRecord accepted wanted) = object (member (codes "accepted") (number (unsigned accepted.0)) (member (codes "need") (number (unsigned wanted.0)) (member (codes "status") (string (codes "no-such-record")) no_members)))
 reply_data (Worked covered) = object (member (codes "covered") (number (unsigned covered.0)) (member (codes "status") (string (codes "worked")) no_members))
 reply_data (Settled covered) = object (member (codes "covered") (number (unsigned covered.0)) (member (codes "status") (string (codes "settled")) no_members))
-reply_data (Balance covered rows) = object (member (codes "covered") (number (unsigned covered.0)) (member (codes "report") (string (codes "balance")) (member (codes "rows") (array (rows_data rows)) (member (codes "status") (string (codes "ok")) no_members))))
+reply_data (Balance covered rows) = sheet_data (codes "balance") covered.0 (rows_data rows)
+reply_data (Layers covered rows) = sheet_data (codes "layers") covered.0 (layers_data rows)
 reply_data Long = fault_data (codes "long") (codes "bad")
 reply_data (Bad fault) = bad_data fault
 reply_data StoreFailed = fault_data (codes "store") (codes "failed")
@@ -156,6 +177,7 @@ IsPrinted (NoSuchRecord accepted wanted) = Unit {0}
 IsPrinted (Worked covered) = Unit {0}
 IsPrinted (Settled covered) = Unit {0}
 IsPrinted (Balance covered rows) = Unit {0}
+IsPrinted (Layers covered rows) = Unit {0}
 IsPrinted Long = Unit {0}
 IsPrinted (Bad fault) = IsReadFaultTold fault
 IsPrinted StoreFailed = Unit {0}

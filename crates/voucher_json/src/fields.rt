@@ -5,12 +5,14 @@ ghost use Rattle.serde_json.specs.Find.{get, as_str};
 ghost use Rattle.voucher_json.specs.FieldNames.{field_text};
 ghost use Rattle.voucher_json.specs.Walks.{Field, Optional, OrNoMemory};
 ghost use Rattle.voucher_json.specs.Fields.{IsText, IsWord, IsNumber, IsMoment};
-ghost use Rattle.voucher_json.specs.Requests.{kinds, methods, purposes, sheets, formats};
+ghost use Rattle.voucher_json.specs.Records.{record_kinds, methods, purposes};
+ghost use Rattle.voucher_json.specs.Requests.{kinds, sheets, formats};
 
 use crate::field_names::field_text;
 use crate::forms::{code_in, moment_in, number_in};
 use crate::kinds::{
-    Format, Kind, format_named, kind_named, method_named, purpose_named, sheet_named,
+    Format, Kind, RecordKind, format_named, kind_named, method_named, purpose_named,
+    record_kind_named, sheet_named,
 };
 use serde_json::Value;
 use std::alloc::Global;
@@ -122,6 +124,18 @@ pub fn kind_field(object: &Value, at_desk: bool) -> Result<Kind, ReadFault>
         name: FieldName::Do,
         line: 0,
     })
+}
+
+/// What the record is of.
+pub fn record_kind_field(object: &Value) -> Result<RecordKind, ReadFault>
+    ensures { Field (IsWord record_kinds) FieldName.Do 0 (view object.now) result }
+{
+    text_at(object, FieldName::Do)
+        .and_then(record_kind_named)
+        .ok_or(ReadFault::BadField {
+            name: FieldName::Do,
+            line: 0,
+        })
 }
 
 /// The item's cost formula.

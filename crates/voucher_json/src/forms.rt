@@ -1,6 +1,6 @@
 //! The forms of the fields: what the value of a field comes to. A fault names the field, and the place from
 //! 1 of the list's element that has it, or 0 for a field of the outer object.
-ghost use Rattle.std.specs.Prelude.{◌≡◌, ◌≤◌, IfOk, IfErr, Ok, Err, not, length, string_bytes};
+ghost use Rattle.std.specs.Prelude.{◌≡◌, ◌≤◌, ◌++◌, IfOk, IfErr, Ok, Err, not, length, string_bytes};
 ghost use Rattle.std.specs.List.{list_any};
 ghost use Rattle.std.specs.BTreeMap.{keys};
 ghost use Rattle.serde_json.specs.View.{view, items_view};
@@ -102,14 +102,19 @@ pub fn elements_in(value: &Value, name: FieldName, line: u32) -> Result<&[Value]
     Ok(values.as_slice())
 }
 
-/// Whether the object has no fields but these.
-pub fn no_other(object: &Value, names: &[FieldName], line: u32) -> Result<(), ReadFault>
-    ensures { NoOther names.now line (view object.now) result }
+/// Whether the object has no fields but the shared ones and its own.
+pub fn no_other(
+    object: &Value,
+    shared: &[FieldName],
+    own: &[FieldName],
+    line: u32,
+) -> Result<(), ReadFault>
+    ensures { NoOther (shared.now ++ own.now) line (view object.now) result }
 {
     let Some(members) = object.as_object() else {
         return Ok(());
     };
-    if has_other(members, names) {
+    if has_other(members, shared, own) {
         return Err(ReadFault::BadField {
             name: FieldName::Other,
             line,
@@ -119,13 +124,22 @@ pub fn no_other(object: &Value, names: &[FieldName], line: u32) -> Result<(), Re
 }
 
 /// Whether there is a key that is the name of none of the fields.
-fn has_other(members: &Map<String, Value>, names: &[FieldName]) -> bool
-    ensures { result ≡ list_any (λ key. not (is_named names.now (string_bytes key))) (keys members.now) }
+fn has_other(members: &Map<String, Value>, shared: &[FieldName], own: &[FieldName]) -> bool
+    ensures { result ≡ list_any (λ key. not (is_named (shared.now ++ own.now) (string_bytes key))) (keys members.now) }
 {
-    members.keys().any(|key| !is_named(names, key.as_str()))
+    members
+        .keys()
+        .any(|key| !is_named_in(shared, own, key.as_str()))
 }
 
 /// Whether the key is the name of one of the fields.
+fn is_named_in(shared: &[FieldName], own: &[FieldName], key: &str) -> bool
+    ensures { result ≡ is_named (shared.now ++ own.now) key.now }
+{
+    is_named(shared, key) || is_named(own, key)
+}
+
+/// Whether the key is the name of one of these fields.
 fn is_named(names: &[FieldName], key: &str) -> bool
     ensures { result ≡ is_named names.now key.now }
 {

@@ -1,19 +1,27 @@
 //! The words of the fields that have a choice of words.
 ghost use Rattle.std.specs.Prelude.{◌≡◌};
 ghost use Rattle.voucher_json.specs.Fields.{choose};
-ghost use Rattle.voucher_json.specs.Requests.{desk_kinds, kinds, methods, purposes, sheets, formats};
+ghost use Rattle.voucher_json.specs.Records.{record_kinds, methods, purposes};
+ghost use Rattle.voucher_json.specs.Requests.{desk_kinds, kinds, sheets, formats};
 
 use stock_model::queries::Sheet;
 use stock_model::vouchers::Purpose;
 use stock_nums::cause::Method;
 
-/// What a request does.
+/// What a record is of.
 #[derive(Clone, Copy, Debug, PartialEq, Eq)]
-pub enum Kind {
+pub enum RecordKind {
     Item,
     Store,
     Receipt,
     Issue,
+}
+
+/// What a request does.
+#[derive(Clone, Copy, Debug, PartialEq, Eq)]
+pub enum Kind {
+    /// It posts a record.
+    Post(RecordKind),
     Settle,
     Report,
 }
@@ -38,16 +46,24 @@ pub fn kind_named(word: &str, at_desk: bool) -> Option<Kind>
 fn desk_kind_named(word: &str) -> Option<Kind>
     ensures { result ≡ choose desk_kinds word.now }
 {
+    if word == "report" {
+        return Some(Kind::Report);
+    }
+    record_kind_named(word).map(Kind::Post)
+}
+
+/// The kind of a record that a word of `do` means.
+pub fn record_kind_named(word: &str) -> Option<RecordKind>
+    ensures { result ≡ choose record_kinds word.now }
+{
     if word == "item" {
-        Some(Kind::Item)
+        Some(RecordKind::Item)
     } else if word == "store" {
-        Some(Kind::Store)
+        Some(RecordKind::Store)
     } else if word == "receipt" {
-        Some(Kind::Receipt)
+        Some(RecordKind::Receipt)
     } else if word == "issue" {
-        Some(Kind::Issue)
-    } else if word == "report" {
-        Some(Kind::Report)
+        Some(RecordKind::Issue)
     } else {
         None
     }
@@ -57,7 +73,9 @@ fn desk_kind_named(word: &str) -> Option<Kind>
 pub fn method_named(word: &str) -> Option<Method>
     ensures { result ≡ choose methods word.now }
 {
-    if word == "average" {
+    if word == "fifo" {
+        Some(Method::Fifo)
+    } else if word == "average" {
         Some(Method::Average)
     } else {
         None
@@ -83,6 +101,8 @@ pub fn sheet_named(word: &str) -> Option<Sheet>
 {
     if word == "balance" {
         Some(Sheet::Balance)
+    } else if word == "layers" {
+        Some(Sheet::Layers)
     } else {
         None
     }

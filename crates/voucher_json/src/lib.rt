@@ -4,9 +4,16 @@
 mod field_names;
 mod fields;
 mod forms;
+mod json_values;
 mod kinds;
+mod moment_strings;
 pub mod reading;
 #[cfg(test)]
 mod reading_tests;
+pub mod record_reading;
+#[cfg(test)]
+mod record_tests;
+pub mod record_texts;
 pub mod replying;
 mod voucher_lines;
+mod whats;

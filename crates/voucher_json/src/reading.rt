@@ -1,26 +1,24 @@
 //! A text as the request that it is.
-ghost use Rattle.std.specs.Prelude.{◌≡◌, ◌⊎◌, ℕ, List, Bool, IsTrue, Result, Ok, Err, IfOk, IfErr};
+ghost use Rattle.std.specs.Prelude.{◌≡◌, ◌⊎◌, ℕ, List, Bool, Result, Ok, Err, IfOk, IfErr};
 ghost use Rattle.serde_json.specs.View.{view};
-ghost use Rattle.stock_model.specs.Limits.{is_within_limits};
 ghost use Rattle.stock_model.specs.declared.read_faults.ReadFault.{ReadFault};
 ghost use Rattle.stock_model.specs.declared.requests.Request.{Request};
 ghost use Rattle.voucher_json.specs.Walks.{OrNoMemory};
-ghost use Rattle.voucher_json.specs.Requests.{IsItem, IsStore, IsReceipt, IsIssue, IsSettle, IsReport, IsOfKind, IsRequest, IsReadAs, IsWithinLimits};
+ghost use Rattle.voucher_json.specs.Requests.{IsReport, IsOfKind, IsRequest, IsReadAs, IsWithinLimits};
 
 use crate::fields::{
-    code_field, format_field, kind_field, method_field, moment_field, number_field, optional_code,
-    optional_moment, optional_number, purpose_field, sheet_field,
+    format_field, kind_field, optional_code, optional_moment, optional_number, sheet_field,
 };
 use crate::forms::{check_object, no_other};
+use crate::json_values::json_value;
 use crate::kinds::Kind;
-use crate::voucher_lines::lines_field;
+use crate::whats::read_what;
 use serde_json::Value;
 use std::alloc::Global;
 use stock_model::queries::Query;
 use stock_model::read_faults::{FieldName, ReadFault};
 use stock_model::requests::Request;
-use stock_model::vouchers::What;
-use stock_nums::numbers::{AccountNo, RecordNo};
+use stock_nums::numbers::RecordNo;
 
 /// The request that a text is, or the first fault of the walk over its fields. A desk may not settle.
 pub fn read_request(alloc: Global, bytes: &[u8], at_desk: bool) -> Result<Request, ReadFault>
@@ -28,11 +26,8 @@ pub fn read_request(alloc: Global, bytes: &[u8], at_desk: bool) -> Result<Reques
     ensures fault { IfErr result (λ f. (f ≡ ReadFault.NoMemory) ⊎ IsReadAs at_desk bytes.now (Err f)) }
     ensures limits { IfOk result IsWithinLimits }
 {
-    match Value::from_slice(alloc, bytes) {
-        Ok(value) => request_of(alloc, &value, at_desk),
-        Err(error) if error.is_memory() => Err(ReadFault::NoMemory),
-        Err(_) => Err(ReadFault::BadJson),
-    }
+    let value = json_value(alloc, bytes)?;
+    request_of(alloc, &value, at_desk)
 }
 
 /// A text is read in one way at most, and none is read as want of memory.
@@ -57,78 +52,13 @@ fn read_kind(alloc: Global, object: &Value, kind: Kind) -> Result<Request, ReadF
     ensures limits { IfOk result IsWithinLimits }
 {
     match kind {
-        Kind::Item => Ok(Request::Post(read_item(alloc, object)?)),
-        Kind::Store => Ok(Request::Post(read_store(alloc, object)?)),
-        Kind::Receipt => Ok(Request::Post(read_receipt(alloc, object)?)),
-        Kind::Issue => Ok(Request::Post(read_issue(alloc, object)?)),
+        Kind::Post(kind) => Ok(Request::Post(read_what(alloc, object, &[FieldName::Do], kind)?)),
         Kind::Settle => {
-            no_other(object, &[FieldName::Do], 0)?;
+            no_other(object, &[FieldName::Do], &[], 0)?;
             Ok(Request::Settle)
         }
         Kind::Report => Ok(Request::Report(read_report(alloc, object)?)),
     }
-}
-
-/// The new item that an object says.
-fn read_item(alloc: Global, object: &Value) -> Result<What, ReadFault>
-    ensures outcome { OrNoMemory (IsItem (view object.now)) result }
-    ensures limits { IfOk result (λ what. IsTrue (is_within_limits what)) }
-{
-    let code = code_field(alloc, object, FieldName::Code, 0)?;
-    let method = method_field(object)?;
-    no_other(
-        object,
-        &[FieldName::Do, FieldName::Code, FieldName::Method],
-        0,
-    )?;
-    Ok(What::Item { code, method })
-}
-
-/// The new warehouse that an object says.
-fn read_store(alloc: Global, object: &Value) -> Result<What, ReadFault>
-    ensures outcome { OrNoMemory (IsStore (view object.now)) result }
-    ensures limits { IfOk result (λ what. IsTrue (is_within_limits what)) }
-{
-    let code = code_field(alloc, object, FieldName::Code, 0)?;
-    let account = number_field(object, FieldName::Account, 0, 0, 1_000_000_000)?;
-    no_other(
-        object,
-        &[FieldName::Do, FieldName::Code, FieldName::Account],
-        0,
-    )?;
-    Ok(What::Store {
-        code,
-        account: AccountNo(account as u32),
-    })
-}
-
-/// The receipt that an object says.
-fn read_receipt(alloc: Global, object: &Value) -> Result<What, ReadFault>
-    ensures outcome { OrNoMemory (IsReceipt (view object.now)) result }
-    ensures limits { IfOk result (λ what. IsTrue (is_within_limits what)) }
-{
-    let at = moment_field(object, FieldName::At)?;
-    let lines = lines_field(alloc, object)?;
-    no_other(object, &[FieldName::Do, FieldName::At, FieldName::Lines], 0)?;
-    Ok(What::Receipt { at, lines })
-}
-
-/// The issue that an object says.
-fn read_issue(alloc: Global, object: &Value) -> Result<What, ReadFault>
-    ensures outcome { OrNoMemory (IsIssue (view object.now)) result }
-    ensures limits { IfOk result (λ what. IsTrue (is_within_limits what)) }
-{
-    let at = moment_field(object, FieldName::At)?;
-    let purpose = purpose_field(object)?;
-    let lines = lines_field(alloc, object)?;
-    let names = [
-        FieldName::Do,
-        FieldName::At,
-        FieldName::Use,
-        FieldName::Lines,
-    ];
-    no_other(object, &names, 0)?;
-    Ok(What::Issue { at, purpose, lines })
 }
 
 /// The report that an object asks for.
@@ -141,8 +71,7 @@ fn read_report(alloc: Global, object: &Value) -> Result<Query, ReadFault>
     let item = optional_code(alloc, object, FieldName::Item)?;
     let store = optional_code(alloc, object, FieldName::Store)?;
     format_field(object)?;
-    let names = [
-        FieldName::Do,
+    let own = [
         FieldName::Of,
         FieldName::Need,
         FieldName::Until,
@@ -150,7 +79,7 @@ fn read_report(alloc: Global, object: &Value) -> Result<Query, ReadFault>
         FieldName::Store,
         FieldName::As,
     ];
-    no_other(object, &names, 0)?;
+    no_other(object, &[FieldName::Do], &own, 0)?;
     Ok(Query {
         sheet,
         need: RecordNo(need.unwrap_or(0) as u32),

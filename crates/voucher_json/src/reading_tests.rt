@@ -85,10 +85,15 @@ fn reads_each_kind(rt: HostRuntime) -> Result<(), Fail> {
             r#"{"do":"item","code":"a b","method":"average"}"#,
             "item a b Average",
         ),
+        (r#"{"do":"item","code":"A","method":"fifo"}"#, "item A Fifo"),
         (r#" {"account":0, "do":"store","code":""} "#, "store  0"),
         (r#"{"do":"settle"}"#, "settle"),
         (r#"{"do":"fly","do":"settle"}"#, "settle"),
         (r#"{"of":"balance","do":"report"}"#, "report Balance 0"),
+        (
+            r#"{"do":"report","of":"layers","need":7,"as":"json"}"#,
+            "report Layers 7",
+        ),
         (
             r#"{"do":"report","of":"balance","need":4294967295,"until":"2026-01-03T07:08:09","item":"B","store":"W1","as":"json"}"#,
             "report Balance 4294967295 until 20260103 25689 item B store W1",
@@ -123,10 +128,10 @@ fn tells_the_first_fault(rt: HostRuntime) -> Result<(), Fail> {
         (r#"{"do":"settle","x":1}"#, "bad other 0"),
         (r#"{"do":"settle","desk":0}"#, "bad other 0"),
         (
-            r#"{"do":"item","code":"A","method":"fifo","x":1}"#,
+            r#"{"do":"item","code":"A","method":"lifo","x":1}"#,
             "bad method 0",
         ),
-        (r#"{"do":"item","method":"fifo"}"#, "bad code 0"),
+        (r#"{"do":"item","method":"lifo"}"#, "bad code 0"),
         (
             r#"{"do":"store","code":"W","account":1000000001}"#,
             "limit account 0",

@@ -1,21 +1,19 @@
 //! The texts of the replies.
-ghost use Rattle.std.specs.Prelude.{◌≡◌, map, IfOk, string_bytes};
-ghost use Rattle.serde_json.specs.View.{view};
-ghost use Rattle.stock_nums.specs.MomentText.{moment_text};
+ghost use Rattle.std.specs.Prelude.{◌≡◌, map, IfOk};
+ghost use Rattle.serde_json.specs.View.{view, items_view};
 ghost use Rattle.stock_model.specs.declared.replies.Reply.{Reply};
-ghost use Rattle.voucher_json.specs.ReplyText.{refusal_data, short_data, row_data, reply_data, reply_text, bad_data, fault_data, line_fault_data, field_fault_data, IsTold, IsReadFaultTold, IsPrinted};
+ghost use Rattle.voucher_json.specs.ReplyText.{refusal_data, short_data, row_data, layer_data, sheet_data, reply_data, reply_text, bad_data, fault_data, line_fault_data, field_fault_data, IsTold, IsReadFaultTold, IsPrinted};
 
 use crate::field_names::field_text;
+use crate::moment_strings::moment_string;
 use serde_json::{Value, json};
 use std::alloc::{AllocError, Global};
 use stock_model::faults::PostFault;
 use stock_model::read_faults::{FieldName, ReadFault};
-use stock_model::replies::{BalanceRow, Reply};
+use stock_model::replies::{BalanceRow, LayerRow, Reply};
 use stock_nums::code::Code;
 use stock_nums::lines::Lines;
 use stock_nums::memory::NoMemory;
-use stock_nums::moment::Moment;
-use stock_nums::moment_text::moment_text;
 use stock_nums::numbers::{Qty, RecordNo};
 use stock_nums::place::Place;
 
@@ -48,7 +46,11 @@ fn reply_value(alloc: Global, reply: &Reply) -> Result<Value, AllocError>
         Reply::Settled(covered) => json!(in alloc; {"covered": covered.0, "status": "settled"}),
         Reply::Balance { covered, rows } => {
             let rows = rows_value(alloc, rows.as_slice())?;
-            json!(in alloc; {"covered": covered.0, "report": "balance", "rows": rows, "status": "ok"})
+            sheet_value(alloc, "balance", *covered, rows)
+        }
+        Reply::Layers { covered, rows } => {
+            let rows = layers_value(alloc, rows.as_slice())?;
+            sheet_value(alloc, "layers", *covered, rows)
         }
         Reply::Long => fault_value(alloc, "long", "bad"),
         Reply::Bad(fault) => bad_value(alloc, *fault),
@@ -147,16 +149,6 @@ fn short_value(
     })
 }
 
-/// The text of a moment. It is ASCII, so nothing of it is lost.
-fn moment_string(alloc: Global, moment: Moment) -> Result<String, AllocError>
-    ensures { IfOk result (λ text. string_bytes text ≡ moment_text moment) }
-{
-    let Ok(text) = moment_text(alloc, moment) else {
-        return Err(AllocError);
-    };
-    String::from_utf8_lossy(alloc, text.as_slice())
-}
-
 /// The JSON value of the reply that the wanted record is not covered yet.
 fn pending_value(alloc: Global, covered: RecordNo, wanted: RecordNo) -> Result<Value, AllocError>
     ensures { IfOk result (λ value. view value ≡ reply_data (Reply.Pending covered wanted)) }
@@ -169,6 +161,18 @@ fn missing_value(alloc: Global, accepted: RecordNo, wanted: RecordNo) -> Result<
     ensures { IfOk result (λ value. view value ≡ reply_data (Reply.NoSuchRecord accepted wanted)) }
 {
     json!(in alloc; {"accepted": accepted.0, "need": wanted.0, "status": "no-such-record"})
+}
+
+/// The JSON value of a sheet of this name.
+fn sheet_value(
+    alloc: Global,
+    name: &str,
+    covered: RecordNo,
+    rows: Vec<Value>,
+) -> Result<Value, AllocError>
+    ensures { IfOk result (λ value. view value ≡ sheet_data name.now covered.0 (items_view rows.items)) }
+{
+    json!(in alloc; {"covered": covered.0, "report": name, "rows": rows, "status": "ok"})
 }
 
 /// The JSON values of the rows of a balance sheet.
@@ -194,11 +198,37 @@ fn row_value(alloc: Global, row: &BalanceRow) -> Result<Value, AllocError>
     })
 }
 
+/// The JSON values of the rows of a layers sheet.
+fn layers_value(alloc: Global, rows: &[LayerRow]) -> Result<Vec<Value>, AllocError>
+    ensures { IfOk result (λ values. map view values.items ≡ map layer_data rows.now) }
+{
+    let mut values = Vec::new(alloc);
+    for row in rows {
+        values.push(layer_value(alloc, row)?)?;
+    }
+    Ok(values)
+}
+
+/// The JSON value of a row of a layers sheet.
+fn layer_value(alloc: Global, row: &LayerRow) -> Result<Value, AllocError>
+    ensures { IfOk result (λ value. view value ≡ layer_data row.now) }
+{
+    json!(in alloc; {
+        "item": row.item.text(),
+        "line": row.line,
+        "qty": row.qty.0,
+        "record": row.voucher.0,
+        "store": row.store.text(),
+        "value": row.value.0
+    })
+}
+
 #[cfg(test)]
 mod tests {
     use super::*;
     use std::process::Abort;
     use std::test::Fail;
+    use stock_nums::moment::Moment;
     use stock_nums::numbers::Minor;
     use stock_nums::place::Side;
 
@@ -365,6 +395,27 @@ mod tests {
             alloc,
             &balance,
             r#"{"covered":3,"report":"balance","rows":[{"item":"B","qty":10,"store":"W1","value":1000},{"item":"C","qty":10,"store":"W1","value":-3}],"status":"ok"}"#,
+        )
+    }
+
+    #[test]
+    fn prints_layers(rt: HostRuntime) -> Result<(), Fail> {
+        let alloc = rt.alloc();
+        let mut rows = Lines::new(alloc);
+        rows.push(LayerRow {
+            item: Code::of(alloc, "A")?,
+            store: Code::of(alloc, "W1")?,
+            voucher: RecordNo(4),
+            line: 1,
+            qty: Qty(9),
+            value: Minor(1170),
+        })?;
+        let covered = RecordNo(6);
+        check(
+            &rt,
+            alloc,
+            &Reply::Layers { covered, rows },
+            r#"{"covered":6,"report":"layers","rows":[{"item":"A","line":1,"qty":9,"record":4,"store":"W1","value":1170}],"status":"ok"}"#,
         )
     }
 }

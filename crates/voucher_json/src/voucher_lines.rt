@@ -6,7 +6,7 @@ ghost use Rattle.stock_model.specs.declared.read_faults.FieldName.{FieldName};
 ghost use Rattle.stock_model.specs.declared.read_faults.ReadFault.{ReadFault};
 ghost use Rattle.voucher_json.specs.Walks.{Field, Elements, OrNoMemory};
 ghost use Rattle.voucher_json.specs.Fields.{IsList};
-ghost use Rattle.voucher_json.specs.Requests.{IsReceiptLine, IsIssueLine};
+ghost use Rattle.voucher_json.specs.Records.{IsReceiptLine, IsIssueLine};
 
 use crate::field_names::field_text;
 use crate::fields::{code_field, number_field};
@@ -42,7 +42,7 @@ impl VoucherLine for ReceiptLine {
             FieldName::Qty,
             FieldName::Amount,
         ];
-        no_other(value, &names, place)?;
+        no_other(value, &[], &names, place)?;
         Ok(ReceiptLine {
             item,
             store,
@@ -61,7 +61,7 @@ impl VoucherLine for IssueLine {
         let store = code_field(alloc, value, FieldName::Store, place)?;
         let qty = number_field(value, FieldName::Qty, place, 1, 1_000_000_000)?;
         let names = [FieldName::Item, FieldName::Store, FieldName::Qty];
-        no_other(value, &names, place)?;
+        no_other(value, &[], &names, place)?;
         Ok(IssueLine {
             item,
             store,

@@ -1,8 +1,14 @@
-use Rattle.voucher_json.proofs.Requests.{read_as, refused_as}
+use Rattle.std.proofs.lemmas.Result.{err_from_is_err_and}
+use Rattle.voucher_json.proofs.Texts.{walked, refused, unread}
 use Rattle.voucher_json.proofs.reading.read_request.Goals as goal
 
-pub returns-in-Ok-clause-read : goal.returns-in-Ok-clause-read
-returns-in-Ok-clause-read c = read_as _ _ _ _ c.in-Ok.ensures.ok.0 c.in-Ok.ensures.ok.1 c.request_of.ensures.outcome
+pub returns-in_err-value-clause-fault : goal.returns-in_err-value-clause-fault
+returns-in_err-value-clause-fault c =
+    let p = err_from_is_err_and c.from_residual.result c.from_residual.ensures.1 in
+    rw (p.1, p.2) (unread _ _ _ c.in_err-value.ensures.err)
 
-pub returns-in-Ok-clause-fault : goal.returns-in-Ok-clause-fault
-returns-in-Ok-clause-fault c = refused_as _ _ _ _ c.in-Ok.ensures.ok.0 c.in-Ok.ensures.ok.1 c.request_of.ensures.outcome
+pub returns-clause-read : goal.returns-clause-read
+returns-clause-read c = walked _ _ _ _ c.in_ok-value.ensures.ok c.request_of.ensures.outcome
+
+pub returns-clause-fault : goal.returns-clause-fault
+returns-clause-fault c = refused _ _ _ _ c.in_ok-value.ensures.ok c.request_of.ensures.outcome

@@ -3,7 +3,7 @@ use Rattle.std.proofs.lemmas.Result.{IfOk-weaker}
 use Rattle.std.specs.Str.{IsUtf8}
 use Rattle.stock_nums.specs.MomentText.{moment_text}
 use Rattle.voucher_json.proofs.Moments.{moment_text-utf8}
-use Rattle.voucher_json.proofs.replying.moment_string.Goals as goal
+use Rattle.voucher_json.proofs.moment_strings.moment_string.Goals as goal
 
 pub returns : goal.returns
 returns c =

@@ -1,7 +1,7 @@
 use Rattle.std.proofs.Common.{inr, refl}
 use Rattle.std.proofs.lemmas.Result.{err_from_is_err_and}
 use Rattle.voucher_json.proofs.Walks.{goes, goes_had, stops, stops_had}
-use Rattle.voucher_json.proofs.reading.read_issue.Goals as goal
+use Rattle.voucher_json.proofs.whats.read_issue.Goals as goal
 
 pub returns-in_err-at-clause-outcome : goal.returns-in_err-at-clause-outcome
 returns-in_err-at-clause-outcome c =

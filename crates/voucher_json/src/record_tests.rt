@@ -1,0 +1,81 @@
+use crate::field_names::field_text;
+use crate::record_reading::read_record;
+use crate::record_texts::record_text;
+use std::alloc::Global;
+use std::test::Fail;
+use stock_model::read_faults::ReadFault;
+
+/// The stored text of the record that a text is read as, or why it is none.
+fn read(alloc: Global, text: &[u8]) -> Result<String, Fail> {
+    match read_record(alloc, text) {
+        Ok(found) => {
+            let text = record_text(alloc, &found)?;
+            Ok(String::from_utf8_lossy(alloc, text.as_slice())?)
+        }
+        Err(ReadFault::BadJson) => Ok(String::from_str(alloc, "no json")?),
+        Err(ReadFault::BadField { name, line }) => {
+            Ok(format!(in alloc; "bad {} {line}", field_text(name))?)
+        }
+        Err(ReadFault::Limit { name, line }) => {
+            Ok(format!(in alloc; "limit {} {line}", field_text(name))?)
+        }
+        Err(ReadFault::NoMemory) => Ok(String::from_str(alloc, "no memory")?),
+    }
+}
+
+#[test]
+fn reads_what_it_writes(rt: HostRuntime) -> Result<(), Fail> {
+    let table = [
+        r#"{"code":"A","desk":0,"do":"item","method":"fifo"}"#,
+        r#"{"code":"a \"b\"\\\u0001ü","desk":16,"do":"item","method":"average"}"#,
+        r#"{"account":1000000000,"code":"W1","desk":1,"do":"store"}"#,
+        r#"{"at":"2026-01-02T09:00:00","desk":0,"do":"receipt","lines":[{"amount":1000,"item":"B","qty":10,"store":"W1"}]}"#,
+        r#"{"at":"2026-01-02T09:00:00","desk":3,"do":"issue","lines":[{"item":"B","qty":1,"store":"W1"},{"item":"C","qty":1000000000,"store":"W2"}],"use":"sold"}"#,
+        r#"{"at":"2026-01-02T09:00:00","desk":3,"do":"issue","lines":[{"item":"B","qty":1,"store":"W1"}],"use":"used"}"#,
+    ];
+    for text in table {
+        let found = read(rt.alloc(), text.as_bytes())?;
+        assert_eq!(rt; found.as_str(), text);
+    }
+    Ok(())
+}
+
+#[test]
+fn tells_the_first_fault(rt: HostRuntime) -> Result<(), Fail> {
+    let table = [
+        ("{", "no json"),
+        ("[]", "bad request 0"),
+        (r#"{"desk":0,"do":"settle"}"#, "bad do 0"),
+        (r#"{"desk":0,"do":"report","of":"balance"}"#, "bad do 0"),
+        (r#"{"do":"item"}"#, "bad desk 0"),
+        (r#"{"desk":"0","do":"item"}"#, "bad desk 0"),
+        (r#"{"desk":17,"do":"item"}"#, "limit desk 0"),
+        (r#"{"desk":-1,"do":"item"}"#, "limit desk 0"),
+        (r#"{"desk":0,"do":"item"}"#, "bad code 0"),
+        (
+            r#"{"code":"A","desk":0,"do":"item","method":"fifo","x":1}"#,
+            "bad other 0",
+        ),
+        (
+            r#"{"code":"A","desk":0,"do":"item","method":"fifo"} "#,
+            "bad request 0",
+        ),
+        (
+            r#"{"desk":0,"code":"A","do":"item","method":"fifo"}"#,
+            "bad request 0",
+        ),
+        (
+            r#"{"code":"A","code":"A","desk":0,"do":"item","method":"fifo"}"#,
+            "bad request 0",
+        ),
+        (
+            r#"{"code":"\u0041","desk":0,"do":"item","method":"fifo"}"#,
+            "bad request 0",
+        ),
+    ];
+    for (text, want) in table {
+        let found = read(rt.alloc(), text.as_bytes())?;
+        assert_eq!(rt; found.as_str(), want, "{text}");
+    }
+    Ok(())
+}

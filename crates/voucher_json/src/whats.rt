@@ -1,0 +1,83 @@
+//! What a record says, from the fields of a JSON object.
+ghost use Rattle.std.specs.Prelude.{IsTrue, IfOk};
+ghost use Rattle.serde_json.specs.View.{view};
+ghost use Rattle.stock_model.specs.Limits.{is_within_limits};
+ghost use Rattle.voucher_json.specs.Walks.{OrNoMemory};
+ghost use Rattle.voucher_json.specs.Records.{IsItem, IsStore, IsReceipt, IsIssue, IsWhat};
+
+use crate::fields::{code_field, method_field, moment_field, number_field, purpose_field};
+use crate::forms::no_other;
+use crate::kinds::RecordKind;
+use crate::voucher_lines::lines_field;
+use serde_json::Value;
+use std::alloc::Global;
+use stock_model::read_faults::{FieldName, ReadFault};
+use stock_model::vouchers::What;
+use stock_nums::numbers::AccountNo;
+
+/// What a record of this kind says by an object, which has the shared fields beside those of the kind.
+pub fn read_what(
+    alloc: Global,
+    object: &Value,
+    shared: &[FieldName],
+    kind: RecordKind,
+) -> Result<What, ReadFault>
+    ensures outcome { OrNoMemory (IsWhat shared.now kind (view object.now)) result }
+    ensures limits { IfOk result (λ what. IsTrue (is_within_limits what)) }
+{
+    match kind {
+        RecordKind::Item => read_item(alloc, object, shared),
+        RecordKind::Store => read_store(alloc, object, shared),
+        RecordKind::Receipt => read_receipt(alloc, object, shared),
+        RecordKind::Issue => read_issue(alloc, object, shared),
+    }
+}
+
+/// The new item that an object says.
+fn read_item(alloc: Global, object: &Value, shared: &[FieldName]) -> Result<What, ReadFault>
+    ensures outcome { OrNoMemory (IsItem shared.now (view object.now)) result }
+    ensures limits { IfOk result (λ what. IsTrue (is_within_limits what)) }
+{
+    let code = code_field(alloc, object, FieldName::Code, 0)?;
+    let method = method_field(object)?;
+    no_other(object, shared, &[FieldName::Code, FieldName::Method], 0)?;
+    Ok(What::Item { code, method })
+}
+
+/// The new warehouse that an object says.
+fn read_store(alloc: Global, object: &Value, shared: &[FieldName]) -> Result<What, ReadFault>
+    ensures outcome { OrNoMemory (IsStore shared.now (view object.now)) result }
+    ensures limits { IfOk result (λ what. IsTrue (is_within_limits what)) }
+{
+    let code = code_field(alloc, object, FieldName::Code, 0)?;
+    let account = number_field(object, FieldName::Account, 0, 0, 1_000_000_000)?;
+    no_other(object, shared, &[FieldName::Code, FieldName::Account], 0)?;
+    Ok(What::Store {
+        code,
+        account: AccountNo(account as u32),
+    })
+}
+
+/// The receipt that an object says.
+fn read_receipt(alloc: Global, object: &Value, shared: &[FieldName]) -> Result<What, ReadFault>
+    ensures outcome { OrNoMemory (IsReceipt shared.now (view object.now)) result }
+    ensures limits { IfOk result (λ what. IsTrue (is_within_limits what)) }
+{
+    let at = moment_field(object, FieldName::At)?;
+    let lines = lines_field(alloc, object)?;
+    no_other(object, shared, &[FieldName::At, FieldName::Lines], 0)?;
+    Ok(What::Receipt { at, lines })
+}
+
+/// The issue that an object says.
+fn read_issue(alloc: Global, object: &Value, shared: &[FieldName]) -> Result<What, ReadFault>
+    ensures outcome { OrNoMemory (IsIssue shared.now (view object.now)) result }
+    ensures limits { IfOk result (λ what. IsTrue (is_within_limits what)) }
+{
+    let at = moment_field(object, FieldName::At)?;
+    let purpose = purpose_field(object)?;
+    let lines = lines_field(alloc, object)?;
+    let own = [FieldName::At, FieldName::Use, FieldName::Lines];
+    no_other(object, shared, &own, 0)?;
+    Ok(What::Issue { at, purpose, lines })
+}
