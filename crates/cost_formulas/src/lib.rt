@@ -2,3 +2,6 @@
 #![tactic(auto)]
 
 pub mod average;
+mod layer;
+pub mod layers;
+mod sending;

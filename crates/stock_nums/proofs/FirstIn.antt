@@ -1,5 +1,5 @@
 -- First in, first out: what the units that left cost and what the layers left are worth make up what entered.
-use Rattle.std.proofs.Common.{◌≡◌, ℕ, ◌+◌, ◌-◌, ◌*◌, ◌/◌, ◌<◌, ◌≤◌, Bool, if◌then◌else◌, List, [], ◌∷◌, ◌++◌, sum_by, inl, inr, refl, sym, ap, ◌∙◌, arith}
+use Rattle.std.proofs.Common.{◌≡◌, ℕ, ◌+◌, ◌-◌, ◌*◌, ◌/◌, ◌<◌, ◌≤◌, Bool, if◌then◌else◌, nat_le, map, List, [], ◌∷◌, ◌++◌, sum_by, inl, inr, refl, sym, ap, ◌∙◌, arith}
 use Rattle.std.specs.List.{All}
 use Rattle.std.proofs.lemmas.Bool.{le-leb, lt-leb, cases_lt}
 use Rattle.std.proofs.lemmas.List.Elements.{All-head, All-tail}
@@ -164,3 +164,34 @@ module _ {X : Type 0} (units value : X → ℕ) where
     where
       chain : (x y z : ℕ) → x ≤ y → y ≤ z → (y - x) + (z - y) ≡ z - x
       chain x y z first second = omega arith
+
+-- elements that stand for others: with the units and values of these, all is as it is with these
+module _ {X Y : Type 0} (f : Y → X) (units value : X → ℕ) where
+  -- what the first units cost
+  pub first_cost-map : (es : List Y) (x : ℕ) → first_cost units value (map f es) x ≡ first_cost (λ e. units (f e)) (λ e. value (f e)) es x
+  first_cost-map [] x = refl
+  first_cost-map (e ∷ es) x =
+      ap (λ (c : ℕ). if nat_le (units (f e)) x then value (f e) + c else part (value (f e)) 0 x (units (f e))) (first_cost-map es (x - units (f e)))
+
+  -- what the next units cost
+  pub next_cost-map : (es : List Y) (taken q : ℕ) → next_cost units value (map f es) taken q ≡ next_cost (λ e. units (f e)) (λ e. value (f e)) es taken q
+  next_cost-map es taken q =
+      let till_now = first_cost-map es (taken + q) in
+      let till_before = first_cost-map es taken in
+      omega arith
+
+  -- the layers that are left
+  pub layers_left-map : (es : List Y) (taken : ℕ) → layers_left units (map f es) taken ≡ map (λ (layer : Layer Y). record { entered = f layer.entered; taken = layer.taken }) (layers_left (λ e. units (f e)) es taken)
+  layers_left-map [] taken = refl
+  layers_left-map (e ∷ es) taken =
+      let stands_for : Layer Y → Layer X = λ layer. record { entered = f layer.entered; taken = layer.taken } in
+      elim (cases_lt taken (units (f e))) [
+        | inl cut ↦
+            layers_left-cut units (f e) (map f es) taken cut
+            ∙ ap (λ (layers : List (Layer X)). record { entered = f e; taken = taken } ∷ layers) (layers_left-map es 0)
+            ∙ ap (map stands_for) (sym (layers_left-cut (λ e. units (f e)) e es taken cut))
+        | inr gone ↦
+            layers_left-gone units (f e) (map f es) taken gone
+            ∙ layers_left-map es (taken - units (f e))
+            ∙ ap (map stands_for) (sym (layers_left-gone (λ e. units (f e)) e es taken gone))
+      ]

@@ -1,0 +1,11 @@
+//! That what is held may cross from one thread to another.
+
+use crate::average::Average;
+use crate::layers::Layers;
+
+fn sent<T: Send>() {}
+
+fn what_is_held_may_cross_threads() {
+    sent::<Average>();
+    sent::<Layers>();
+}
