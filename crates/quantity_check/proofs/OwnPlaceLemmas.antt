@@ -1,6 +1,5 @@
 -- Movements with places of their own can be put in posting order, and those that were have them.
-use Rattle.std.proofs.Common.{◌≡◌, ℕ, suc, ◌+◌, ◌<◌, Bool, true, false, cond, List, [], ◌∷◌, ◌++◌, Option, Some, None, refl, sym, ap, ◌∙◌, subst, length, get_or, drop, drop-cons, arith}
-use Rattle.std.specs.List.{find}
+use Rattle.std.proofs.Common.{◌≡◌, ℕ, suc, ◌+◌, ◌<◌, Bool, true, false, cond, List, [], ◌∷◌, ◌++◌, None, sym, ap, ◌∙◌, subst, length, get_or, drop, drop-cons, arith}
 use Rattle.std.proofs.lemmas.Bool.{false≢true}
 use Rattle.std.proofs.lemmas.List.{append-nil}
 use Rattle.stock_nums.specs.Places.{is_before}
@@ -11,7 +10,7 @@ use Rattle.stock_model.specs.InOrder.{IsBefore, IsInPostingOrder}
 use Rattle.stock_model.specs.PostingOrder.{put, put_all}
 use Rattle.stock_model.proofs.Pairwise.{Precedes, Pairwise, Across, Each, Each-weaker, Pairwise-append, AllPairs-from_Pairwise, Pairwise-from_AllPairs}
 use Rattle.posting_order.specs.Timelines.{is_at, entry_at}
-use Rattle.posting_order.proofs.Parting.{Fails, Pairwise-weaker, Each-from_Precedes, fails_from_not_passes, find-none}
+use Rattle.posting_order.proofs.Parting.{Fails, Pairwise-weaker, fails_from_not_passes, find-none}
 use Rattle.posting_order.proofs.Places.{is_same_place-true, put-Precedes, IsInPostingOrder-put}
 use Rattle.quantity_check.specs.OwnPlaces.{StandApart, HaveOwnPlaces}
 

@@ -148,42 +148,50 @@ mod tests {
     use super::*;
     use std::test::Fail;
     use stock_nums::cause::{Cause, Method};
-    use stock_nums::entry::Key;
     use stock_nums::moment::Moment;
     use stock_nums::numbers::{Minor, RecordNo};
     use stock_nums::place::Side;
 
-    // Units of item 1 that a record brings into warehouse 2, or takes out of it, on the third of January 2026.
-    fn movement(second: u16, voucher: u32, units: u8, side: Side) -> Entry
-        requires { 0 < units }
-    {
-        let moment = Moment {
-            date: 20_260_103,
-            second: u32::from(second),
-        };
-        let entry = Entry {
+    #[test]
+    fn tells_what_lacks(rt: HostRuntime) -> Result<(), Fail> {
+        let receipt = Entry {
             place: Place {
-                moment,
-                voucher: RecordNo(voucher),
+                moment: Moment {
+                    date: 20_260_103,
+                    second: 32_400,
+                },
+                voucher: RecordNo(3),
                 line: 1,
                 side: Side::Enters,
             },
             item: ItemNo(1),
             store: StoreNo(2),
-            qty: Qty(u64::from(units)),
+            qty: Qty(10),
             method: Method::Average,
             cause: Cause::Receipt { amount: Minor(0) },
         };
-        match side {
-            Side::Enters => entry,
-            Side::Leaves => Entry {
-                place: Place {
-                    side: Side::Leaves,
-                    ..entry.place
-                },
-                cause: Cause::Issue { sold: true },
-                ..entry
-            },
-        }
+        let mut issue = receipt;
+        issue.place.voucher = RecordNo(4);
+        issue.place.side = Side::Leaves;
+        issue.cause = Cause::Issue { sold: true };
+        let mut more = issue;
+        more.qty = Qty(13);
+        let lacks = Short::Lacks {
+            place: issue.place,
+            item: ItemNo(1),
+            store: StoreNo(2),
+            lacking: Qty(3),
+        };
+        let mut running = Running::new(rt.alloc());
+        running.reserve(1)?;
+        let received = running.try_entries(rt.alloc(), [receipt].as_slice());
+        assert!(rt; received.is_ok());
+        running.add([receipt].as_slice());
+        let issued = running.try_entries(rt.alloc(), [issue].as_slice());
+        assert!(rt; issued == Ok(()));
+        let refused = running.try_entries(rt.alloc(), [more].as_slice());
+        assert!(rt; refused == Err(lacks));
+        assert!(rt; running.timeline().entries() == [receipt].as_slice());
+        Ok(())
     }
 }

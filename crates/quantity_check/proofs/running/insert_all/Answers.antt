@@ -1,8 +1,6 @@
 -- Each has a place where the line has none.
-use Rattle.std.proofs.Common.{◌≡◌, ◌+◌, ◌≤◌, ◌++◌, List, drop, sym, subst, arith}
-use Rattle.std.proofs.lemmas.Grind.{common_steps}
+use Rattle.std.proofs.Common.{◌+◌, ◌++◌, List, drop, sym, subst, arith}
 use Rattle.stock_nums.specs.declared.entry.Entry.{Entry}
-use Rattle.stock_model.specs.PostingOrder.{put_all}
 use Rattle.quantity_check.specs.OwnPlaces.{HaveOwnPlaces}
 use Rattle.quantity_check.proofs.OwnPlaceLemmas.{HaveOwnPlaces-step, put_all-step}
 use Rattle.quantity_check.proofs.running.insert_all.Goals as goal

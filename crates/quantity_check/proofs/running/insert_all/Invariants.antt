@@ -1,5 +1,5 @@
 -- The rest put into the line gives what all give, each still has its place, and there is room for the rest.
-use Rattle.std.proofs.Common.{◌≡◌, ◌+◌, ◌≤◌, ◌++◌, drop, length}
+use Rattle.std.proofs.Common.{◌≡◌, ◌+◌, ◌≤◌, ◌++◌, drop}
 use Rattle.stock_model.specs.PostingOrder.{put_all}
 use Rattle.quantity_check.specs.OwnPlaces.{HaveOwnPlaces}
 use Rattle.quantity_check.proofs.running.insert_all.Given as goal

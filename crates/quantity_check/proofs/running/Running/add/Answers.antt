@@ -1,5 +1,5 @@
 -- The movements that are added have places of their own, and none of all takes more than there is.
-use Rattle.std.proofs.Common.{◌≡◌, ◌++◌, List, sym, ap, subst, ◌∙◌}
+use Rattle.std.proofs.Common.{◌++◌, List, sym, ap, subst}
 use Rattle.stock_nums.specs.declared.entry.Entry.{Entry}
 use Rattle.stock_model.specs.Enough.{IsEnough}
 use Rattle.stock_model.specs.InOrder.{IsInPostingOrder}

@@ -1,6 +1,5 @@
 -- The line that is looked at has all the movements.
-use Rattle.std.proofs.Common.{◌≡◌, List, length, None, sym, ap, ◌∙◌, rules, arith}
-use Rattle.std.proofs.lemmas.Grind.{common_steps}
+use Rattle.std.proofs.Common.{◌≡◌, List, length, None, sym, ap, ◌∙◌, arith}
 use Rattle.stock_nums.specs.declared.entry.Entry.{Entry}
 use Rattle.stock_model.specs.Enough.{shortage}
 use Rattle.stock_model.specs.PostingOrder.{put_all}
