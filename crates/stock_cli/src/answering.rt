@@ -1,6 +1,8 @@
 //! The answer to a request, over the book.
 ghost use Rattle.std.specs.Prelude.{◌≡◌, ℕ, List, IfOk, IsTrue, false};
 ghost use Rattle.stock_model.specs.Limits.{is_within_limits};
+ghost use Rattle.stock_model.specs.Answers.{sheet_reply};
+ghost use Rattle.stock_model.specs.Bounds.{AreBounded};
 ghost use Rattle.stock_model.specs.History.{IsLegal};
 ghost use Rattle.stock_model.specs.Run.{Answers, Step};
 ghost use Rattle.voucher_json.specs.Requests.{IsReadAs, IsWithinLimits};
@@ -12,7 +14,8 @@ use crate::open_line::OpenLine;
 use crate::refusing::{bad, refused};
 use generation_book::book::Book;
 use std::alloc::Global;
-use stock_model::queries::{Query, SelectFault};
+use stock_model::layers;
+use stock_model::queries::{Query, SelectFault, Selected, Sheet};
 use stock_model::records::Record;
 use stock_model::replies::Reply;
 use stock_model::requests::Request;
@@ -79,14 +82,28 @@ fn report(alloc: Global, book: &Book, query: &Query) -> Result<Reply, NoMemory>
     ensures printed { IfOk result IsPrinted }
 {
     match book.select(alloc, query) {
-        Ok(chosen) => Ok(Reply::Balance {
-            covered: chosen.covered,
-            rows: sheets::balance(alloc, query, &chosen)?,
-        }),
+        Ok(chosen) => sheet(alloc, query, &chosen),
         Err(SelectFault::Pending { covered, wanted }) => Ok(Reply::Pending { covered, wanted }),
         Err(SelectFault::NoSuchRecord { accepted, wanted }) => {
             Ok(Reply::NoSuchRecord { accepted, wanted })
         }
         Err(SelectFault::NoMemory) => Err(NoMemory),
+    }
+}
+
+fn sheet(alloc: Global, query: &Query, chosen: &Selected) -> Result<Reply, NoMemory>
+    requires { AreBounded chosen.now.rows }
+    ensures reply { IfOk result (λ reply. reply ≡ sheet_reply query.now query.now.sheet chosen.now) }
+    ensures printed { IfOk result IsPrinted }
+{
+    match query.sheet {
+        Sheet::Balance => Ok(Reply::Balance {
+            covered: chosen.covered,
+            rows: sheets::balance(alloc, query, chosen)?,
+        }),
+        Sheet::Layers => Ok(Reply::Layers {
+            covered: chosen.covered,
+            rows: layers::layers(alloc, query, chosen)?,
+        }),
     }
 }
