@@ -3,10 +3,10 @@ use Rattle.std.proofs.Common.{◌≡◌, ℕ, ◌+◌, ◌-◌, ◌<◌, ◌≤�
 use Rattle.std.specs.List.{All}
 use Rattle.std.proofs.lemmas.Bool.{le-leb, lt-leb, cases_lt}
 use Rattle.std.proofs.lemmas.List.Elements.{All-tail}
-use Rattle.std.proofs.lemmas.List.Sums.{sum_by-cons}
+use Rattle.std.proofs.lemmas.List.Sums.{sum_by-cons, sum_by_push}
 use Rattle.stock_nums.specs.FirstIn.{first_cost, next_cost, Layer, layers_left, layer_units, layer_value}
 use Rattle.stock_nums.specs.Part.{part}
-use Rattle.stock_nums.proofs.PartLemmas.{part-last, part-split}
+use Rattle.stock_nums.proofs.PartLemmas.{part-all, part-last, part-split}
 use Rattle.stock_nums.proofs.FirstIn.{first_cost-whole, first_cost-within, first_cost-none, layers_left-cut, layers_left-gone, layers_left-snoc}
 use Rattle.cost_formulas.specs.Held.{units_held, value_held, layers_cost, layers_after}
 use Rattle.cost_formulas.specs.Lots.{Lot, lot_units, lot_value, untouched}
@@ -145,3 +145,10 @@ pub layers_left-push : (old new : List (Layer Lot)) (entered : List Lot) (before
     → new ≡ old ++ untouched e ∷ [] → new ≡ layers_left lot_units (entered ++ e ∷ []) before
 layers_left-push old new entered before e is enough some added =
     added ∙ ap (λ (layers : List (Layer Lot)). layers ++ untouched e ∷ []) is ∙ sym (layers_left-snoc lot_units entered e before enough some)
+
+-- what enters is worth what it's worth
+pub value_held-push : (layers : List (Layer Lot)) (e : Lot) → 0 < lot_units e → value_held (layers ++ untouched e ∷ []) ≡ value_held layers + lot_value e
+value_held-push layers e some =
+    let none : lot_units e - 0 ≡ lot_units e = omega arith in
+    let whole : layer_value lot_units lot_value (untouched e) ≡ lot_value e = ap (λ (x : ℕ). part (lot_value e) 0 x (lot_units e)) none ∙ part-all (lot_value e) (lot_units e) some in
+    sum_by_push (layer_value lot_units lot_value) layers (untouched e) ∙ ap (λ (x : ℕ). value_held layers + x) whole

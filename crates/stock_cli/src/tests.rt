@@ -76,6 +76,33 @@ const SALES_REPLIES: &str = r#"{"record":1,"status":"accepted"}
 {"covered":4,"report":"balance","rows":[{"item":"B","qty":1,"store":"W1","value":33}],"status":"ok"}
 "#;
 
+// Goods that are costed first in, first out, with a receipt that is typed late.
+const FIRST_OUT: &str = r#"{"do":"item","code":"A","method":"fifo"}
+{"do":"store","code":"W1","account":100}
+{"do":"receipt","at":"2026-01-02T09:00:00","lines":[{"item":"A","store":"W1","qty":10,"amount":1000}]}
+{"do":"receipt","at":"2026-01-03T09:00:00","lines":[{"item":"A","store":"W1","qty":10,"amount":1300}]}
+{"do":"issue","at":"2026-01-04T09:00:00","use":"sold","lines":[{"item":"A","store":"W1","qty":15}]}
+{"do":"settle"}
+{"do":"report","of":"layers"}
+{"do":"receipt","at":"2026-01-01T09:00:00","lines":[{"item":"A","store":"W1","qty":4,"amount":100}]}
+{"do":"settle"}
+{"do":"report","of":"layers"}
+{"do":"report","of":"balance"}
+"#;
+
+const FIRST_OUT_REPLIES: &str = r#"{"record":1,"status":"accepted"}
+{"record":2,"status":"accepted"}
+{"record":3,"status":"accepted"}
+{"record":4,"status":"accepted"}
+{"record":5,"status":"accepted"}
+{"covered":5,"status":"settled"}
+{"covered":5,"report":"layers","rows":[{"item":"A","line":1,"qty":5,"record":4,"store":"W1","value":650}],"status":"ok"}
+{"record":6,"status":"accepted"}
+{"covered":6,"status":"settled"}
+{"covered":6,"report":"layers","rows":[{"item":"A","line":1,"qty":9,"record":4,"store":"W1","value":1170}],"status":"ok"}
+{"covered":6,"report":"balance","rows":[{"item":"A","qty":9,"store":"W1","value":1170}],"status":"ok"}
+"#;
+
 const SETTLE: &str = r#"{"do":"settle"}"#;
 
 const SETTLED: &str = "{\"covered\":0,\"status\":\"settled\"}\n";
@@ -144,7 +171,9 @@ fn a_first_run_is_answered_in_any_pieces(rt: HostRuntime) -> Result<(), Fail> {
         let setup = Setup { piece, ..WELL };
         check(&rt, alloc, setup, FIRST.as_bytes(), (0, FIRST_REPLIES, ""))?;
     }
-    check(&rt, alloc, WELL, SALES.as_bytes(), (0, SALES_REPLIES, ""))
+    check(&rt, alloc, WELL, SALES.as_bytes(), (0, SALES_REPLIES, ""))?;
+    let first_out = (0, FIRST_OUT_REPLIES, "");
+    check(&rt, alloc, WELL, FIRST_OUT.as_bytes(), first_out)
 }
 
 #[test]
