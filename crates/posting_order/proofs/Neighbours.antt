@@ -42,22 +42,27 @@ both-true : (a b : Bool) → b ≡ true → (a && b) ≡ a
 both-true true b h = h
 both-true false b h = refl
 
+-- not both are passed where the second fails
 both-false : (a b : Bool) → b ≡ false → (a && b) ≡ false
 both-false true b h = h
 both-false false b h = refl
 
+-- where both are passed, so is the first
 both-first : (a b : Bool) → (a && b) ≡ true → a ≡ true
 both-first true b h = refl
 both-first false b h = h
 
+-- where both are passed, so is the second
 both-second : (a b : Bool) → (a && b) ≡ true → b ≡ true
 both-second true b h = h
 both-second false b h = absurd (false≢true h)
 
+-- what is not passed fails
 from_not-true : (b : Bool) → not b ≡ true → b ≡ false
 from_not-true true h = absurd (false≢true h)
 from_not-true false h = refl
 
+-- what does not fail is passed
 from_not-false : (b : Bool) → not b ≡ false → b ≡ true
 from_not-false true h = refl
 from_not-false false h = absurd (false≢true (sym h))
@@ -122,20 +127,23 @@ is_of_key-from key e same = subst (λ (k : Key). is_same_key (entry_key e) k ≡
 follows-from : (key : Key) (place : Place) (e : Entry) → entry_key e ≡ key → is_before place e.place ≡ true → follows key place e ≡ true
 follows-from key place e same after = both-true (is_of_key key e) (comes_after place e) after ∙ is_of_key-from key e same
 
+-- the other test, likewise
 precedes-from : (key : Key) (place : Place) (e : Entry) → entry_key e ≡ key → is_before e.place place ≡ true → precedes key place e ≡ true
 precedes-from key place e same before = both-true (is_of_key key e) (comes_before place e) before ∙ is_of_key-from key e same
 
--- the second movement does not come before the first, or does not come after it
+-- the second movement does not come before the first
 abbrev IsNotBefore : Entry → Entry → Type 0
 IsNotBefore e f = is_before f.place e.place ≡ false
 
+-- the second movement does not come after the first
 abbrev IsNotAfter : Entry → Entry → Type 0
 IsNotAfter e f = is_before e.place f.place ≡ false
 
--- the last first
+-- the first movement comes after the second
 abbrev IsAfter : Entry → Entry → Type 0
 IsAfter a b = IsBefore b a
 
+-- movements in posting order, reversed, go back
 reverse-Pairwise : (es : List Entry) → IsInPostingOrder es → Pairwise IsAfter (reverse es)
 reverse-Pairwise es order =
     Pairwise-from_AllPairs IsAfter (reverse es) (λ i j d less within.
@@ -160,6 +168,7 @@ place_told : (o : Option Entry) (place : Place) → option_map entry_place o ≡
 place_told None place told = absurd (grind (arith, told))
 place_told (Some e) place told = (e, refl, grind (arith, told))
 
+-- where no place is told nothing was found
 none_told : (o : Option Entry) → option_map entry_place o ≡ None → o ≡ None
 none_told None told = refl
 none_told (Some e) told = absurd (grind (arith, told))
@@ -171,6 +180,7 @@ next_place-some es key place next order is =
     let first = find-first IsBefore IsNotBefore (follows key place) (λ x. is_before-irreflexive x.place) (λ x y before. is_before-asymmetric x.place y.place before) es told.0 (Pairwise-from_AllPairs IsBefore es order) told.1 in
     subst (IsNextPlace es key place) told.2 (IsNextPlace-first es key place told.0 first.0 first.1 first.2)
 
+-- where none is found none comes after
 next_place-none : (es : List Entry) (key : Key) (place : Place) → next_place es key place ≡ None → HasNoneAfter es key place
 next_place-none es key place is =
     All-from_Each (λ f. entry_key f ≡ key → is_before place f.place ≡ true → ⊥) es
@@ -198,6 +208,7 @@ previous_place-some es key place previous order is =
     let last = find-first IsAfter IsNotAfter (precedes key place) (λ x. is_before-irreflexive x.place) (λ x y after. is_before-asymmetric y.place x.place after) (reverse es) told.0 (reverse-Pairwise es order) told.1 in
     subst (IsPreviousPlace es key place) told.2 (IsPreviousPlace-last es key place told.0 last.0 last.1 last.2)
 
+-- where none is found none comes before
 previous_place-none : (es : List Entry) (key : Key) (place : Place) → previous_place es key place ≡ None → HasNoneBefore es key place
 previous_place-none es key place is =
     All-permutation (λ f. entry_key f ≡ key → is_before f.place place ≡ true → ⊥) (reverse es) es (IsPermutation-sym es (reverse es) (IsPermutation-reverse es))
@@ -205,12 +216,13 @@ previous_place-none es key place is =
     (Each-weaker (Fails (precedes key place)) (λ f. entry_key f ≡ key → is_before f.place place ≡ true → ⊥)
     (λ f fails of_key before. false≢true (sym fails ∙ precedes-from key place f of_key before)) (reverse es) (Fails-from_none (precedes key place) (reverse es) (none_told (find (precedes key place) (reverse es)) is))))
 
--- the same of an answer
+-- the same of an answer after the place
 pub next_place-answer : (es : List Entry) (key : Key) (place : Place) (r : Option Place) → IsInPostingOrder es → r ≡ next_place es key place
     → IfSome r (IsNextPlace es key place) × IfNone r (HasNoneAfter es key place)
 next_place-answer es key place None order is = (tt, next_place-none es key place (sym is))
 next_place-answer es key place (Some next) order is = (next_place-some es key place next order (sym is), tt)
 
+-- the same of an answer before the place
 pub previous_place-answer : (es : List Entry) (key : Key) (place : Place) (r : Option Place) → IsInPostingOrder es → r ≡ previous_place es key place
     → IfSome r (IsPreviousPlace es key place) × IfNone r (HasNoneBefore es key place)
 previous_place-answer es key place None order is = (tt, previous_place-none es key place (sym is))

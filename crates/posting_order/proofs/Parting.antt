@@ -6,10 +6,11 @@ use Rattle.std.proofs.lemmas.List.{reverse-append}
 use Rattle.stock_model.proofs.Pairwise.{Precedes, Pairwise, Each, Each-append}
 
 module _ {X : Type 0} where
-  -- the element passes the test, and it fails it
+  -- the element passes the test
   abbrev pub Passes : (X → Bool) → X → Type 0
   Passes p x = p x ≡ true
 
+  -- the element fails the test
   abbrev pub Fails : (X → Bool) → X → Type 0
   Fails p x = p x ≡ false
 
@@ -17,10 +18,12 @@ module _ {X : Type 0} where
   abbrev pub PassesBack : (X → Bool) → X → X → Type 0
   PassesBack p a b = p b ≡ true → p a ≡ true
 
+  -- an element related to each is so by what follows from that
   pub Precedes-weaker : (R S : X → X → Type 0) → ((a b : X) → R a b → S a b) → (x : X) (xs : List X) → Precedes R x xs → Precedes S x xs
   Precedes-weaker R S f x [] h = tt
   Precedes-weaker R S f x (y ∷ ys) h = (f x y h.0, Precedes-weaker R S f x ys h.1)
 
+  -- and so are every two
   pub Pairwise-weaker : (R S : X → X → Type 0) → ((a b : X) → R a b → S a b) → (xs : List X) → Pairwise R xs → Pairwise S xs
   Pairwise-weaker R S f [] h = tt
   Pairwise-weaker R S f (x ∷ xs) h = (Precedes-weaker R S f x xs h.0, Pairwise-weaker R S f xs h.1)
@@ -36,12 +39,13 @@ module _ {X : Type 0} where
   All-from_Each P (x ∷ xs) h zero d l = h.0
   All-from_Each P (x ∷ xs) h (suc k) d l = All-from_Each P xs h.1 k d (omega arith)
 
+  -- what each has each has in the reversed list
   pub Each-reverse : (P : X → Type 0) (xs : List X) → Each P xs → Each P (reverse xs)
   Each-reverse P [] h = tt
   Each-reverse P (x ∷ xs) h =
       subst (Each P) (sym (reverse-append (x ∷ []) xs)) (Each-append P (reverse xs) (x ∷ []) (Each-reverse P xs h.1) (h.0, tt))
 
-  -- the test is passed, or failed, and not both
+  -- what does not fail passes
   pub passes_from_not_fails : (p : X → Bool) (x : X) → (p x ≡ false → ⊥) → p x ≡ true
   passes_from_not_fails p x never = by_cases (p x) never
     where
@@ -49,6 +53,7 @@ module _ {X : Type 0} where
       by_cases true h = refl
       by_cases false h = absurd (h refl)
 
+  -- what does not pass fails
   pub fails_from_not_passes : (p : X → Bool) (x : X) → (p x ≡ true → ⊥) → p x ≡ false
   fails_from_not_passes p x never = by_cases (p x) never
     where
@@ -56,20 +61,22 @@ module _ {X : Type 0} where
       by_cases true h = absurd (h refl)
       by_cases false h = refl
 
-  -- none is kept where each fails, and all where each passes
+  -- none is kept where each fails
   pub filter-none : (p : X → Bool) (xs : List X) → Each (Fails p) xs → filter p xs ≡ []
   filter-none p [] h = refl
   filter-none p (x ∷ xs) h = rw h.0 (filter-none p xs h.1)
 
+  -- all are kept where each passes
   pub filter-all : (p : X → Bool) (xs : List X) → Each (Passes p) xs → filter p xs ≡ xs
   filter-all p [] h = refl
   filter-all p (x ∷ xs) h = rw h.0 (ap (λ ys. x ∷ ys) (filter-all p xs h.1))
 
-  -- nothing is found where each fails, and nowhere else
+  -- nothing is found where each fails
   pub find-none : (p : X → Bool) (xs : List X) → Each (Fails p) xs → find p xs ≡ None
   find-none p [] h = refl
   find-none p (x ∷ xs) h = rw h.0 (find-none p xs h.1)
 
+  -- each fails where nothing is found
   pub Fails-from_none : (p : X → Bool) (xs : List X) → find p xs ≡ None → Each (Fails p) xs
   Fails-from_none p [] none = tt
   Fails-from_none p (x ∷ xs) none = by_cases (p x) refl (Fails-from_none p xs) none
@@ -115,6 +122,17 @@ module _ {X : Type 0} where
       let fails = first_fails p x xs is in
       (fails, Fails-along p x xs fails back.0)
   rest_fails p (x ∷ xs) (suc n) back is = rest_fails p xs n back.1 (first_passes p x xs n back is).1
+
+  -- the first ones, as many as pass, are those that pass
+  pub take-passing : (p : X → Bool) (xs : List X) (n : ℕ) → Pairwise (PassesBack p) xs → n ≡ length (filter p xs) → take n xs ≡ filter p xs
+  take-passing p [] zero back is = refl
+  take-passing p [] (suc n) back is = refl
+  take-passing p (x ∷ xs) zero back is =
+      let fails = first_fails p x xs is in
+      sym (filter-none p (x ∷ xs) (fails, Fails-along p x xs fails back.0))
+  take-passing p (x ∷ xs) (suc n) back is =
+      let first = first_passes p x xs n back is in
+      rw first.0 (ap (λ ys. x ∷ ys) (take-passing p xs n back.1 first.1))
 
   -- where none passes at any index, none is kept
   filter-none_at : (p : X → Bool) (xs : List X) → ((k : ℕ) (d : X) → k < length xs → p (get_or xs k d) ≡ false) → filter p xs ≡ []

@@ -23,15 +23,17 @@ use Rattle.posting_order.proofs.Parting.{Fails, PassesBack, Pairwise-weaker, Eac
 pub is_same_place-true : (p q : Place) → is_same_place p q ≡ true → p ≡ q
 is_same_place-true p q h = Place-same p q (grind (arith, nat_tests))
 
+-- a place is the same as itself
 pub is_same_place-refl : (p : Place) → is_same_place p p ≡ true
 is_same_place-refl p = grind (arith, nat_tests)
 
--- a place that comes before a second, or after it, is another
+-- a place that comes before a second is another
 pub is_same_place-before : (p q : Place) → is_before p q ≡ true → is_same_place p q ≡ false
 is_same_place-before p q before =
     fails_from_not_passes (is_same_place p) q
     (λ same. false≢true (sym (is_before-irreflexive q) ∙ subst (λ (r : Place). is_before r q ≡ true) (is_same_place-true p q same) before))
 
+-- a place that comes after a second is another
 pub is_same_place-after : (p q : Place) → is_before q p ≡ true → is_same_place p q ≡ false
 is_same_place-after p q after =
     fails_from_not_passes (is_same_place p) q
@@ -52,9 +54,11 @@ is_before-other p q other not_before =
 abbrev pub HoldsBack : (Entry → Bool) → Type 0
 HoldsBack p = (a b : Entry) → IsBefore a b → PassesBack p a b
 
+-- what comes before a place does so with all before it
 pub comes_before-back : (place : Place) → HoldsBack (comes_before place)
 comes_before-back place a b before passes = is_before-transitive a.place b.place place before passes
 
+-- what does not come after a place does so with all before it
 pub not_after-back : (place : Place) → HoldsBack (λ e. not (comes_after place e))
 not_after-back place a b before passes =
     let never : is_before place a.place ≡ true → ⊥ = λ after.
@@ -67,6 +71,7 @@ not_after-back place a b before passes =
 is_later-IsBefore : (a b : Entry) (moment : Moment) → IsBefore a b → is_later a.place.moment moment ≡ true → is_later b.place.moment moment ≡ true
 is_later-IsBefore a b moment before later = grind (arith, nat_tests)
 
+-- what is not after a moment does so with all before it
 pub until-back : (moment : Moment) → HoldsBack (is_until moment)
 until-back moment a b before passes =
     let never : is_later a.place.moment moment ≡ true → ⊥ = λ later.
@@ -90,10 +95,11 @@ length-filter-point p es i within point = length-filter-parted p es i within poi
 pub Pairwise-back : (p : Entry → Bool) → HoldsBack p → (es : List Entry) → Pairwise IsBefore es → Pairwise (PassesBack p) es
 Pairwise-back p back es order = Pairwise-weaker IsBefore (PassesBack p) back es order
 
--- a movement that comes before is not at the place, and none after one at the place is
+-- a movement that comes before the place is not at it
 not_at-before : (place : Place) (e : Entry) → comes_before place e ≡ true → is_at place e ≡ false
 not_at-before place e before = is_same_place-before e.place place before
 
+-- none after one at the place is at it
 not_at-later : (place : Place) (e f : Entry) → is_at place e ≡ true → IsBefore e f → is_at place f ≡ false
 not_at-later place e f at before =
     is_same_place-after f.place place (subst (λ (p : Place). is_before p f.place ≡ true) (is_same_place-true e.place place at) before)
@@ -176,36 +182,11 @@ put-Pairwise (f ∷ fs) e h d = by_cases (is_before e.place f.place) refl (put-P
         let before : IsBefore f e = passes_from_not_fails (is_before f.place) e.place (λ not_before. false≢true (sym is ∙ is_before-other f.place e.place d.0 not_before)) in
         (put-Precedes IsBefore f fs e h.0 before, rest)
 
+-- the same of a line in posting order
 pub IsInPostingOrder-put : (line : List Entry) (e : Entry) → IsInPostingOrder line → entry_at line e.place ≡ None → IsInPostingOrder (put line e)
 IsInPostingOrder-put line e order none =
     AllPairs-from_Pairwise IsBefore (put line e)
     (put-Pairwise line e (Pairwise-from_AllPairs IsBefore line order) (Fails-from_none (is_at e.place) line none))
-
--- some of those in order are in order
-filter-Precedes : (R : Entry → Entry → Type 0) (p : Entry → Bool) (x : Entry) (es : List Entry) → Precedes R x es → Precedes R x (filter p es)
-filter-Precedes R p x [] h = tt
-filter-Precedes R p x (e ∷ es) h =
-    elim (p e) as (λ b. Precedes R x (cond b (e ∷ filter p es) (filter p es))) [
-      | true ↦ (h.0, filter-Precedes R p x es h.1)
-      | false ↦ filter-Precedes R p x es h.1
-    ]
-
-filter-Pairwise : (R : Entry → Entry → Type 0) (p : Entry → Bool) (es : List Entry) → Pairwise R es → Pairwise R (filter p es)
-filter-Pairwise R p [] h = tt
-filter-Pairwise R p (e ∷ es) h =
-    elim (p e) as (λ b. Pairwise R (cond b (e ∷ filter p es) (filter p es))) [
-      | true ↦ (filter-Precedes R p e es h.0, filter-Pairwise R p es h.1)
-      | false ↦ filter-Pairwise R p es h.1
-    ]
-
-pub IsInPostingOrder-without : (es : List Entry) (place : Place) → IsInPostingOrder es → IsInPostingOrder (without es place)
-IsInPostingOrder-without es place order =
-    AllPairs-from_Pairwise IsBefore (without es place)
-    (filter-Pairwise IsBefore (λ e. not (is_at place e)) es (Pairwise-from_AllPairs IsBefore es order))
-
--- no movement is in order already
-pub IsInPostingOrder-nil : IsInPostingOrder []
-IsInPostingOrder-nil = AllPairs-from_Pairwise IsBefore [] tt
 
 -- what is found at a place stands there
 pub entry_at-place : (es : List Entry) (place : Place) (e : Entry) → entry_at es place ≡ Some e → e.place ≡ place
@@ -229,13 +210,14 @@ pub entry_at-read : (es : List Entry) (place : Place) (n : ℕ) (e : Entry) → 
 entry_at-read es place n e order is within read at =
     entry_at-present es place n e (Pairwise-from_AllPairs IsBefore es order) is within (subst (λ (f : Entry). is_at place f ≡ true) read at)
 
--- where it isn't, and where none was left to read
+-- the movement that was read is not at the place
 pub entry_at-other : (es : List Entry) (place : Place) (n : ℕ) (e : Entry) → IsInPostingOrder es → n ≡ length (filter (comes_before place) es) → e ≡ get_or es n e → is_at place e ≡ false
     → (entry_at es place ≡ None) × (without es place ≡ es)
 entry_at-other es place n e order is read other =
     entry_at-absent es place n (Pairwise-from_AllPairs IsBefore es order) is
     (λ within d. subst (λ (f : Entry). is_at place f ≡ false) (read ∙ get_or_default es n e d within) other)
 
+-- none was left to read
 pub entry_at-end : (es : List Entry) (place : Place) (n : ℕ) → IsInPostingOrder es → n ≡ length (filter (comes_before place) es) → length es ≤ n
     → (entry_at es place ≡ None) × (without es place ≡ es)
 entry_at-end es place n order is end =

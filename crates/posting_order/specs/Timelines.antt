@@ -39,6 +39,7 @@ comes_after place e = is_before place e.place
 abbrev pub is_of_key : Key → Entry → Bool
 is_of_key key e = is_same_key (entry_key e) key
 
+-- where the movement stands
 abbrev pub entry_place : Entry → Place
 entry_place e = e.place
 

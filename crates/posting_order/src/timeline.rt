@@ -1,5 +1,5 @@
 //! The movements of a book in posting order, and what is found in them.
-ghost use Rattle.std.specs.Prelude.{◌≡◌, ◌+◌, ◌<◌, ◌≤◌, [], length, slice_get, filter, not, reverse, remove, None, MatchOption, OnOk, IfSome, IfNone};
+ghost use Rattle.std.specs.Prelude.{◌≡◌, ◌+◌, ◌<◌, ◌≤◌, [], length, take, slice_get, filter, not, reverse, remove, None, MatchOption, OnOk, IfSome, IfNone};
 ghost use Rattle.std.specs.List.{find};
 ghost use Rattle.std.specs.Option.{option_copied, option_map};
 ghost use Rattle.stock_model.specs.Answers.{is_later};
@@ -109,7 +109,8 @@ impl Timeline {
     /// How many movements have a moment that is not after this one. They are the first ones. It takes no
     /// memory.
     pub fn until(&self, moment: Moment) -> usize
-        ensures { result ≡ count_until self.now.entries moment }
+        ensures count { result ≡ count_until self.now.entries moment }
+        ensures first_ones { take result self.now.entries ≡ filter (is_until moment) self.now.entries }
     {
         self.entries
             .partition_point(|entry| !is_later(entry.place.moment, moment))

@@ -19,6 +19,7 @@ StandApart-before : (a b : Entry) → IsBefore a b → StandApart a b
 StandApart-before a b before same =
     false≢true (sym (is_before-irreflexive b.place) ∙ subst (λ (p : Place). is_before p b.place ≡ true) same before)
 
+-- and the other from the first
 StandApart-sym : (a b : Entry) → StandApart a b → StandApart b a
 StandApart-sym a b apart same = apart (sym same)
 
@@ -27,6 +28,7 @@ Precedes-front : {X : Type 0} (R : X → X → Type 0) (x : X) (xs ys : List X) 
 Precedes-front R x [] ys h = tt
 Precedes-front R x (y ∷ xs) ys h = (h.0, Precedes-front R x xs ys h.1)
 
+-- and to each of the second
 Precedes-back : {X : Type 0} (R : X → X → Type 0) (x : X) (xs ys : List X) → Precedes R x (xs ++ ys) → Precedes R x ys
 Precedes-back R x [] ys h = h
 Precedes-back R x (y ∷ xs) ys h = Precedes-back R x xs ys h.1
@@ -36,10 +38,12 @@ Pairwise-front : {X : Type 0} (R : X → X → Type 0) (xs ys : List X) → Pair
 Pairwise-front R [] ys h = tt
 Pairwise-front R (x ∷ xs) ys h = (Precedes-front R x xs ys h.0, Pairwise-front R xs ys h.1)
 
+-- and into the second
 Pairwise-back : {X : Type 0} (R : X → X → Type 0) (xs ys : List X) → Pairwise R (xs ++ ys) → Pairwise R ys
 Pairwise-back R [] ys h = h
 Pairwise-back R (x ∷ xs) ys h = Pairwise-back R xs ys h.1
 
+-- and each of the first is related to each of the second
 Pairwise-Across : {X : Type 0} (R : X → X → Type 0) (xs ys : List X) → Pairwise R (xs ++ ys) → Across R xs ys
 Pairwise-Across R [] ys h = tt
 Pairwise-Across R (x ∷ xs) ys h = (Precedes-back R x xs ys h.0, Pairwise-Across R xs ys h.1)
@@ -49,10 +53,12 @@ Across-head : {X : Type 0} (R : X → X → Type 0) (xs : List X) (y : X) (ys : 
 Across-head R [] y ys h = tt
 Across-head R (x ∷ xs) y ys h = (h.0.0, Across-head R xs y ys h.1)
 
+-- and to each of the others
 Across-tail : {X : Type 0} (R : X → X → Type 0) (xs : List X) (y : X) (ys : List X) → Across R xs (y ∷ ys) → Across R xs ys
 Across-tail R [] y ys h = tt
 Across-tail R (x ∷ xs) y ys h = (h.0.1, Across-tail R xs y ys h.1)
 
+-- and back, with one more
 Across-cons : {X : Type 0} (R : X → X → Type 0) (xs : List X) (y : X) (ys : List X) → Each (λ x. R x y) xs → Across R xs ys → Across R xs (y ∷ ys)
 Across-cons R [] y ys h k = tt
 Across-cons R (x ∷ xs) y ys h k = ((h.0, k.0), Across-cons R xs y ys h.1 k.1)
@@ -66,10 +72,12 @@ put-Across es (f ∷ fs) e h k =
       | false ↦ (h.0, put-Across es fs e h.1 k)
     ]
 
+-- a movement stands apart from each that stands apart from it
 Precedes-from_Each : (e : Entry) (fs : List Entry) → Each (λ f. StandApart f e) fs → Precedes StandApart e fs
 Precedes-from_Each e [] h = tt
 Precedes-from_Each e (f ∷ fs) h = (StandApart-sym f e h.0, Precedes-from_Each e fs h.1)
 
+-- a movement put into a line stands apart from the others where it did before
 put-Pairwise : (line : List Entry) (e : Entry) → Pairwise StandApart line → Each (λ f. StandApart f e) line → Pairwise StandApart (put line e)
 put-Pairwise [] e h k = (tt, tt)
 put-Pairwise (f ∷ fs) e h k =
@@ -87,6 +95,7 @@ put-Precedes-back R x (f ∷ fs) e h = by_cases (is_before e.place f.place) (put
     by_cases true rest h = (h.1, h.0)
     by_cases false rest h = let both = rest h.1 in ((h.0, both.0), both.1)
 
+-- the same of the pairs with further movements
 put-Across-back : (es line : List Entry) (e : Entry) → Across StandApart (put line e) es → Across StandApart line es × Precedes StandApart e es
 put-Across-back es [] e h = (tt, h.0)
 put-Across-back es (f ∷ fs) e h = by_cases (is_before e.place f.place) (put-Across-back es fs e) h
@@ -96,10 +105,12 @@ put-Across-back es (f ∷ fs) e h = by_cases (is_before e.place f.place) (put-Ac
     by_cases true rest h = (h.1, h.0)
     by_cases false rest h = let both = rest h.1 in ((h.0, both.0), both.1)
 
+-- each stands apart from a movement that does from each
 Each-from_Precedes_back : (e : Entry) (fs : List Entry) → Precedes StandApart e fs → Each (λ f. StandApart f e) fs
 Each-from_Precedes_back e [] h = tt
 Each-from_Precedes_back e (f ∷ fs) h = (StandApart-sym e f h.0, Each-from_Precedes_back e fs h.1)
 
+-- the movement stood apart from the others, and they from each other
 put-Pairwise-back : (line : List Entry) (e : Entry) → Pairwise StandApart (put line e) → Pairwise StandApart line × Each (λ f. StandApart f e) line
 put-Pairwise-back [] e h = (tt, tt)
 put-Pairwise-back (f ∷ fs) e h = by_cases (is_before e.place f.place) (put-Pairwise-back fs e) h
@@ -122,12 +133,14 @@ put-apart line e es h =
     rest.1
     (put-Across es line e (Across-tail StandApart line e es across) rest.0)
 
+-- and back
 put-apart-back : (line : List Entry) (e : Entry) (es : List Entry) → Pairwise StandApart (put line e ++ es) → Pairwise StandApart (line ++ e ∷ es)
 put-apart-back line e es h =
     let parts = put-Pairwise-back line e (Pairwise-front StandApart (put line e) es h) in
     let across = put-Across-back es line e (Pairwise-Across StandApart (put line e) es h) in
     Pairwise-append StandApart line (e ∷ es) parts.0 (across.1, Pairwise-back StandApart (put line e) es h) (Across-cons StandApart line e es parts.1 across.0)
 
+-- the same of all that were put in
 put_all-apart-back : (line es : List Entry) → Pairwise StandApart (put_all line es) → Pairwise StandApart (line ++ es)
 put_all-apart-back line [] h = subst (Pairwise StandApart) (sym (append-nil line)) h
 put_all-apart-back line (e ∷ es) h = put-apart-back line e es (put_all-apart-back (put line e) es h)
@@ -174,6 +187,7 @@ HaveOwnPlaces-step line es i e within is apart =
     let more = subst (λ (rest : List Entry). HaveOwnPlaces (line ++ rest)) (drop-next es i e within is) apart in
     (entry_at-next line e (drop (i + 1) es) more, HaveOwnPlaces-next line e (drop (i + 1) es) more)
 
+-- the rest put in after the next gives what it did before
 pub put_all-step : (line new old es : List Entry) (i : ℕ) (e : Entry) → i < length es → e ≡ get_or es i e → new ≡ put line e → put_all line (drop i es) ≡ put_all old es
     → put_all new (drop (i + 1) es) ≡ put_all old es
 put_all-step line new old es i e within is made so_far =

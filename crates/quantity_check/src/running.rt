@@ -81,7 +81,8 @@ impl Running {
         &self.line
     }
 
-    /// Whether there is enough at all moments with these movements put among the others, or why not.
+    /// Whether there is enough at all moments with these movements put among the others, or why not. They
+    /// have places of their own, and are at most 200,000 with the others. It changes nothing.
     pub fn try_entries(&self, alloc: Global, entries: &[Entry]) -> Result<(), Short>
         requires apart { HaveOwnPlaces (self.now.entries ++ entries.now) }
         requires few { length self.now.entries + length entries.now ≤ 200_000 }
@@ -99,7 +100,8 @@ impl Running {
         }
     }
 
-    /// Puts movements among the others, with which there is enough at all moments. It takes no memory.
+    /// Puts movements with places of their own among the others, where there is room for them and enough at
+    /// all moments with them. It takes no memory.
     pub fn add(&mut self, entries: &[Entry])
         requires apart { HaveOwnPlaces (self.old.entries ++ entries.now) }
         requires room { length entries.now ≤ self.old.spare }
@@ -132,6 +134,7 @@ fn merged(alloc: Global, line: &[Entry], entries: &[Entry]) -> Result<Lines<Entr
     Ok(all)
 }
 
+// The shortage as it is told.
 fn short_of(shortage: Shortage) -> Short
     ensures { result ≡ short_of shortage }
 {
