@@ -2,6 +2,7 @@ pub mod CompactTexts
 pub mod FieldForms
 pub mod Moments
 pub mod OneReading
+pub mod PlainTexts
 pub mod RecordTexts
 pub mod RecordUtf8
 pub mod RecordWalks

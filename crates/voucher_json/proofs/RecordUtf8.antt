@@ -1,12 +1,11 @@
 -- The text of a record is UTF-8 where the record's codes are.
-use Rattle.std.proofs.Common.{◌≡◌, ℕ, ℤ, pos, true, ◌<◌, ◌≤◌, List, [], ◌∷◌, map, codes, IsTrue, IsUtf8, refl, sym, subst, arith}
+use Rattle.std.proofs.Common.{◌≡◌, ℕ, ℤ, true, ◌<◌, ◌≤◌, List, [], ◌∷◌, map, codes, IsTrue, IsUtf8, refl, sym, subst, arith}
 use Rattle.std.proofs.lemmas.Bool.{and_parts, lt-ltb}
 use Rattle.std.proofs.lemmas.Bool.Decides.{nat_tests}
 use Rattle.std.proofs.lemmas.List.Elements.{All-head, All-tail}
 use Rattle.std.specs.List.{list_all}
 use Rattle.std.specs.Prelude.{All}
 use Rattle.json.proofs.Printed.Utf8.{are_ascii, IsUtf8-are_ascii}
-use Rattle.serde_json.specs.Data.{Data}
 use Rattle.serde_json.specs.Find.{of_integer}
 use Rattle.serde_json.specs.View.{items_of}
 use Rattle.serde_json.specs.Written.{number_text}

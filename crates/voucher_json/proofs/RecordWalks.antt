@@ -1,11 +1,9 @@
 -- The walk of a record's JSON value comes to the record.
-use Rattle.std.proofs.Common.{◌≡◌, ℕ, ℤ, pos, negsuc, ◌+◌, ◌≤◌, ◌&&◌, nat_le, List, [], ◌∷◌, map, length, option_and_then, Some, Result, Ok, Err, IsTrue, refl, sym, ap, ◌∙◌, subst, arith}
+use Rattle.std.proofs.Common.{◌≡◌, ℕ, ℤ, ◌+◌, ◌≤◌, ◌&&◌, nat_le, List, [], ◌∷◌, map, length, Some, Result, Ok, IsTrue, refl, sym, subst, arith}
 use Rattle.std.proofs.lemmas.Bool.Decides.{nat_tests}
-use Rattle.std.proofs.lemmas.Int.{ints}
-use Rattle.serde_json.specs.Data.{Data, unsigned, string, array, Items}
-use Rattle.serde_json.specs.Find.{of_integer, as_str}
+use Rattle.serde_json.specs.Data.{Data, unsigned, string, array}
+use Rattle.serde_json.specs.Find.{of_integer}
 use Rattle.serde_json.specs.View.{items_of}
-use Rattle.stock_nums.specs.Quantities.{is_line_amount}
 use Rattle.stock_nums.specs.declared.cause.Method.{Method}
 use Rattle.stock_nums.specs.declared.cause.Method.TheVariants.{Fifo, Average}
 use Rattle.stock_nums.specs.declared.moment.Moment.{Moment}
@@ -22,8 +20,8 @@ use Rattle.stock_model.specs.declared.vouchers.Purpose.TheVariants.{Sold, Used}
 use Rattle.stock_model.specs.declared.vouchers.ReceiptLine.{ReceiptLine}
 use Rattle.stock_model.specs.declared.vouchers.What.{What}
 use Rattle.stock_model.specs.declared.vouchers.What.TheVariants.{Item, Store, Receipt, Issue}
-use Rattle.voucher_json.specs.Walks.{Field, Elements, found_or_bad}
-use Rattle.voucher_json.specs.Fields.{IsObject, IsWord, IsNumber, IsMoment, IsList, choose, items_count, number_outcome}
+use Rattle.voucher_json.specs.Walks.{Field, Elements}
+use Rattle.voucher_json.specs.Fields.{IsObject, IsWord, IsNumber, IsMoment, IsList, items_count, number_outcome}
 use Rattle.voucher_json.specs.Records.{record_kinds, methods, purposes, IsReceiptLine, IsIssueLine, IsWhat}
 use Rattle.voucher_json.specs.RecordTexts.{method_word, purpose_word, receipt_line_data, issue_line_data, what_data, record_data}
 use Rattle.voucher_json.specs.StoredRecords.{record_fields, IsRecord}

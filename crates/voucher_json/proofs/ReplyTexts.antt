@@ -18,11 +18,11 @@ pub is_float-of_integer : (z : ℤ) → is_float (of_integer z) ≡ false
 is_float-of_integer (pos n) = refl
 is_float-of_integer (negsuc n) = refl
 
-has_float-rows : (rows : List BalanceRow) → items_have_float (items_of (map row_data rows)) ≡ false
+pub has_float-rows : (rows : List BalanceRow) → items_have_float (items_of (map row_data rows)) ≡ false
 has_float-rows [] = refl
 has_float-rows (row ∷ rows) = rw (is_float-of_integer row.value.0, has_float-rows rows)
 
-has_float-layers : (rows : List LayerRow) → items_have_float (items_of (map layer_data rows)) ≡ false
+pub has_float-layers : (rows : List LayerRow) → items_have_float (items_of (map layer_data rows)) ≡ false
 has_float-layers [] = refl
 has_float-layers (row ∷ rows) = rw (is_float-of_integer row.value.0, has_float-layers rows)
 

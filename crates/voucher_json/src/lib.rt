@@ -7,6 +7,7 @@ mod forms;
 mod json_values;
 mod kinds;
 mod moment_strings;
+mod plain_texts;
 pub mod reading;
 #[cfg(test)]
 mod reading_tests;

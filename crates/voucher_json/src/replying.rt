@@ -1,15 +1,15 @@
 //! The texts of the replies.
-ghost use Rattle.std.specs.Prelude.{◌≡◌, map, IfOk};
+ghost use Rattle.std.specs.Prelude.{◌≡◌, map, false, IfOk};
+ghost use Rattle.serde_json.specs.Written.{has_float, compact_text};
 ghost use Rattle.serde_json.specs.View.{view, items_view};
 ghost use Rattle.stock_model.specs.declared.replies.Reply.{Reply};
-ghost use Rattle.voucher_json.specs.ReplyText.{refusal_data, short_data, row_data, layer_data, sheet_data, reply_data, reply_text, bad_data, fault_data, line_fault_data, field_fault_data, IsTold, IsReadFaultTold, IsPrinted};
+ghost use Rattle.voucher_json.specs.ReplyText.{refusal_data, short_data, row_data, layer_data, sheet_data, reply_data, reply_text, fault_data, line_fault_data, IsTold, IsPrinted};
 
-use crate::field_names::field_text;
 use crate::moment_strings::moment_string;
+use crate::plain_texts::{bad_text, numbered};
 use serde_json::{Value, json};
 use std::alloc::{AllocError, Global};
 use stock_model::faults::PostFault;
-use stock_model::read_faults::{FieldName, ReadFault};
 use stock_model::replies::{BalanceRow, LayerRow, Reply};
 use stock_nums::code::Code;
 use stock_nums::lines::Lines;
@@ -22,42 +22,62 @@ pub fn reply_text(alloc: Global, reply: &Reply) -> Result<Lines<u8>, NoMemory>
     requires { IsPrinted reply.now }
     ensures { IfOk result (λ text. text ≡ reply_text reply.now) }
 {
-    let text = reply_value(alloc, reply)?.to_string(alloc)?;
-    Ok(Lines::from_vec(text.into_bytes()))
+    Ok(Lines::from_vec(reply_bytes(alloc, reply)?))
 }
 
-/// The JSON value of a reply.
-fn reply_value(alloc: Global, reply: &Reply) -> Result<Value, AllocError>
+/// The bytes of a reply. The commonest ones are written with no JSON value in between.
+fn reply_bytes(alloc: Global, reply: &Reply) -> Result<Vec<u8>, AllocError>
     requires { IsPrinted reply.now }
-    ensures { IfOk result (λ value. view value ≡ reply_data reply.now) }
+    ensures { IfOk result (λ text. text.items ≡ reply_text reply.now) }
 {
     match reply {
-        Reply::Accepted(number) => json!(in alloc; {"record": number.0, "status": "accepted"}),
-        Reply::Refused(fault) => refusal_value(alloc, *fault),
+        Reply::Accepted(number) => {
+            numbered(alloc, r#"{"record":"#, number.0, r#","status":"accepted"}"#)
+        }
+        Reply::Refused(fault) => value_text(alloc, refusal_value(alloc, *fault)?),
         Reply::Short {
             place,
             item,
             store,
             lacking,
-        } => short_value(alloc, *place, item, store, *lacking),
-        Reply::Pending { covered, wanted } => pending_value(alloc, *covered, *wanted),
-        Reply::NoSuchRecord { accepted, wanted } => missing_value(alloc, *accepted, *wanted),
-        Reply::Worked(covered) => json!(in alloc; {"covered": covered.0, "status": "worked"}),
-        Reply::Settled(covered) => json!(in alloc; {"covered": covered.0, "status": "settled"}),
+        } => value_text(alloc, short_value(alloc, *place, item, store, *lacking)?),
+        Reply::Pending { covered, wanted } => {
+            value_text(alloc, pending_value(alloc, *covered, *wanted)?)
+        }
+        Reply::NoSuchRecord { accepted, wanted } => {
+            value_text(alloc, missing_value(alloc, *accepted, *wanted)?)
+        }
+        Reply::Worked(covered) => {
+            numbered(alloc, r#"{"covered":"#, covered.0, r#","status":"worked"}"#)
+        }
+        Reply::Settled(covered) => {
+            numbered(
+                alloc,
+                r#"{"covered":"#,
+                covered.0,
+                r#","status":"settled"}"#,
+            )
+        }
         Reply::Balance { covered, rows } => {
-            let rows = rows_value(alloc, rows.as_slice())?;
-            sheet_value(alloc, "balance", *covered, rows)
+            value_text(alloc, balance_value(alloc, *covered, rows.as_slice())?)
         }
         Reply::Layers { covered, rows } => {
-            let rows = layers_value(alloc, rows.as_slice())?;
-            sheet_value(alloc, "layers", *covered, rows)
+            value_text(alloc, layers_value(alloc, *covered, rows.as_slice())?)
         }
-        Reply::Long => fault_value(alloc, "long", "bad"),
-        Reply::Bad(fault) => bad_value(alloc, *fault),
-        Reply::StoreFailed => fault_value(alloc, "store", "failed"),
-        Reply::MemoryFailed => fault_value(alloc, "memory", "failed"),
-        Reply::Http => fault_value(alloc, "http", "bad"),
+        Reply::Long => Vec::from_slice(alloc, br#"{"fault":"long","status":"bad"}"#),
+        Reply::Bad(fault) => bad_text(alloc, *fault),
+        Reply::StoreFailed => Vec::from_slice(alloc, br#"{"fault":"store","status":"failed"}"#),
+        Reply::MemoryFailed => Vec::from_slice(alloc, br#"{"fault":"memory","status":"failed"}"#),
+        Reply::Http => Vec::from_slice(alloc, br#"{"fault":"http","status":"bad"}"#),
     }
+}
+
+/// The text of a JSON value with no float.
+fn value_text(alloc: Global, value: Value) -> Result<Vec<u8>, AllocError>
+    requires { has_float (view value) ≡ false }
+    ensures { IfOk result (λ text. text.items ≡ compact_text (view value)) }
+{
+    Ok(value.to_string(alloc)?.into_bytes())
 }
 
 /// The JSON value of a fault and a status alone.
@@ -100,32 +120,6 @@ fn refusal_value(alloc: Global, fault: PostFault) -> Result<Value, AllocError>
     }
 }
 
-/// The JSON value of the reply to a text that is no request.
-fn bad_value(alloc: Global, fault: ReadFault) -> Result<Value, AllocError>
-    requires { IsReadFaultTold fault }
-    ensures { IfOk result (λ value. view value ≡ bad_data fault) }
-{
-    match fault {
-        ReadFault::BadJson => fault_value(alloc, "bad-json", "bad"),
-        ReadFault::BadField { name, line } => field_fault_value(alloc, "bad-field", name, line),
-        ReadFault::Limit { name, line } => field_fault_value(alloc, "limit", name, line),
-        ReadFault::NoMemory => unreachable!(),
-    }
-}
-
-/// The JSON value of a fault of a request's field.
-fn field_fault_value(
-    alloc: Global,
-    fault: &str,
-    name: FieldName,
-    line: u32,
-) -> Result<Value, AllocError>
-    ensures { IfOk result (λ value. view value ≡ field_fault_data fault.now name line) }
-{
-    let field = field_text(name);
-    json!(in alloc; {"fault": fault, "field": field, "line": line, "status": "bad"})
-}
-
 /// The JSON value of a shortage.
 fn short_value(
     alloc: Global,
@@ -161,6 +155,22 @@ fn missing_value(alloc: Global, accepted: RecordNo, wanted: RecordNo) -> Result<
     ensures { IfOk result (λ value. view value ≡ reply_data (Reply.NoSuchRecord accepted wanted)) }
 {
     json!(in alloc; {"accepted": accepted.0, "need": wanted.0, "status": "no-such-record"})
+}
+
+/// The JSON value of a balance sheet.
+fn balance_value(alloc: Global, covered: RecordNo, rows: &[BalanceRow]) -> Result<Value, AllocError>
+    ensures { IfOk result (λ value. view value ≡ reply_data (Reply.Balance covered rows.now)) }
+{
+    let rows = rows_value(alloc, rows)?;
+    sheet_value(alloc, "balance", covered, rows)
+}
+
+/// The JSON value of a layers sheet.
+fn layers_value(alloc: Global, covered: RecordNo, rows: &[LayerRow]) -> Result<Value, AllocError>
+    ensures { IfOk result (λ value. view value ≡ reply_data (Reply.Layers covered rows.now)) }
+{
+    let rows = layer_rows_value(alloc, rows)?;
+    sheet_value(alloc, "layers", covered, rows)
 }
 
 /// The JSON value of a sheet of this name.
@@ -199,7 +209,7 @@ fn row_value(alloc: Global, row: &BalanceRow) -> Result<Value, AllocError>
 }
 
 /// The JSON values of the rows of a layers sheet.
-fn layers_value(alloc: Global, rows: &[LayerRow]) -> Result<Vec<Value>, AllocError>
+fn layer_rows_value(alloc: Global, rows: &[LayerRow]) -> Result<Vec<Value>, AllocError>
     ensures { IfOk result (λ values. map view values.items ≡ map layer_data rows.now) }
 {
     let mut values = Vec::new(alloc);
@@ -228,6 +238,7 @@ mod tests {
     use super::*;
     use std::process::Abort;
     use std::test::Fail;
+    use stock_model::read_faults::{FieldName, ReadFault};
     use stock_nums::moment::Moment;
     use stock_nums::numbers::Minor;
     use stock_nums::place::Side;
