@@ -16,7 +16,8 @@ MOST_RECORDS = 50_000
 MOST_MOVEMENTS = 4_000
 BAD = {"fault": "bad-field", "field": "request", "line": 0, "status": "bad"}
 
-# What is a request. A form says what each of its fields has to be; no other field may stand in it.
+# What is a request. A form says what each of its fields has to be; no other field may stand in it, but those that may be left
+# out.
 
 
 def whole(low, high):
@@ -41,22 +42,30 @@ def is_moment(it):
     return True
 
 
-def has_form(it, form):
-    return type(it) is dict and it.keys() == form.keys() and all(holds(it[name]) for name, holds in form.items())
+def is_text(it):
+    return type(it) is str
+
+
+def has_form(it, form, left_out):
+    known = {**form, **left_out}
+    return type(it) is dict and form.keys() <= it.keys() <= known.keys() and all(known[name](it[name]) for name in it)
 
 
 def lines_of(form):
-    return lambda it: type(it) is list and 1 <= len(it) <= 100 and all(has_form(line, form) for line in it)
+    return lambda it: type(it) is list and 1 <= len(it) <= 100 and all(has_form(line, form, {}) for line in it)
 
 
 GOODS = {"item": is_code, "store": is_code, "qty": whole(1, 10**9)}
 FORMS = {
-    "item": {"code": is_code, "method": text("average")},
+    "item": {"code": is_code, "method": text("average", "fifo")},
     "store": {"code": is_code, "account": whole(100, 9999)},
     "receipt": {"at": is_moment, "lines": lines_of({**GOODS, "amount": whole(0, 10**12)})},
     "issue": {"at": is_moment, "use": text("sold", "used"), "lines": lines_of(GOODS)},
     "settle": {},
-    "report": {"of": text("balance"), "need": whole(0, 2**32 - 1)},
+    "report": {"of": text("balance", "layers")},
+}
+LEFT_OUT = {
+    "report": {"need": whole(0, 2**32 - 1), "until": is_moment, "item": is_text, "store": is_text, "as": text("json")},
 }
 
 
@@ -77,7 +86,7 @@ def read_word(word):
 
 
 def request_of(line):
-    """Returns the request that the line is, with the need 0 where a report names none; or None."""
+    """Returns the request that the line is; or None."""
     if len(line) > LONGEST_LINE:
         return None
     try:
@@ -86,9 +95,8 @@ def request_of(line):
         return None
     if type(it) is not dict or type(it.get("do")) is not str or it["do"] not in FORMS:
         return None
-    if it["do"] == "report":
-        it = {"need": 0, **it}
-    return it if has_form(it, {"do": text(it["do"]), **FORMS[it["do"]]}) else None
+    kind = it["do"]
+    return it if has_form(it, {"do": text(kind), **FORMS[kind]}, LEFT_OUT.get(kind, {})) else None
 
 
 # Movements. The first four fields are the place; movements are compared by it, since no two have the same. A moment is text
@@ -106,6 +114,7 @@ class Movement(NamedTuple):
     store: int
     qty: int
     amount: int  # the purchase price of what enters, and 0 of what leaves
+    method: str  # the item's
 
     def key(self):
         return self.item, self.store
@@ -133,17 +142,63 @@ def stock_and_worth(rows, key):
     return sum(sign * it.qty for sign, it, _ in signed), sum(sign * value for sign, _, value in signed)
 
 
+def entered_and_left(rows, key):
+    """Returns the rows with which units of an item entered a warehouse, and how many units left it."""
+    entered = [(it, value) for it, value in rows if it.key() == key and it.side == ENTERS]
+    return entered, sum(it.qty for it, _ in rows if it.key() == key and it.side == LEAVES)
+
+
+def first_cost(entered, units):
+    """Returns what the first so many units cost of those that entered: whole rows, and a part of the next, rounded down."""
+    cost = 0
+    for it, value in entered:
+        if units < it.qty:
+            return cost + value * units // it.qty
+        cost, units = cost + value, units - it.qty
+    return cost
+
+
+def cost_of_issue(it, rows):
+    """Returns what the units that leave cost by their item's method, after the rows."""
+    if it.method == "fifo":
+        entered, left = entered_and_left(rows, it.key())
+        return first_cost(entered, left + it.qty) - first_cost(entered, left)
+    stock, worth = stock_and_worth(rows, it.key())
+    return half_up(worth, it.qty, stock)
+
+
 def valued(movements):
     """Returns the movements in posting order, each with its value, found from the rows before it."""
     rows = []
     for it in sorted(movements):
-        if it.side == ENTERS:
-            value = it.amount
-        else:
-            stock, worth = stock_and_worth(rows, it.key())
-            value = half_up(worth, it.qty, stock)
-        rows.append((it, value))
+        rows.append((it, it.amount if it.side == ENTERS else cost_of_issue(it, rows)))
     return rows
+
+
+# The sheets: what each shows of an item in a warehouse.
+
+
+def balance_of(rows, key):
+    stock, worth = stock_and_worth(rows, key)
+    return [{"qty": stock, "value": worth}]
+
+
+def layers_of(rows, key):
+    """Returns what is left of what entered: by FIFO of each row that has units left, and by average of all together."""
+    if next(it.method for it, _ in rows if it.key() == key) == "average":
+        return [{"record": 0, "line": 0, **it} for it in balance_of(rows, key) if it["qty"] > 0]
+    entered, left = entered_and_left(rows, key)
+    before, shown = 0, []
+    for it, value in entered:
+        taken = min(it.qty, max(0, left - before))  # those that left, less all that entered before
+        before += it.qty
+        if taken < it.qty:
+            worth = value - value * taken // it.qty
+            shown.append({"record": it.record, "line": it.line, "qty": it.qty - taken, "value": worth})
+    return shown
+
+
+SHEETS = {"balance": balance_of, "layers": layers_of}
 
 
 # The ledger.
@@ -161,6 +216,7 @@ def first_unknown(lines, field, known):
 class Ledger:
     def __init__(self):
         self.items, self.stores = {}, {}  # the record's number by the code
+        self.methods = {}  # by the item's number
         self.records = self.covered = 0
         self.movements = []
 
@@ -172,7 +228,7 @@ class Ledger:
         if it["do"] == "settle":
             self.covered = self.records
             return {"covered": self.covered, "status": "settled"}
-        return self.report(it["need"]) if it["do"] == "report" else self.post(it)
+        return self.report(it) if it["do"] == "report" else self.post(it)
 
     def masters_of(self, it):
         return {"item": self.items, "store": self.stores}.get(it["do"])
@@ -203,13 +259,16 @@ class Ledger:
         masters = self.masters_of(it)
         if masters is not None:
             masters[it["code"]] = self.records
+        if it["do"] == "item":
+            self.methods[self.records] = it["method"]
         return {"record": self.records, "status": "accepted"}
 
     def movement(self, it, number, line):
         """Returns the movement that the line with this number makes of the next record."""
         side = ENTERS if it["do"] == "receipt" else LEAVES
         item, store = self.items[line["item"]], self.stores[line["store"]]
-        return Movement(it["at"], self.records + 1, number, side, item, store, line["qty"], line.get("amount", 0))
+        place = it["at"], self.records + 1, number, side
+        return Movement(*place, item, store, line["qty"], line.get("amount", 0), self.methods[item])
 
     def short(self, it, lacking):
         """Returns the refusal that names the movement with which so many units are lacking."""
@@ -221,17 +280,24 @@ class Ledger:
         return ({number: code for code, number in self.items.items()}[item],
                 {number: code for code, number in self.stores.items()}[store])
 
-    def report(self, need):
+    def report(self, it):
+        need = it.get("need", 0)
         if need > self.records:
             return {"accepted": self.records, "need": need, "status": "no-such-record"}
         if need > self.covered:
             return {"covered": self.covered, "need": need, "status": "pending"}
-        rows, shown = valued([it for it in self.movements if it.record <= self.covered]), []
+        rows = valued([movement for movement in self.movements if movement.record <= self.covered])
+        shown = self.sheet(it, [row for row in rows if row[0].at <= it.get("until", row[0].at)])
+        return {"covered": self.covered, "report": it["of"], "rows": shown, "status": "ok"}
+
+    def sheet(self, asked, rows):
+        """Returns what the sheet shows of the rows, by the item's number and then by the warehouse's."""
+        shown = []
         for key in sorted({it.key() for it, _ in rows}):
             item, store = self.codes_of(key)
-            stock, worth = stock_and_worth(rows, key)
-            shown.append({"item": item, "qty": stock, "store": store, "value": worth})
-        return {"covered": self.covered, "report": "balance", "rows": shown, "status": "ok"}
+            if asked.get("item", item) == item and asked.get("store", store) == store:
+                shown += [{"item": item, "store": store, **part} for part in SHEETS[asked["of"]](rows, key)]
+        return shown
 
 
 def replies(given):
