@@ -84,7 +84,7 @@ pub fn next_number(reader: &mut Reader<'_>) -> Option<u64>
 fn whole_number(numeral: &[u8]) -> Option<u64>
     ensures { IfSome result (λ n. number_of numeral.now ≡ Some (unsigned n)) }
 {
-    if numeral.first() == Some(&b'-') {
+    if numeral.is_empty() || numeral[0] == b'-' {
         return None;
     }
     Numeral::scan(numeral).to_u64()
