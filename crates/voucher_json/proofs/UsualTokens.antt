@@ -1,5 +1,5 @@
 -- The tokens of lines in the usual form are read as the lines.
-use Rattle.std.proofs.Common.{◌≡◌, ℕ, suc, ◌+◌, ◌-◌, ◌<◌, ◌≤◌, ◌^◌, List, [], ◌∷◌, ◌++◌, map, length, get_or, Bool, true, false, Option, Some, None, IfSome, SomeIff, pos, codes, refl, sym, ap, ◌∙◌, arith, ne_eqb, lt-ltb}
+use Rattle.std.proofs.Common.{◌≡◌, ℕ, suc, ◌+◌, ◌-◌, ◌<◌, ◌≤◌, ◌^◌, List, [], ◌∷◌, ◌++◌, map, length, get_or, Bool, true, false, Option, Some, None, IfSome, SomeIff, ℤ, pos, codes, refl, sym, ap, ◌∙◌, arith, ne_eqb, lt-ltb}
 use Rattle.fast_float.specs.Text.{scan, digits_of, IsInteger}
 use Rattle.json.specs.Json as json
 use Rattle.json.specs.Json.{after_end_array, items, members, parse_map, value}
@@ -58,18 +58,20 @@ issue_line-converted : (i s q : List ℕ) (qty : ℕ) (rest : List Token) → nu
 issue_line-converted i s q qty rest of_q = rw (issue_line-value 123 i s q rest, of_q) refl
 
 -- a line of a receipt is read
-pub receipt_line_read : (line : ReceiptLine) (amount : ℕ) (tokens goods named numbered rest : List Token) → BeginsWithGoods tokens line.item line.store line.qty.0 goods → goods ≡ key (codes "amount") ∷ named
-    → BeginsWithNumber named amount numbered → numbered ≡ end_object ∷ rest → line.amount.0 ≡ pos amount → BeginsWithElement tokens (receipt_line_data line) rest
-receipt_line_read line amount tokens goods named numbered rest g is n closed price =
-    let all : tokens ≡ receipt_line_tokens line.item line.store g.text n.text rest = cc (g.first, n.first) in
-    record { reads = rw (all, price) (receipt_line-converted line.item line.store g.text n.text line.qty.0 amount rest g.reads n.reads) }
+pub receipt_line_read : (code store : List ℕ) (qty amount : ℕ) (price : ℤ) (tokens goods named numbered rest : List Token) → BeginsWithGoods tokens code store qty goods → goods ≡ key (codes "amount") ∷ named
+    → BeginsWithNumber named amount numbered → numbered ≡ end_object ∷ rest → price ≡ pos amount
+    → BeginsWithElement tokens
+    (spec.object (member (codes "amount") (spec.number (of_integer price)) (member (codes "item") (spec.string code) (member (codes "qty") (spec.number (unsigned qty)) (member (codes "store") (spec.string store) no_members))))) rest
+receipt_line_read code store qty amount price tokens goods named numbered rest g is n closed same =
+    let all : tokens ≡ receipt_line_tokens code store g.text n.text rest = cc (g.first, n.first) in
+    record { reads = rw (all, same) (receipt_line-converted code store g.text n.text qty amount rest g.reads n.reads) }
 
 -- and of an issue
-pub issue_line_read : (line : IssueLine) (tokens goods rest : List Token) → BeginsWithGoods tokens line.item line.store line.qty.0 goods → goods ≡ end_object ∷ rest
-    → BeginsWithElement tokens (issue_line_data line) rest
-issue_line_read line tokens goods rest g closed =
-    let all : tokens ≡ issue_line_tokens line.item line.store g.text rest = cc (g.first) in
-    record { reads = rw all (issue_line-converted line.item line.store g.text line.qty.0 rest g.reads) }
+pub issue_line_read : (code store : List ℕ) (qty : ℕ) (tokens goods rest : List Token) → BeginsWithGoods tokens code store qty goods → goods ≡ end_object ∷ rest
+    → BeginsWithElement tokens (spec.object (member (codes "item") (spec.string code) (member (codes "qty") (spec.number (unsigned qty)) (member (codes "store") (spec.string store) no_members)))) rest
+issue_line_read code store qty tokens goods rest g closed =
+    let all : tokens ≡ issue_line_tokens code store g.text rest = cc (g.first) in
+    record { reads = rw all (issue_line-converted code store g.text qty rest g.reads) }
 
 -- elements, and then more
 abbrev then_items : List Data → Items → Items
