@@ -1,4 +1,3 @@
-use Rattle.voucher_json.proofs.UsualTexts.{post_read}
 use Rattle.voucher_json.proofs.UsualTokens.{numeral_read}
 use Rattle.voucher_json.proofs.usual_tokens.whole_number.Goals as goal
 

@@ -1,7 +1,7 @@
-use Rattle.std.proofs.Common.{◌≡◌, ◌≤◌, ◌∷◌, codes, pos, w64, to_z, arith, rules}
+use Rattle.std.proofs.Common.{◌≡◌, ◌∷◌, codes, pos, w64, to_z, arith, rules}
 use Rattle.std.proofs.lemmas.Int.{ints}
 use Rattle.json.specs.Token.{key, end_object}
-use Rattle.voucher_json.specs.UsualTexts.{BeginsWithGoods, BeginsWithNumber}
+use Rattle.voucher_json.specs.UsualTexts.{BeginsWithGoods}
 use Rattle.voucher_json.proofs.UsualTokens.{receipt_line_read}
 use Rattle.voucher_json.proofs.usual_lines.ReceiptLineUsualLine.read_usual.Goals as goal
 
