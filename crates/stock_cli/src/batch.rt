@@ -9,13 +9,13 @@ use stock_io::sink::{Sink, write_all};
 use stock_nums::memory::NoMemory;
 use voucher_json::request_reading::RequestReader;
 
-/// A batch under way: the reader of requests, the book, the line under way, and the replies that wait to be written.
+/// A batch under way: the book, the line under way, the replies that wait to be written, and the reader of requests.
 #[derive(Drop)]
 pub struct Batch {
-    pub requests: RequestReader,
     pub book: Book,
     pub line: OpenLine,
     pub waiting: Vec<u8>,
+    pub requests: RequestReader,
 }
 
 impl Batch {
@@ -35,10 +35,10 @@ impl Batch {
         ensures nothing_waits { result.waiting.items ≡ [] }
     {
         Batch {
-            requests: RequestReader::new(alloc),
             book: Book::start(alloc),
             line: OpenLine::new(alloc),
             waiting: Vec::new(alloc),
+            requests: RequestReader::new(alloc),
         }
     }
 

@@ -1,5 +1,5 @@
 -- The tokens of a receipt or an issue in the usual form are read as the request.
-use Rattle.std.proofs.Common.{◌≡◌, ℕ, suc, List, [], ◌∷◌, map, length, Bool, true, false, Some, None, Result, Ok, IsTrue, IsUtf8, codes, refl, sym, ap, ◌∙◌}
+use Rattle.std.proofs.Common.{◌≡◌, ℕ, suc, List, [], ◌∷◌, map, length, Bool, true, false, Some, Ok, IsTrue, IsUtf8, codes, refl, ap, ◌∙◌}
 use Rattle.json.specs.Json as json
 use Rattle.json.specs.Json.{items, members, value}
 use Rattle.json.specs.Token.{Token, begin_object, end_object, begin_array, key, string}

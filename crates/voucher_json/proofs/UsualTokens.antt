@@ -1,5 +1,5 @@
 -- The tokens of lines in the usual form are read as the lines.
-use Rattle.std.proofs.Common.{◌≡◌, ℕ, suc, ◌+◌, ◌-◌, ◌<◌, ◌≤◌, ◌^◌, List, [], ◌∷◌, ◌++◌, map, length, get_or, Bool, true, false, Option, Some, None, IfSome, SomeIff, ℤ, pos, codes, refl, sym, ap, ◌∙◌, arith, ne_eqb, lt-ltb}
+use Rattle.std.proofs.Common.{◌≡◌, ℕ, suc, ◌-◌, ◌<◌, ◌≤◌, ◌^◌, List, [], ◌∷◌, ◌++◌, map, length, get_or, true, false, Option, Some, None, IfSome, SomeIff, ℤ, pos, codes, refl, sym, ap, ◌∙◌, arith, ne_eqb, lt-ltb}
 use Rattle.fast_float.specs.Text.{scan, digits_of, IsInteger}
 use Rattle.json.specs.Json as json
 use Rattle.json.specs.Json.{after_end_array, items, members, parse_map, value}
@@ -11,9 +11,6 @@ use Rattle.serde_json.specs.Find.{of_integer}
 use Rattle.serde_json.specs.Read.{number_of, number_from, is_integer, of_json, of_items, converted}
 use Rattle.serde_json.specs.View.{items_of}
 use Rattle.voucher_json.proofs.Conversions.{converted_some, item_read, items_over}
-use Rattle.stock_model.specs.declared.vouchers.IssueLine.{IssueLine}
-use Rattle.stock_model.specs.declared.vouchers.ReceiptLine.{ReceiptLine}
-use Rattle.voucher_json.specs.RecordTexts.{receipt_line_data, issue_line_data}
 use Rattle.voucher_json.specs.UsualTexts.{BeginsWithNumber, BeginsWithGoods, BeginsWithElement, BeginsWithElements}
 
 -- a numeral of digits alone is the number that they spell
