@@ -1,4 +1,5 @@
 pub mod CompactTexts
+pub mod Conversions
 pub mod FieldForms
 pub mod Moments
 pub mod OneReading
@@ -9,5 +10,7 @@ pub mod RecordWalks
 pub mod ReplyTexts
 pub mod StoredRecords
 pub mod Texts
+pub mod UsualTexts
+pub mod UsualTokens
 pub mod VoucherLines
 pub mod Walks

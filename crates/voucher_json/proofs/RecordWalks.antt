@@ -57,7 +57,7 @@ purpose-read name Used = refl
 moment-read : (name : FieldName) (at : Moment) → IsMoment name 0 (string (moment_text at)) (Ok at)
 moment-read name at = comes _ _ (moment_text at) _ refl (moment_text-spells at)
 
-receipt_line-read : (name : FieldName) (place : ℕ) (line : ReceiptLine) → IsReceiptLine name place (receipt_line_data line) (Ok line)
+pub receipt_line-read : (name : FieldName) (place : ℕ) (line : ReceiptLine) → IsReceiptLine name place (receipt_line_data line) (Ok line)
 receipt_line-read name place line =
     let amount = amount-is line.amount.0 line.price in
     comes _ _ tt _ refl
@@ -67,7 +67,7 @@ receipt_line-read name place line =
     (comes _ _ amount.number_of_it _ (amount-read field.Amount place line.amount.0 amount)
     (comes _ _ tt _ refl (refl, refl, refl, amount.is))))))
 
-issue_line-read : (name : FieldName) (place : ℕ) (line : IssueLine) → IsIssueLine name place (issue_line_data line) (Ok line)
+pub issue_line-read : (name : FieldName) (place : ℕ) (line : IssueLine) → IsIssueLine name place (issue_line_data line) (Ok line)
 issue_line-read name place line =
     comes _ _ tt _ refl
     (comes _ _ line.item _ refl
@@ -83,7 +83,7 @@ module _ {A : Type 0} (form : FieldName → ℕ → Data → Result A ReadFault 
   lines-count [] = refl
   lines-count (line ∷ lines) = omega (arith, lines-count lines)
 
-  list-read : (name : FieldName) (lines : List A) → IsTrue (nat_le 1 (length lines) && nat_le (length lines) 100) → IsList form name 0 (array (items_of (map data_of lines))) (Ok lines)
+  pub list-read : (name : FieldName) (lines : List A) → IsTrue (nat_le 1 (length lines) && nat_le (length lines) 100) → IsList form name 0 (array (items_of (map data_of lines))) (Ok lines)
   list-read name lines within =
       let least : 1 ≤ length lines = grind (arith, nat_tests) in
       let most : length lines ≤ 100 = grind (arith, nat_tests) in

@@ -6,4 +6,5 @@ pub mod ReplyText
 pub mod Requests
 pub mod StoredRecords
 pub mod Texts
+pub mod UsualTexts
 pub mod Walks

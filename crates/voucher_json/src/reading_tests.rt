@@ -1,5 +1,6 @@
 use crate::field_names::field_text;
 use crate::reading::read_request;
+use crate::request_reading::RequestReader;
 use std::alloc::Global;
 use std::test::Fail;
 use stock_model::queries::Query;
@@ -65,7 +66,12 @@ fn told(alloc: Global, request: &Request) -> Result<String, Fail> {
 
 /// What a text is read as, in words.
 fn read(alloc: Global, text: &[u8], at_desk: bool) -> Result<String, Fail> {
-    match read_request(alloc, text, at_desk) {
+    told_reading(alloc, read_request(alloc, text, at_desk))
+}
+
+/// What came of reading a text, in words.
+fn told_reading(alloc: Global, outcome: Result<Request, ReadFault>) -> Result<String, Fail> {
+    match outcome {
         Ok(request) => told(alloc, &request),
         Err(ReadFault::BadJson) => Ok(String::from_str(alloc, "no json")?),
         Err(ReadFault::BadField { name, line }) => {
@@ -111,9 +117,56 @@ fn reads_each_kind(rt: HostRuntime) -> Result<(), Fail> {
             "issue 20260103 25689 Sold, B W1 5",
         ),
     ];
+    let mut requests = RequestReader::new(rt.alloc());
     for (text, want) in table {
         let found = read(rt.alloc(), text.as_bytes(), false)?;
         assert_eq!(rt; found.as_str(), want, "{text}");
+        let outcome = requests.read(rt.alloc(), text.as_bytes(), false);
+        assert_eq!(rt; told_reading(rt.alloc(), outcome)?.as_str(), want, "{text}");
+    }
+    Ok(())
+}
+
+#[test]
+fn reads_unusual_spellings(rt: HostRuntime) -> Result<(), Fail> {
+    let table = [
+        (
+            r#"{"do":"receipt","lines":[{"item":"B","store":"W1","qty":1,"amount":2}],"at":"2026-01-03T07:08:09"}"#,
+            "receipt 20260103 25689, B W1 1 2",
+        ),
+        (
+            r#"{"do":"receipt","at":"2026-01-03T07:08:09","lines":[{"store":"W1","item":"B","qty":1,"amount":2}]}"#,
+            "receipt 20260103 25689, B W1 1 2",
+        ),
+        (
+            r#"{"do":"receipt","at":"2026-01-03T07:08:09","lines":[{"item":"A","store":"W1","qty":1,"amount":2,"item":"B"}]}"#,
+            "receipt 20260103 25689, B W1 1 2",
+        ),
+        (
+            r#"{ "do" : "rec\u0065ipt", "\u0061t" : "2026-01-03T07:08:09", "lines" : [ {"item":"\u0042", "store":"W1", "qty":1, "amount":2} ] }"#,
+            "receipt 20260103 25689, B W1 1 2",
+        ),
+        (
+            r#"{"do":"issue","at":"2026-01-03T07:08:09","use":"sold","lines":[{"item":"B","store":"W1","qty":1}],"use":"used"}"#,
+            "issue 20260103 25689 Used, B W1 1",
+        ),
+        (
+            r#"{"do":"issue","at":"2026-01-03T07:08:09","use":"sold","lines":[{"item":"B","store":"W1","qty":1}]}]"#,
+            "no json",
+        ),
+        (
+            r#"{"do":"issue","at":"2026-01-03T07:08:09","use":"sold","lines":[{"item":"B","store":"W1","qty":01}]}"#,
+            "no json",
+        ),
+        (
+            r#"{"do":"issue","at":"2026-01-03T07:08:09","use":"sold","lines":[{"item":"B","store":"W1","qty":0}]}"#,
+            "limit qty 1",
+        ),
+    ];
+    let mut requests = RequestReader::new(rt.alloc());
+    for (text, want) in table {
+        let outcome = requests.read(rt.alloc(), text.as_bytes(), false);
+        assert_eq!(rt; told_reading(rt.alloc(), outcome)?.as_str(), want, "{text}");
     }
     Ok(())
 }

@@ -1,0 +1,120 @@
+//! The lines of a voucher in the usual form: their fields in the order of the documents.
+ghost use Rattle.std.specs.Prelude.{◌≡◌, ◌≤◌, ℕ, IfOk, IfSome, length, map};
+ghost use Rattle.serde_json.specs.Data.{Data};
+ghost use Rattle.serde_json.specs.View.{items_of};
+ghost use Rattle.voucher_json.specs.RecordTexts.{receipt_line_data, issue_line_data};
+ghost use Rattle.voucher_json.specs.UsualTexts.{BeginsWithGoods, BeginsWithElement, BeginsWithElements};
+
+use crate::usual_tokens::{closes_object, has_key, next_number, next_text, opens_object};
+use json::Reader;
+use std::alloc::Global;
+use stock_model::read_faults::FieldName;
+use stock_model::vouchers::{IssueLine, ReceiptLine};
+use stock_nums::code::Code;
+use stock_nums::lines::Lines;
+use stock_nums::memory::NoMemory;
+use stock_nums::numbers::{Minor, Qty};
+
+/// The most lines that a voucher may have.
+const MAX_LINES: usize = 100;
+
+/// The largest quantity of a line, in smallest units.
+const MAX_QTY: u64 = 1_000_000_000;
+
+/// The largest amount of a line, in minor units.
+const MAX_AMOUNT: u64 = 1_000_000_000_000;
+
+/// A line of a voucher, as it is usually written.
+pub trait UsualLine: Drop {
+    ghost data_of: { Self → Data };
+
+    /// The line that comes next, if it has the usual form and its numbers are in range.
+    fn read_usual(alloc: Global, reader: &mut Reader<'_>) -> Result<Option<Self>, NoMemory>
+        ensures { IfOk result (λ found. IfSome found (λ line. BeginsWithElement reader.old (data_of line) reader.new)) };
+}
+
+impl UsualLine for ReceiptLine {
+    ghost data_of = { receipt_line_data };
+
+    fn read_usual(alloc: Global, reader: &mut Reader<'_>) -> Result<Option<ReceiptLine>, NoMemory> {
+        let Some((item, store, qty)) = read_goods(reader) else {
+            return Ok(None);
+        };
+        if !has_key(reader, FieldName::Amount) {
+            return Ok(None);
+        }
+        let Some(amount) = next_number(reader) else {
+            return Ok(None);
+        };
+        if amount > MAX_AMOUNT || !closes_object(reader) {
+            return Ok(None);
+        }
+        Ok(Some(ReceiptLine {
+            item: Code::of(alloc, item)?,
+            store: Code::of(alloc, store)?,
+            qty: Qty(qty),
+            amount: Minor(amount as i64),
+        }))
+    }
+}
+
+impl UsualLine for IssueLine {
+    ghost data_of = { issue_line_data };
+
+    fn read_usual(alloc: Global, reader: &mut Reader<'_>) -> Result<Option<IssueLine>, NoMemory> {
+        let Some((item, store, qty)) = read_goods(reader) else {
+            return Ok(None);
+        };
+        if !closes_object(reader) {
+            return Ok(None);
+        }
+        Ok(Some(IssueLine {
+            item: Code::of(alloc, item)?,
+            store: Code::of(alloc, store)?,
+            qty: Qty(qty),
+        }))
+    }
+}
+
+/// The item, the warehouse and the quantity with which a line begins, if it does.
+fn read_goods<'a>(reader: &mut Reader<'a>) -> Option<(&'a str, &'a str, u64)>
+    ensures { IfSome result (λ goods. BeginsWithGoods reader.old goods.0.now goods.1.now goods.2 reader.new) }
+{
+    if !opens_object(reader) || !has_key(reader, FieldName::Item) {
+        return None;
+    }
+    let item = next_text(reader)?;
+    if !has_key(reader, FieldName::Store) {
+        return None;
+    }
+    let store = next_text(reader)?;
+    if !has_key(reader, FieldName::Qty) {
+        return None;
+    }
+    let qty = next_number(reader)?;
+    if qty < 1 || qty > MAX_QTY {
+        return None;
+    }
+    Some((item, store, qty))
+}
+
+/// The lines up to the bracket that closes the list, if they have the usual form and are 100 at most.
+pub fn read_usual_lines<L: UsualLine>(
+    alloc: Global,
+    reader: &mut Reader<'_>,
+) -> Result<Option<Lines<L>>, NoMemory>
+    ensures read { IfOk result (λ found. IfSome found (λ lines. BeginsWithElements reader.old (items_of (map L.data_of lines)) reader.new)) }
+    ensures count { IfOk result (λ found. IfSome found (λ lines. length lines ≤ 100)) }
+{
+    let mut lines = Lines::new(alloc);
+    while !reader.take_end_array() {
+        if lines.len() == MAX_LINES {
+            return Ok(None);
+        }
+        let Some(line) = L::read_usual(alloc, reader)? else {
+            return Ok(None);
+        };
+        lines.push(line)?;
+    }
+    Ok(Some(lines))
+}
