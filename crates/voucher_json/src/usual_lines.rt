@@ -5,8 +5,7 @@ ghost use Rattle.serde_json.specs.View.{items_of};
 ghost use Rattle.voucher_json.specs.RecordTexts.{receipt_line_data, issue_line_data};
 ghost use Rattle.voucher_json.specs.UsualTexts.{BeginsWithGoods, BeginsWithElement, BeginsWithElements};
 
-use crate::usual_tokens::{closes_object, has_key, next_number, next_text, opens_object};
-use json::Reader;
+use crate::usual_tokens::{Tokens, closes_object, has_key, next_number, next_text, opens_object};
 use std::alloc::Global;
 use stock_model::read_faults::FieldName;
 use stock_model::vouchers::{IssueLine, ReceiptLine};
@@ -29,24 +28,27 @@ pub trait UsualLine: Drop {
     ghost data_of: { Self → Data };
 
     /// The line that comes next, if it has the usual form and its numbers are in range.
-    fn read_usual(alloc: Global, reader: &mut Reader<'_>) -> Result<Option<Self>, NoMemory>
-        ensures { IfOk result (λ found. IfSome found (λ line. BeginsWithElement reader.old (data_of line) reader.new)) };
+    fn read_usual(alloc: Global, tokens: &mut Tokens<'_, '_>) -> Result<Option<Self>, NoMemory>
+        ensures { IfOk result (λ found. IfSome found (λ line. BeginsWithElement tokens.old (data_of line) tokens.new)) };
 }
 
 impl UsualLine for ReceiptLine {
     ghost data_of = { receipt_line_data };
 
-    fn read_usual(alloc: Global, reader: &mut Reader<'_>) -> Result<Option<ReceiptLine>, NoMemory> {
-        let Some((item, store, qty)) = read_goods(reader) else {
+    fn read_usual(
+        alloc: Global,
+        tokens: &mut Tokens<'_, '_>,
+    ) -> Result<Option<ReceiptLine>, NoMemory> {
+        let Some((item, store, qty)) = read_goods(tokens) else {
             return Ok(None);
         };
-        if !has_key(reader, FieldName::Amount) {
+        if !has_key(tokens, FieldName::Amount) {
             return Ok(None);
         }
-        let Some(amount) = next_number(reader) else {
+        let Some(amount) = next_number(tokens) else {
             return Ok(None);
         };
-        if amount > MAX_AMOUNT || !closes_object(reader) {
+        if amount > MAX_AMOUNT || !closes_object(tokens) {
             return Ok(None);
         }
         Ok(Some(ReceiptLine {
@@ -61,11 +63,14 @@ impl UsualLine for ReceiptLine {
 impl UsualLine for IssueLine {
     ghost data_of = { issue_line_data };
 
-    fn read_usual(alloc: Global, reader: &mut Reader<'_>) -> Result<Option<IssueLine>, NoMemory> {
-        let Some((item, store, qty)) = read_goods(reader) else {
+    fn read_usual(
+        alloc: Global,
+        tokens: &mut Tokens<'_, '_>,
+    ) -> Result<Option<IssueLine>, NoMemory> {
+        let Some((item, store, qty)) = read_goods(tokens) else {
             return Ok(None);
         };
-        if !closes_object(reader) {
+        if !closes_object(tokens) {
             return Ok(None);
         }
         Ok(Some(IssueLine {
@@ -77,21 +82,21 @@ impl UsualLine for IssueLine {
 }
 
 /// The item, the warehouse and the quantity with which a line begins, if it does.
-fn read_goods<'a>(reader: &mut Reader<'a>) -> Option<(&'a str, &'a str, u64)>
-    ensures { IfSome result (λ goods. BeginsWithGoods reader.old goods.0.now goods.1.now goods.2 reader.new) }
+fn read_goods<'a>(tokens: &mut Tokens<'_, 'a>) -> Option<(&'a str, &'a str, u64)>
+    ensures { IfSome result (λ goods. BeginsWithGoods tokens.old goods.0.now goods.1.now goods.2 tokens.new) }
 {
-    if !opens_object(reader) || !has_key(reader, FieldName::Item) {
+    if !opens_object(tokens) || !has_key(tokens, FieldName::Item) {
         return None;
     }
-    let item = next_text(reader)?;
-    if !has_key(reader, FieldName::Store) {
+    let item = next_text(tokens)?;
+    if !has_key(tokens, FieldName::Store) {
         return None;
     }
-    let store = next_text(reader)?;
-    if !has_key(reader, FieldName::Qty) {
+    let store = next_text(tokens)?;
+    if !has_key(tokens, FieldName::Qty) {
         return None;
     }
-    let qty = next_number(reader)?;
+    let qty = next_number(tokens)?;
     if qty < 1 || qty > MAX_QTY {
         return None;
     }
@@ -101,17 +106,17 @@ fn read_goods<'a>(reader: &mut Reader<'a>) -> Option<(&'a str, &'a str, u64)>
 /// The lines up to the bracket that closes the list, if they have the usual form and are 100 at most.
 pub fn read_usual_lines<L: UsualLine>(
     alloc: Global,
-    reader: &mut Reader<'_>,
+    tokens: &mut Tokens<'_, '_>,
 ) -> Result<Option<Lines<L>>, NoMemory>
-    ensures read { IfOk result (λ found. IfSome found (λ lines. BeginsWithElements reader.old (items_of (map L.data_of lines)) reader.new)) }
+    ensures read { IfOk result (λ found. IfSome found (λ lines. BeginsWithElements tokens.old (items_of (map L.data_of lines)) tokens.new)) }
     ensures count { IfOk result (λ found. IfSome found (λ lines. length lines ≤ 100)) }
 {
     let mut lines = Lines::new(alloc);
-    while !reader.take_end_array() {
+    while !tokens.closes_list() {
         if lines.len() == MAX_LINES {
             return Ok(None);
         }
-        let Some(line) = L::read_usual(alloc, reader)? else {
+        let Some(line) = L::read_usual(alloc, tokens)? else {
             return Ok(None);
         };
         lines.push(line)?;
