@@ -6,7 +6,7 @@ use Rattle.serde_json.specs.Written.{compact_text}
 use Rattle.stock_model.specs.declared.read_faults.FieldName.{FieldName}
 use Rattle.stock_model.specs.declared.read_faults.FieldName.TheVariants as field
 use Rattle.voucher_json.specs.FieldNames.{field_text}
-use Rattle.voucher_json.specs.ReplyText.{fault_data, field_fault_data}
+use Rattle.voucher_json.specs.ReplyText.{fault_data, record_fault_data, line_fault_data, field_fault_data}
 
 -- a number of a record under this key, and the status
 abbrev counted_data : List ℕ → ℕ → List ℕ → Data
@@ -43,6 +43,48 @@ memory-text = refl
 pub http-text : codes "{\"fault\":\"http\",\"status\":\"bad\"}" ≡ compact_text (fault_data (codes "http") (codes "bad"))
 unfolding escape_byte
 http-text = refl
+
+-- refusals of a whole record
+pub code_taken-text : codes "{\"fault\":\"code-taken\",\"status\":\"refused\"}" ≡ compact_text (record_fault_data (codes "code-taken"))
+unfolding escape_byte
+code_taken-text = refl
+
+pub code_shape-text : codes "{\"fault\":\"code-shape\",\"status\":\"refused\"}" ≡ compact_text (record_fault_data (codes "code-shape"))
+unfolding escape_byte
+code_shape-text = refl
+
+pub account_range-text : codes "{\"fault\":\"account-range\",\"status\":\"refused\"}" ≡ compact_text (record_fault_data (codes "account-range"))
+unfolding escape_byte
+account_range-text = refl
+
+pub no_basis-text : codes "{\"fault\":\"no-basis\",\"status\":\"refused\"}" ≡ compact_text (record_fault_data (codes "no-basis"))
+unfolding escape_byte
+no_basis-text = refl
+
+-- refusals for a line
+pub unknown_item-text : (line : ℕ) → codes "{\"fault\":\"unknown-item\",\"line\":" ++ (decimal line ++ codes ",\"status\":\"refused\"}") ≡ compact_text (line_fault_data (codes "unknown-item") line)
+unfolding escape_byte
+unknown_item-text line = refl
+
+pub unknown_store-text : (line : ℕ) → codes "{\"fault\":\"unknown-store\",\"line\":" ++ (decimal line ++ codes ",\"status\":\"refused\"}") ≡ compact_text (line_fault_data (codes "unknown-store") line)
+unfolding escape_byte
+unknown_store-text line = refl
+
+pub same_store-text : (line : ℕ) → codes "{\"fault\":\"same-store\",\"line\":" ++ (decimal line ++ codes ",\"status\":\"refused\"}") ≡ compact_text (line_fault_data (codes "same-store") line)
+unfolding escape_byte
+same_store-text line = refl
+
+pub unknown_target-text : (line : ℕ) → codes "{\"fault\":\"unknown-target\",\"line\":" ++ (decimal line ++ codes ",\"status\":\"refused\"}") ≡ compact_text (line_fault_data (codes "unknown-target") line)
+unfolding escape_byte
+unknown_target-text line = refl
+
+pub link_later-text : (line : ℕ) → codes "{\"fault\":\"link-later\",\"line\":" ++ (decimal line ++ codes ",\"status\":\"refused\"}") ≡ compact_text (line_fault_data (codes "link-later") line)
+unfolding escape_byte
+link_later-text line = refl
+
+pub repeated_target-text : (line : ℕ) → codes "{\"fault\":\"repeated-target\",\"line\":" ++ (decimal line ++ codes ",\"status\":\"refused\"}") ≡ compact_text (line_fault_data (codes "repeated-target") line)
+unfolding escape_byte
+repeated_target-text line = refl
 
 -- no field's name has anything to escape
 field-plain : (name : FieldName) → escape (field_text name) ≡ field_text name

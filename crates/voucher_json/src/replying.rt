@@ -3,7 +3,7 @@ ghost use Rattle.std.specs.Prelude.{◌≡◌, map, false, IfOk};
 ghost use Rattle.serde_json.specs.Written.{has_float, compact_text};
 ghost use Rattle.serde_json.specs.View.{view, items_view};
 ghost use Rattle.stock_model.specs.declared.replies.Reply.{Reply};
-ghost use Rattle.voucher_json.specs.ReplyText.{refusal_data, short_data, row_data, layer_data, sheet_data, reply_data, reply_text, fault_data, line_fault_data, IsTold, IsPrinted};
+ghost use Rattle.voucher_json.specs.ReplyText.{refusal_data, short_data, row_data, layer_data, sheet_data, reply_data, reply_text, over_return_data, full_data, IsTold, IsPrinted};
 
 use crate::moment_strings::moment_string;
 use crate::plain_texts::{bad_text, numbered};
@@ -34,7 +34,7 @@ fn reply_bytes(alloc: Global, reply: &Reply) -> Result<Vec<u8>, AllocError>
         Reply::Accepted(number) => {
             numbered(alloc, r#"{"record":"#, number.0, r#","status":"accepted"}"#)
         }
-        Reply::Refused(fault) => value_text(alloc, refusal_value(alloc, *fault)?),
+        Reply::Refused(fault) => refusal_text(alloc, *fault),
         Reply::Short {
             place,
             item,
@@ -80,44 +80,70 @@ fn value_text(alloc: Global, value: Value) -> Result<Vec<u8>, AllocError>
     Ok(value.to_string(alloc)?.into_bytes())
 }
 
-/// The JSON value of a fault and a status alone.
-fn fault_value(alloc: Global, fault: &str, status: &str) -> Result<Value, AllocError>
-    ensures { IfOk result (λ value. view value ≡ fault_data fault.now status.now) }
-{
-    json!(in alloc; {"fault": fault, "status": status})
-}
+/// How the text of a refusal with a line ends.
+const REFUSED: &str = r#","status":"refused"}"#;
 
-/// The JSON value of a fault of a record's line.
-fn line_fault_value(alloc: Global, fault: &str, line: u32) -> Result<Value, AllocError>
-    ensures { IfOk result (λ value. view value ≡ line_fault_data fault.now line) }
-{
-    json!(in alloc; {"fault": fault, "line": line, "status": "refused"})
-}
-
-/// The JSON value of a refusal.
-fn refusal_value(alloc: Global, fault: PostFault) -> Result<Value, AllocError>
+/// The text of a refusal.
+fn refusal_text(alloc: Global, fault: PostFault) -> Result<Vec<u8>, AllocError>
     requires { IsTold fault }
-    ensures { IfOk result (λ value. view value ≡ refusal_data fault) }
+    ensures { IfOk result (λ text. text.items ≡ compact_text (refusal_data fault)) }
 {
     match fault {
-        PostFault::CodeTaken => fault_value(alloc, "code-taken", "refused"),
-        PostFault::CodeShape => fault_value(alloc, "code-shape", "refused"),
-        PostFault::AccountRange => fault_value(alloc, "account-range", "refused"),
-        PostFault::UnknownItem { line } => line_fault_value(alloc, "unknown-item", line),
-        PostFault::UnknownStore { line } => line_fault_value(alloc, "unknown-store", line),
-        PostFault::SameStore { line } => line_fault_value(alloc, "same-store", line),
-        PostFault::UnknownTarget { line } => line_fault_value(alloc, "unknown-target", line),
-        PostFault::LinkLater { line } => line_fault_value(alloc, "link-later", line),
-        PostFault::RepeatedTarget { line } => line_fault_value(alloc, "repeated-target", line),
-        PostFault::OverReturn { line, asked, left } => {
-            json!(in alloc; {"asked": asked.0, "fault": "over-return", "left": left.0, "line": line, "status": "refused"})
+        PostFault::CodeTaken => {
+            Vec::from_slice(alloc, br#"{"fault":"code-taken","status":"refused"}"#)
         }
-        PostFault::NoBasis => fault_value(alloc, "no-basis", "refused"),
+        PostFault::CodeShape => {
+            Vec::from_slice(alloc, br#"{"fault":"code-shape","status":"refused"}"#)
+        }
+        PostFault::AccountRange => {
+            Vec::from_slice(alloc, br#"{"fault":"account-range","status":"refused"}"#)
+        }
+        PostFault::UnknownItem { line } => {
+            numbered(alloc, r#"{"fault":"unknown-item","line":"#, line, REFUSED)
+        }
+        PostFault::UnknownStore { line } => {
+            numbered(alloc, r#"{"fault":"unknown-store","line":"#, line, REFUSED)
+        }
+        PostFault::SameStore { line } => {
+            numbered(alloc, r#"{"fault":"same-store","line":"#, line, REFUSED)
+        }
+        PostFault::UnknownTarget { line } => {
+            numbered(alloc, r#"{"fault":"unknown-target","line":"#, line, REFUSED)
+        }
+        PostFault::LinkLater { line } => {
+            numbered(alloc, r#"{"fault":"link-later","line":"#, line, REFUSED)
+        }
+        PostFault::RepeatedTarget { line } => {
+            numbered(
+                alloc,
+                r#"{"fault":"repeated-target","line":"#,
+                line,
+                REFUSED,
+            )
+        }
+        PostFault::OverReturn { line, asked, left } => {
+            value_text(alloc, over_return_value(alloc, line, asked, left)?)
+        }
+        PostFault::NoBasis => Vec::from_slice(alloc, br#"{"fault":"no-basis","status":"refused"}"#),
         PostFault::Full { records, entries } => {
-            json!(in alloc; {"entries": entries, "fault": "full", "records": records, "status": "refused"})
+            value_text(alloc, full_value(alloc, records, entries)?)
         }
         PostFault::Short { .. } | PostFault::KeeperFailed | PostFault::NoMemory => unreachable!(),
     }
+}
+
+/// The JSON value of the refusal of a return of more than is left.
+fn over_return_value(alloc: Global, line: u32, asked: Qty, left: Qty) -> Result<Value, AllocError>
+    ensures { IfOk result (λ value. view value ≡ over_return_data line asked.0 left.0) }
+{
+    json!(in alloc; {"asked": asked.0, "fault": "over-return", "left": left.0, "line": line, "status": "refused"})
+}
+
+/// The JSON value of the refusal for want of room.
+fn full_value(alloc: Global, records: u32, entries: u32) -> Result<Value, AllocError>
+    ensures { IfOk result (λ value. view value ≡ full_data records entries) }
+{
+    json!(in alloc; {"entries": entries, "fault": "full", "records": records, "status": "refused"})
 }
 
 /// The JSON value of a shortage.

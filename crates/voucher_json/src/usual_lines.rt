@@ -5,7 +5,8 @@ ghost use Rattle.serde_json.specs.View.{items_of};
 ghost use Rattle.voucher_json.specs.RecordTexts.{receipt_line_data, issue_line_data};
 ghost use Rattle.voucher_json.specs.UsualTexts.{BeginsWithGoods, BeginsWithElement, BeginsWithElements};
 
-use crate::usual_tokens::{Tokens, closes_object, has_key, next_number, next_text, opens_object};
+use crate::usual_tokens::{closes_object, has_key, next_number, next_text, opens_object};
+use json::Reader;
 use std::alloc::Global;
 use stock_model::read_faults::FieldName;
 use stock_model::vouchers::{IssueLine, ReceiptLine};
@@ -28,27 +29,24 @@ pub trait UsualLine: Drop {
     ghost data_of: { Self → Data };
 
     /// The line that comes next, if it has the usual form and its numbers are in range.
-    fn read_usual(alloc: Global, tokens: &mut Tokens<'_, '_>) -> Result<Option<Self>, NoMemory>
-        ensures { IfOk result (λ found. IfSome found (λ line. BeginsWithElement tokens.old (data_of line) tokens.new)) };
+    fn read_usual(alloc: Global, reader: &mut Reader<'_>) -> Result<Option<Self>, NoMemory>
+        ensures { IfOk result (λ found. IfSome found (λ line. BeginsWithElement reader.old (data_of line) reader.new)) };
 }
 
 impl UsualLine for ReceiptLine {
     ghost data_of = { receipt_line_data };
 
-    fn read_usual(
-        alloc: Global,
-        tokens: &mut Tokens<'_, '_>,
-    ) -> Result<Option<ReceiptLine>, NoMemory> {
-        let Some((item, store, qty)) = read_goods(tokens) else {
+    fn read_usual(alloc: Global, reader: &mut Reader<'_>) -> Result<Option<ReceiptLine>, NoMemory> {
+        let Some((item, store, qty)) = read_goods(reader) else {
             return Ok(None);
         };
-        if !has_key(tokens, FieldName::Amount) {
+        if !has_key(reader, FieldName::Amount) {
             return Ok(None);
         }
-        let Some(amount) = next_number(tokens) else {
+        let Some(amount) = next_number(reader) else {
             return Ok(None);
         };
-        if amount > MAX_AMOUNT || !closes_object(tokens) {
+        if amount > MAX_AMOUNT || !closes_object(reader) {
             return Ok(None);
         }
         Ok(Some(ReceiptLine {
@@ -63,14 +61,11 @@ impl UsualLine for ReceiptLine {
 impl UsualLine for IssueLine {
     ghost data_of = { issue_line_data };
 
-    fn read_usual(
-        alloc: Global,
-        tokens: &mut Tokens<'_, '_>,
-    ) -> Result<Option<IssueLine>, NoMemory> {
-        let Some((item, store, qty)) = read_goods(tokens) else {
+    fn read_usual(alloc: Global, reader: &mut Reader<'_>) -> Result<Option<IssueLine>, NoMemory> {
+        let Some((item, store, qty)) = read_goods(reader) else {
             return Ok(None);
         };
-        if !closes_object(tokens) {
+        if !closes_object(reader) {
             return Ok(None);
         }
         Ok(Some(IssueLine {
@@ -82,21 +77,22 @@ impl UsualLine for IssueLine {
 }
 
 /// The item, the warehouse and the quantity with which a line begins, if it does.
-fn read_goods<'a>(tokens: &mut Tokens<'_, 'a>) -> Option<(&'a str, &'a str, u64)>
-    ensures { IfSome result (λ goods. BeginsWithGoods tokens.old goods.0.now goods.1.now goods.2 tokens.new) }
+#[inline(always)]
+fn read_goods<'a>(reader: &mut Reader<'a>) -> Option<(&'a str, &'a str, u64)>
+    ensures { IfSome result (λ goods. BeginsWithGoods reader.old goods.0.now goods.1.now goods.2 reader.new) }
 {
-    if !opens_object(tokens) || !has_key(tokens, FieldName::Item) {
+    if !opens_object(reader) || !has_key(reader, FieldName::Item) {
         return None;
     }
-    let item = next_text(tokens)?;
-    if !has_key(tokens, FieldName::Store) {
+    let item = next_text(reader)?;
+    if !has_key(reader, FieldName::Store) {
         return None;
     }
-    let store = next_text(tokens)?;
-    if !has_key(tokens, FieldName::Qty) {
+    let store = next_text(reader)?;
+    if !has_key(reader, FieldName::Qty) {
         return None;
     }
-    let qty = next_number(tokens)?;
+    let qty = next_number(reader)?;
     if qty < 1 || qty > MAX_QTY {
         return None;
     }
@@ -106,17 +102,17 @@ fn read_goods<'a>(tokens: &mut Tokens<'_, 'a>) -> Option<(&'a str, &'a str, u64)
 /// The lines up to the bracket that closes the list, if they have the usual form and are 100 at most.
 pub fn read_usual_lines<L: UsualLine>(
     alloc: Global,
-    tokens: &mut Tokens<'_, '_>,
+    reader: &mut Reader<'_>,
 ) -> Result<Option<Lines<L>>, NoMemory>
-    ensures read { IfOk result (λ found. IfSome found (λ lines. BeginsWithElements tokens.old (items_of (map L.data_of lines)) tokens.new)) }
+    ensures read { IfOk result (λ found. IfSome found (λ lines. BeginsWithElements reader.old (items_of (map L.data_of lines)) reader.new)) }
     ensures count { IfOk result (λ found. IfSome found (λ lines. length lines ≤ 100)) }
 {
     let mut lines = Lines::new(alloc);
-    while !tokens.closes_list() {
+    while !reader.take_end_array() {
         if lines.len() == MAX_LINES {
             return Ok(None);
         }
-        let Some(line) = L::read_usual(alloc, tokens)? else {
+        let Some(line) = L::read_usual(alloc, reader)? else {
             return Ok(None);
         };
         lines.push(line)?;

@@ -8,8 +8,8 @@ ghost use Rattle.voucher_json.specs.UsualTexts.{BeginsWithPost, BeginsWithMoment
 
 use crate::kinds::purpose_named;
 use crate::usual_lines::read_usual_lines;
-use crate::usual_tokens::{Tokens, closes_object, has_key, next_text, opens_list, opens_object};
-use json::{Error, Scratch, Tape};
+use crate::usual_tokens::{closes_object, has_key, next_text, opens_list, opens_object};
+use json::{Reader, Scratch};
 use std::alloc::Global;
 use stock_model::read_faults::FieldName;
 use stock_model::requests::Request;
@@ -30,96 +30,91 @@ pub fn read_usual(
     let Ok(text) = simdutf8::compat::from_utf8(bytes) else {
         return Ok(None);
     };
-    let tape = match Tape::parse(text, scratch, Vec::new(alloc)) {
-        Ok(tape) => tape,
-        Err(Error::OutOfMemory) => return Err(NoMemory),
-        Err(_) => return Ok(None),
-    };
-    let mut tokens = Tokens::of(&tape);
-    let Some(what) = read_post(alloc, &mut tokens)? else {
+    let mut reader = Reader::new(text, scratch)?;
+    let Some(what) = read_post(alloc, &mut reader)? else {
         return Ok(None);
     };
-    if tokens.next().is_some() {
+    if reader.next().is_some() {
         return Ok(None);
     }
     Ok(Some(Request::Post(what)))
 }
 
 /// What the voucher that comes next says.
-fn read_post(alloc: Global, tokens: &mut Tokens<'_, '_>) -> Result<Option<What>, NoMemory>
-    ensures read { IfOk result (λ found. IfSome found (λ what. BeginsWithPost tokens.old what tokens.new)) }
+fn read_post(alloc: Global, reader: &mut Reader<'_>) -> Result<Option<What>, NoMemory>
+    ensures read { IfOk result (λ found. IfSome found (λ what. BeginsWithPost reader.old what reader.new)) }
     ensures limits { IfOk result (λ found. IfSome found (λ what. IsTrue (is_within_limits what))) }
 {
-    if !opens_object(tokens) || !has_key(tokens, FieldName::Do) {
+    if !opens_object(reader) || !has_key(reader, FieldName::Do) {
         return Ok(None);
     }
-    match next_text(tokens) {
-        Some("receipt") => read_receipt(alloc, tokens),
-        Some("issue") => read_issue(alloc, tokens),
+    match next_text(reader) {
+        Some("receipt") => read_receipt(alloc, reader),
+        Some("issue") => read_issue(alloc, reader),
         _ => Ok(None),
     }
 }
 
 /// What a receipt says, after its `do`.
-fn read_receipt(alloc: Global, tokens: &mut Tokens<'_, '_>) -> Result<Option<What>, NoMemory>
-    ensures read { IfOk result (λ found. IfSome found (λ what. BeginsWithPost (begin_object ∷ key (codes "do") ∷ string (codes "receipt") ∷ tokens.old) what tokens.new)) }
+fn read_receipt(alloc: Global, reader: &mut Reader<'_>) -> Result<Option<What>, NoMemory>
+    ensures read { IfOk result (λ found. IfSome found (λ what. BeginsWithPost (begin_object ∷ key (codes "do") ∷ string (codes "receipt") ∷ reader.old) what reader.new)) }
     ensures limits { IfOk result (λ found. IfSome found (λ what. IsTrue (is_within_limits what))) }
 {
-    let Some(at) = read_at(tokens) else {
+    let Some(at) = read_at(reader) else {
         return Ok(None);
     };
-    if !has_key(tokens, FieldName::Lines) || !opens_list(tokens) {
+    if !has_key(reader, FieldName::Lines) || !opens_list(reader) {
         return Ok(None);
     }
-    let Some(lines) = read_usual_lines(alloc, tokens)? else {
+    let Some(lines) = read_usual_lines(alloc, reader)? else {
         return Ok(None);
     };
-    if lines.is_empty() || !closes_object(tokens) {
+    if lines.is_empty() || !closes_object(reader) {
         return Ok(None);
     }
     Ok(Some(What::Receipt { at, lines }))
 }
 
 /// What an issue says, after its `do`.
-fn read_issue(alloc: Global, tokens: &mut Tokens<'_, '_>) -> Result<Option<What>, NoMemory>
-    ensures read { IfOk result (λ found. IfSome found (λ what. BeginsWithPost (begin_object ∷ key (codes "do") ∷ string (codes "issue") ∷ tokens.old) what tokens.new)) }
+fn read_issue(alloc: Global, reader: &mut Reader<'_>) -> Result<Option<What>, NoMemory>
+    ensures read { IfOk result (λ found. IfSome found (λ what. BeginsWithPost (begin_object ∷ key (codes "do") ∷ string (codes "issue") ∷ reader.old) what reader.new)) }
     ensures limits { IfOk result (λ found. IfSome found (λ what. IsTrue (is_within_limits what))) }
 {
-    let Some(at) = read_at(tokens) else {
+    let Some(at) = read_at(reader) else {
         return Ok(None);
     };
-    let Some(purpose) = read_purpose(tokens) else {
+    let Some(purpose) = read_purpose(reader) else {
         return Ok(None);
     };
-    if !has_key(tokens, FieldName::Lines) || !opens_list(tokens) {
+    if !has_key(reader, FieldName::Lines) || !opens_list(reader) {
         return Ok(None);
     }
-    let Some(lines) = read_usual_lines(alloc, tokens)? else {
+    let Some(lines) = read_usual_lines(alloc, reader)? else {
         return Ok(None);
     };
-    if lines.is_empty() || !closes_object(tokens) {
+    if lines.is_empty() || !closes_object(reader) {
         return Ok(None);
     }
     Ok(Some(What::Issue { at, purpose, lines }))
 }
 
 /// The moment that the field `at` spells.
-fn read_at(tokens: &mut Tokens<'_, '_>) -> Option<Moment>
-    ensures { IfSome result (λ at. BeginsWithMoment tokens.old at tokens.new) }
+fn read_at(reader: &mut Reader<'_>) -> Option<Moment>
+    ensures { IfSome result (λ at. BeginsWithMoment reader.old at reader.new) }
 {
-    if !has_key(tokens, FieldName::At) {
+    if !has_key(reader, FieldName::At) {
         return None;
     }
-    let text = next_text(tokens)?;
+    let text = next_text(reader)?;
     read_moment(text.as_bytes()).ok()
 }
 
 /// The purpose that the field `use` names.
-fn read_purpose(tokens: &mut Tokens<'_, '_>) -> Option<Purpose>
-    ensures { IfSome result (λ purpose. BeginsWithPurpose tokens.old purpose tokens.new) }
+fn read_purpose(reader: &mut Reader<'_>) -> Option<Purpose>
+    ensures { IfSome result (λ purpose. BeginsWithPurpose reader.old purpose reader.new) }
 {
-    if !has_key(tokens, FieldName::Use) {
+    if !has_key(reader, FieldName::Use) {
         return None;
     }
-    purpose_named(next_text(tokens)?)
+    purpose_named(next_text(reader)?)
 }

@@ -4,7 +4,7 @@ use Rattle.voucher_json.proofs.UsualTokens.{HasRead}
 use Rattle.voucher_json.proofs.usual_lines.read_usual_lines.Given as goal
 
 abbrev pub invariant-loop-alloc : goal.invariant-loop-alloc
-invariant-loop-alloc g l = record { read : HasRead g.L.UsualLine.data_of l.initial.tokens l.lines l.tokens; most : length l.lines ≤ 100 }
+invariant-loop-alloc g l = record { read : HasRead g.L.UsualLine.data_of l.initial.reader l.lines l.reader; most : length l.lines ≤ 100 }
 
 abbrev pub decreases-loop-alloc : goal.decreases-loop-alloc
 decreases-loop-alloc g l = 100 - length l.lines

@@ -7,8 +7,8 @@ use Rattle.voucher_json.proofs.usual_lines.ReceiptLineUsualLine.read_usual.Goals
 
 pub returns : goal.returns
 returns c =
-    let goods : BeginsWithGoods c.args.tokens.now c.in_ok-of.field-0 c.in_ok-of-2.field-0 c.in-Some.qty c.read_goods.new.tokens = rw (c.in_ok-of.ensures, c.in_ok-of-2.ensures) c.in-Some.ensures in
-    let named : c.read_goods.new.tokens ≡ key (codes "amount") ∷ c.has_key.new.tokens = search rules in
-    let closed : c.next_number.new.tokens ≡ end_object ∷ c.closes_object.new.tokens = search rules in
+    let goods : BeginsWithGoods c.args.reader.now c.in_ok-of.field-0 c.in_ok-of-2.field-0 c.in-Some.qty c.read_goods.new.reader = rw (c.in_ok-of.ensures, c.in_ok-of-2.ensures) c.in-Some.ensures in
+    let named : c.read_goods.new.reader ≡ key (codes "amount") ∷ c.has_key.new.reader = search rules in
+    let closed : c.next_number.new.reader ≡ end_object ∷ c.closes_object.new.reader = search rules in
     let price : to_z w64 c.in-Some-next_number.amount ≡ pos c.in-Some-next_number.amount = omega (arith, ints) in
-    receipt_line_read c.in_ok-of.field-0 c.in_ok-of-2.field-0 c.in-Some.qty c.in-Some-next_number.amount (to_z w64 c.in-Some-next_number.amount) _ c.read_goods.new.tokens c.has_key.new.tokens c.next_number.new.tokens _ goods named c.in-Some-next_number.ensures closed price
+    receipt_line_read c.in_ok-of.field-0 c.in_ok-of-2.field-0 c.in-Some.qty c.in-Some-next_number.amount (to_z w64 c.in-Some-next_number.amount) _ c.read_goods.new.reader c.has_key.new.reader c.next_number.new.reader _ goods named c.in-Some-next_number.ensures closed price
