@@ -77,6 +77,7 @@ impl UsualLine for IssueLine {
 }
 
 /// The item, the warehouse and the quantity with which a line begins, if it does.
+#[inline(always)]
 fn read_goods<'a>(reader: &mut Reader<'a>) -> Option<(&'a str, &'a str, u64)>
     ensures { IfSome result (λ goods. BeginsWithGoods reader.old goods.0.now goods.1.now goods.2 reader.new) }
 {

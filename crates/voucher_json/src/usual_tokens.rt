@@ -12,7 +12,7 @@ use json::{Reader, Token};
 use stock_model::read_faults::FieldName;
 
 /// Whether an object opens.
-#[inline(never)]
+#[inline(always)]
 pub fn opens_object(reader: &mut Reader<'_>) -> bool
     ensures { IsTrue result → reader.old ≡ begin_object ∷ reader.new }
 {
@@ -20,7 +20,7 @@ pub fn opens_object(reader: &mut Reader<'_>) -> bool
 }
 
 /// Whether an object closes.
-#[inline(never)]
+#[inline(always)]
 pub fn closes_object(reader: &mut Reader<'_>) -> bool
     ensures { IsTrue result → reader.old ≡ end_object ∷ reader.new }
 {
@@ -28,7 +28,7 @@ pub fn closes_object(reader: &mut Reader<'_>) -> bool
 }
 
 /// Whether a list opens.
-#[inline(never)]
+#[inline(always)]
 pub fn opens_list(reader: &mut Reader<'_>) -> bool
     ensures { IsTrue result → reader.old ≡ begin_array ∷ reader.new }
 {
@@ -47,7 +47,7 @@ pub fn has_key(reader: &mut Reader<'_>, name: FieldName) -> bool
 }
 
 /// A key.
-#[inline(never)]
+#[inline(always)]
 fn next_key<'a>(reader: &mut Reader<'a>) -> Option<&'a str>
     ensures { IfSome result (λ text. reader.old ≡ key text.now ∷ reader.new) }
 {
@@ -58,7 +58,7 @@ fn next_key<'a>(reader: &mut Reader<'a>) -> Option<&'a str>
 }
 
 /// A text.
-#[inline(never)]
+#[inline(always)]
 pub fn next_text<'a>(reader: &mut Reader<'a>) -> Option<&'a str>
     ensures { IfSome result (λ text. reader.old ≡ string text.now ∷ reader.new) }
 {
@@ -69,7 +69,7 @@ pub fn next_text<'a>(reader: &mut Reader<'a>) -> Option<&'a str>
 }
 
 /// A whole number that is not negative, below 2^64.
-#[inline(never)]
+#[inline(always)]
 pub fn next_number(reader: &mut Reader<'_>) -> Option<u64>
     ensures { IfSome result (λ n. BeginsWithNumber reader.old n reader.new) }
 {
