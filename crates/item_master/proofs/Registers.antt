@@ -84,6 +84,12 @@ IsRegister-pop entries code v register clears = record {
   apart = AreApart-front entries code v register.apart;
 }
 
+-- the same, where the list is known to end with that value, and its code was spelled by a text
+pub IsRegister-removed : {V Y : Type 0} {old new : BTreeMap (String Y) V} (all entries : List (List ℕ × V)) (code text : List ℕ) (v : V) → all ≡ entries ++ (code, v) ∷ [] → text ≡ code → IsRegister all old
+    → ((q : List ℕ) → get_by_text new q ≡ update bytes_eq (get_by_text old) text None q) → IsRegister entries new
+IsRegister-removed {old = old} {new = new} all entries code text v ends spelled register clears =
+    IsRegister-pop entries code v (subst (λ es. IsRegister es old) ends register) (subst (λ c. (q : List ℕ) → get_by_text new q ≡ update bytes_eq (get_by_text old) c None q) spelled clears)
+
 -- the item with a code is the one that is kept with it
 pub item_in-heads : (entries : List (List ℕ × (ItemNo × Method))) (code : List ℕ) → item_in (map item_head entries) code ≡ value_of entries code
 item_in-heads [] code = refl

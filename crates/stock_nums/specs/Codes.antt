@@ -1,6 +1,13 @@
 -- The codes of items and warehouses.
-use Rattle.std.specs.Prelude.{ℕ, Bool, ◌&&◌, ◌||◌, ◌==◌, nat_le, List, length}
+use Rattle.std.specs.Prelude.{ℕ, Bool, ◌&&◌, ◌||◌, ◌==◌, nat_le, List, length, string_bytes}
 use Rattle.std.specs.List.{list_all}
+use Rattle.stock_nums.specs.declared.code.Spelling.{Spelling}
+use Rattle.stock_nums.specs.declared.code.Spelling.TheVariants.{Short, Long}
+
+-- the bytes of a code
+abbrev pub spelled : Spelling → List ℕ
+spelled (Short text) = text.bytes
+spelled (Long text) = string_bytes text
 
 -- A-Z, a-z, 0-9, a dot, an underscore or a hyphen
 abbrev pub is_code_byte : ℕ → Bool

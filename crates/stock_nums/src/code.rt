@@ -3,22 +3,34 @@ ghost use Rattle.std.specs.List.{list_all};
 ghost use Rattle.stock_nums.specs.Codes.{is_code_byte, is_code};
 
 use crate::memory::NoMemory;
+use arrayvec::ArrayString;
 use std::alloc::Global;
 use std::fmt;
 use std::marker::Model;
 
-/// The code of an item or of a warehouse: text, which contracts see as its bytes.
+/// The most bytes that a text may have to stand in the value itself: those of a well-formed code.
+const SHORT: usize = 24;
+
+/// Where the text of a code stands.
+#[derive(Drop)]
+pub(crate) enum Spelling {
+    Short(ArrayString<SHORT>),
+    Long(String),
+}
+
+/// The code of an item or of a warehouse: text, which contracts see as its bytes. A short one takes no memory.
 #[derive(Drop)]
 pub struct Code {
-    text: String,
+    spelling: Spelling,
 }
 
 impl Model for Code {
-    ghost use Rattle.std.specs.Prelude.{List, ℕ, string_bytes};
+    ghost use Rattle.std.specs.Prelude.{List, ℕ};
+    ghost use Rattle.stock_nums.specs.Codes.{spelled};
 
     ghost Value = { List ℕ };
 
-    ghost view = { λ code. string_bytes code.text };
+    ghost view = { λ code. spelled code.spelling };
 }
 
 impl Code {
@@ -26,16 +38,21 @@ impl Code {
     pub fn of(alloc: Global, text: &str) -> Result<Code, NoMemory>
         ensures { IfOk result (λ code. code ≡ text.now) }
     {
-        Ok(Code {
-            text: String::from_str(alloc, text)?,
-        })
+        let spelling = match ArrayString::from(text) {
+            Ok(short) => Spelling::Short(short),
+            Err(_) => Spelling::Long(String::from_str(alloc, text)?),
+        };
+        Ok(Code { spelling })
     }
 
     /// How the code is spelled.
     pub fn text(&self) -> &str
         ensures { result.now ≡ self.now }
     {
-        self.text.as_str()
+        match &self.spelling {
+            Spelling::Short(short) => short.as_str(),
+            Spelling::Long(long) => long.as_str(),
+        }
     }
 
     /// Whether the code has the shape that `has_code_shape` tells.
@@ -112,6 +129,17 @@ mod tests {
         assert!(rt; code == copy);
         assert!(rt; code != Code::of(rt.alloc(), "tee-1.kg")?);
         assert!(rt; code.is_well_formed());
+        Ok(())
+    }
+
+    #[test]
+    fn keeps_a_long_spelling(rt: HostRuntime) -> Result<(), Fail> {
+        let code = Code::of(rt.alloc(), "1234567890123456789012345")?;
+        let copy = code.copy(rt.alloc())?;
+        assert_eq!(rt; copy.text(), "1234567890123456789012345");
+        assert!(rt; code == copy);
+        assert!(rt; code != Code::of(rt.alloc(), "123456789012345678901234")?);
+        assert!(rt; !code.is_well_formed());
         Ok(())
     }
 
