@@ -22,15 +22,10 @@ use stock_model::vouchers::What;
 use stock_model::{layers, sheets};
 use stock_nums::memory::NoMemory;
 use stock_nums::numbers::DeskNo;
-use voucher_json::request_reading::RequestReader;
+use voucher_json::reading::read_request;
 
 /// The reply to a line that is not blank.
-pub fn reply_to(
-    alloc: Global,
-    requests: &mut RequestReader,
-    book: &mut Book,
-    line: &OpenLine,
-) -> Result<Reply, NoMemory>
+pub fn reply_to(alloc: Global, book: &mut Book, line: &OpenLine) -> Result<Reply, NoMemory>
     ensures step { IfOk result (λ reply. (text : List ℕ) → StandsForLine line.now text → Step (IsReadAs false) (state_of book.old.history) text reply (state_of book.new.history)) }
     ensures printed { IfOk result IsPrinted }
     ensures legal { IfOk result (λ _. IsLegal book.old.history → IsLegal book.new.history) }
@@ -38,7 +33,7 @@ pub fn reply_to(
     if line.long {
         return Ok(Reply::Long);
     }
-    match requests.read(alloc, line.bytes.as_slice(), false) {
+    match read_request(alloc, line.bytes.as_slice(), false) {
         Ok(request) => answer(alloc, book, request),
         Err(fault) => bad(fault),
     }

@@ -7,15 +7,13 @@ use std::alloc::Global;
 use stock_io::failed::Failed;
 use stock_io::sink::{Sink, write_all};
 use stock_nums::memory::NoMemory;
-use voucher_json::request_reading::RequestReader;
 
-/// A batch under way: the book, the line under way, the replies that wait to be written, and the reader of requests.
+/// A batch under way: the book, the line under way, and the replies that wait to be written.
 #[derive(Drop)]
 pub struct Batch {
     pub book: Book,
     pub line: OpenLine,
     pub waiting: Vec<u8>,
-    pub requests: RequestReader,
 }
 
 impl Batch {
@@ -38,7 +36,6 @@ impl Batch {
             book: Book::start(alloc),
             line: OpenLine::new(alloc),
             waiting: Vec::new(alloc),
-            requests: RequestReader::new(alloc),
         }
     }
 
@@ -93,7 +90,7 @@ impl Batch {
         if self.line.blank {
             return Ok(());
         }
-        let reply = reply_to(alloc, &mut self.requests, &mut self.book, &self.line)?;
+        let reply = reply_to(alloc, &mut self.book, &self.line)?;
         append_reply(alloc, &mut self.waiting, &reply)
     }
 }

@@ -4,13 +4,14 @@ pub mod FieldForms
 pub mod Moments
 pub mod OneReading
 pub mod PlainTexts
+pub mod PlainTokens
 pub mod RecordTexts
 pub mod RecordUtf8
 pub mod RecordWalks
 pub mod ReplyTexts
 pub mod StoredRecords
 pub mod Texts
+pub mod UsualLines
 pub mod UsualTexts
-pub mod UsualTokens
 pub mod VoucherLines
 pub mod Walks

@@ -87,7 +87,7 @@ unfolding escape_byte
 repeated_target-text line = refl
 
 -- no field's name has anything to escape
-field-plain : (name : FieldName) → escape (field_text name) ≡ field_text name
+pub field-plain : (name : FieldName) → escape (field_text name) ≡ field_text name
 unfolding escape_byte
 field-plain field.Do = refl
 field-plain field.Code = refl

@@ -1,5 +1,6 @@
 pub mod FieldNames
 pub mod Fields
+pub mod PlainTokens
 pub mod RecordTexts
 pub mod Records
 pub mod ReplyText

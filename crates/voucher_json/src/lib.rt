@@ -7,6 +7,7 @@ mod forms;
 mod json_values;
 mod kinds;
 mod moment_strings;
+mod plain_reader;
 mod plain_texts;
 pub mod reading;
 #[cfg(test)]
@@ -16,9 +17,8 @@ pub mod record_reading;
 mod record_tests;
 pub mod record_texts;
 pub mod replying;
-pub mod request_reading;
+mod text_fronts;
 mod usual_lines;
 mod usual_requests;
-mod usual_tokens;
 mod voucher_lines;
 mod whats;

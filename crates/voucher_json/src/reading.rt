@@ -12,12 +12,14 @@ use crate::fields::{
 use crate::forms::{check_object, no_other};
 use crate::json_values::json_value;
 use crate::kinds::Kind;
+use crate::usual_requests::read_usual;
 use crate::whats::read_what;
 use serde_json::Value;
 use std::alloc::Global;
 use stock_model::queries::Query;
 use stock_model::read_faults::{FieldName, ReadFault};
 use stock_model::requests::Request;
+use stock_nums::memory::NoMemory;
 use stock_nums::numbers::RecordNo;
 
 /// The request that a text is, or the first fault of the walk over its fields. A desk may not settle.
@@ -26,8 +28,11 @@ pub fn read_request(alloc: Global, bytes: &[u8], at_desk: bool) -> Result<Reques
     ensures fault { IfErr result (λ f. (f ≡ ReadFault.NoMemory) ⊎ IsReadAs at_desk bytes.now (Err f)) }
     ensures limits { IfOk result IsWithinLimits }
 {
-    let value = json_value(alloc, bytes)?;
-    request_of(alloc, &value, at_desk)
+    match read_usual(alloc, bytes) {
+        Ok(Some(request)) => Ok(request),
+        Ok(None) => walk_request(alloc, bytes, at_desk),
+        Err(NoMemory) => Err(ReadFault::NoMemory),
+    }
 }
 
 /// A text is read in one way at most, and none is read as want of memory.
@@ -35,6 +40,16 @@ pub fn requests_have_one_reading()
     ensures one { (at_desk : Bool) (text : List ℕ) (a b : Result Request ReadFault) → IsReadAs at_desk text a → IsReadAs at_desk text b → a ≡ b }
     ensures memory { (at_desk : Bool) (text : List ℕ) → IsReadAs at_desk text (Err ReadFault.NoMemory) → ⊥ }
 {}
+
+/// The same, by way of a JSON value.
+fn walk_request(alloc: Global, bytes: &[u8], at_desk: bool) -> Result<Request, ReadFault>
+    ensures read { IfOk result (λ request. IsReadAs at_desk bytes.now (Ok request)) }
+    ensures fault { IfErr result (λ f. (f ≡ ReadFault.NoMemory) ⊎ IsReadAs at_desk bytes.now (Err f)) }
+    ensures limits { IfOk result IsWithinLimits }
+{
+    let value = json_value(alloc, bytes)?;
+    request_of(alloc, &value, at_desk)
+}
 
 /// The request that a JSON value is.
 fn request_of(alloc: Global, value: &Value, at_desk: bool) -> Result<Request, ReadFault>

@@ -1,6 +1,5 @@
 use crate::field_names::field_text;
 use crate::reading::read_request;
-use crate::request_reading::RequestReader;
 use std::alloc::Global;
 use std::test::Fail;
 use stock_model::queries::Query;
@@ -66,12 +65,7 @@ fn told(alloc: Global, request: &Request) -> Result<String, Fail> {
 
 /// What a text is read as, in words.
 fn read(alloc: Global, text: &[u8], at_desk: bool) -> Result<String, Fail> {
-    told_reading(alloc, read_request(alloc, text, at_desk))
-}
-
-/// What came of reading a text, in words.
-fn told_reading(alloc: Global, outcome: Result<Request, ReadFault>) -> Result<String, Fail> {
-    match outcome {
+    match read_request(alloc, text, at_desk) {
         Ok(request) => told(alloc, &request),
         Err(ReadFault::BadJson) => Ok(String::from_str(alloc, "no json")?),
         Err(ReadFault::BadField { name, line }) => {
@@ -117,12 +111,9 @@ fn reads_each_kind(rt: HostRuntime) -> Result<(), Fail> {
             "issue 20260103 25689 Sold, B W1 5",
         ),
     ];
-    let mut requests = RequestReader::new(rt.alloc());
     for (text, want) in table {
         let found = read(rt.alloc(), text.as_bytes(), false)?;
         assert_eq!(rt; found.as_str(), want, "{text}");
-        let outcome = requests.read(rt.alloc(), text.as_bytes(), false);
-        assert_eq!(rt; told_reading(rt.alloc(), outcome)?.as_str(), want, "{text}");
     }
     Ok(())
 }
@@ -163,10 +154,9 @@ fn reads_unusual_spellings(rt: HostRuntime) -> Result<(), Fail> {
             "limit qty 1",
         ),
     ];
-    let mut requests = RequestReader::new(rt.alloc());
     for (text, want) in table {
-        let outcome = requests.read(rt.alloc(), text.as_bytes(), false);
-        assert_eq!(rt; told_reading(rt.alloc(), outcome)?.as_str(), want, "{text}");
+        let found = read(rt.alloc(), text.as_bytes(), false)?;
+        assert_eq!(rt; found.as_str(), want, "{text}");
     }
     Ok(())
 }

@@ -5,8 +5,7 @@ ghost use Rattle.serde_json.specs.View.{items_of};
 ghost use Rattle.voucher_json.specs.RecordTexts.{receipt_line_data, issue_line_data};
 ghost use Rattle.voucher_json.specs.UsualTexts.{BeginsWithGoods, BeginsWithElement, BeginsWithElements};
 
-use crate::usual_tokens::{closes_object, has_key, next_number, next_text, opens_object};
-use json::Reader;
+use crate::plain_reader::PlainReader;
 use std::alloc::Global;
 use stock_model::read_faults::FieldName;
 use stock_model::vouchers::{IssueLine, ReceiptLine};
@@ -29,24 +28,27 @@ pub trait UsualLine: Drop {
     ghost data_of: { Self → Data };
 
     /// The line that comes next, if it has the usual form and its numbers are in range.
-    fn read_usual(alloc: Global, reader: &mut Reader<'_>) -> Result<Option<Self>, NoMemory>
+    fn read_usual(alloc: Global, reader: &mut PlainReader<'_>) -> Result<Option<Self>, NoMemory>
         ensures { IfOk result (λ found. IfSome found (λ line. BeginsWithElement reader.old (data_of line) reader.new)) };
 }
 
 impl UsualLine for ReceiptLine {
     ghost data_of = { receipt_line_data };
 
-    fn read_usual(alloc: Global, reader: &mut Reader<'_>) -> Result<Option<ReceiptLine>, NoMemory> {
+    fn read_usual(
+        alloc: Global,
+        reader: &mut PlainReader<'_>,
+    ) -> Result<Option<ReceiptLine>, NoMemory> {
         let Some((item, store, qty)) = read_goods(reader) else {
             return Ok(None);
         };
-        if !has_key(reader, FieldName::Amount) {
+        if !reader.has_key(FieldName::Amount) {
             return Ok(None);
         }
-        let Some(amount) = next_number(reader) else {
+        let Some(amount) = reader.next_number() else {
             return Ok(None);
         };
-        if amount > MAX_AMOUNT || !closes_object(reader) {
+        if amount > MAX_AMOUNT || !reader.closes_object() {
             return Ok(None);
         }
         Ok(Some(ReceiptLine {
@@ -61,11 +63,14 @@ impl UsualLine for ReceiptLine {
 impl UsualLine for IssueLine {
     ghost data_of = { issue_line_data };
 
-    fn read_usual(alloc: Global, reader: &mut Reader<'_>) -> Result<Option<IssueLine>, NoMemory> {
+    fn read_usual(
+        alloc: Global,
+        reader: &mut PlainReader<'_>,
+    ) -> Result<Option<IssueLine>, NoMemory> {
         let Some((item, store, qty)) = read_goods(reader) else {
             return Ok(None);
         };
-        if !closes_object(reader) {
+        if !reader.closes_object() {
             return Ok(None);
         }
         Ok(Some(IssueLine {
@@ -78,21 +83,21 @@ impl UsualLine for IssueLine {
 
 /// The item, the warehouse and the quantity with which a line begins, if it does.
 #[inline(always)]
-fn read_goods<'a>(reader: &mut Reader<'a>) -> Option<(&'a str, &'a str, u64)>
+fn read_goods<'a>(reader: &mut PlainReader<'a>) -> Option<(&'a str, &'a str, u64)>
     ensures { IfSome result (λ goods. BeginsWithGoods reader.old goods.0.now goods.1.now goods.2 reader.new) }
 {
-    if !opens_object(reader) || !has_key(reader, FieldName::Item) {
+    if !reader.opens_object() || !reader.has_key(FieldName::Item) {
         return None;
     }
-    let item = next_text(reader)?;
-    if !has_key(reader, FieldName::Store) {
+    let item = reader.next_text()?;
+    if !reader.has_key(FieldName::Store) {
         return None;
     }
-    let store = next_text(reader)?;
-    if !has_key(reader, FieldName::Qty) {
+    let store = reader.next_text()?;
+    if !reader.has_key(FieldName::Qty) {
         return None;
     }
-    let qty = next_number(reader)?;
+    let qty = reader.next_number()?;
     if qty < 1 || qty > MAX_QTY {
         return None;
     }
@@ -102,13 +107,13 @@ fn read_goods<'a>(reader: &mut Reader<'a>) -> Option<(&'a str, &'a str, u64)>
 /// The lines up to the bracket that closes the list, if they have the usual form and are 100 at most.
 pub fn read_usual_lines<L: UsualLine>(
     alloc: Global,
-    reader: &mut Reader<'_>,
+    reader: &mut PlainReader<'_>,
 ) -> Result<Option<Lines<L>>, NoMemory>
     ensures read { IfOk result (λ found. IfSome found (λ lines. BeginsWithElements reader.old (items_of (map L.data_of lines)) reader.new)) }
     ensures count { IfOk result (λ found. IfSome found (λ lines. length lines ≤ 100)) }
 {
     let mut lines = Lines::new(alloc);
-    while !reader.take_end_array() {
+    while !reader.closes_list() {
         if lines.len() == MAX_LINES {
             return Ok(None);
         }

@@ -1,14 +1,4 @@
-use Rattle.std.proofs.lemmas.Result.{err_from_is_err_and}
-use Rattle.voucher_json.proofs.Texts.{walked, refused, unread}
 use Rattle.voucher_json.proofs.reading.read_request.Goals as goal
 
-pub returns-in_err-value-clause-fault : goal.returns-in_err-value-clause-fault
-returns-in_err-value-clause-fault c =
-    let p = err_from_is_err_and c.from_residual.result c.from_residual.ensures.1 in
-    rw (p.1, p.2) (unread _ _ _ c.in_err-value.ensures.err)
-
-pub returns-clause-read : goal.returns-clause-read
-returns-clause-read c = walked _ _ _ _ c.in_ok-value.ensures.ok c.request_of.ensures.outcome
-
-pub returns-clause-fault : goal.returns-clause-fault
-returns-clause-fault c = refused _ _ _ _ c.in_ok-value.ensures.ok c.request_of.ensures.outcome
+pub returns-in-Ok-Some-clause-read : goal.returns-in-Ok-Some-clause-read
+returns-in-Ok-Some-clause-read c = (rw c.in-Ok-Some.field-0-is at c.in-Ok-Some.ensures.read) c.args.at_desk

@@ -1,6 +1,6 @@
 -- The lines so far were read of the list, and they are 100 at most.
 use Rattle.std.proofs.Common.{◌-◌, ◌≤◌, length}
-use Rattle.voucher_json.proofs.UsualTokens.{HasRead}
+use Rattle.voucher_json.proofs.UsualLines.{HasRead}
 use Rattle.voucher_json.proofs.usual_lines.read_usual_lines.Given as goal
 
 abbrev pub invariant-loop-alloc : goal.invariant-loop-alloc

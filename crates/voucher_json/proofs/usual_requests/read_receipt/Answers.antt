@@ -12,11 +12,11 @@ use Rattle.voucher_json.proofs.usual_requests.read_receipt.Goals as goal
 
 pub returns-clause-read : goal.returns-clause-read
 returns-clause-read c =
-    let keyed : c.read_at.new.reader ≡ key (codes "lines") ∷ c.has_key.new.reader = search rules in
-    let opened : c.has_key.new.reader ≡ begin_array ∷ c.opens_list.new.reader = search rules in
-    let are : BeginsWithElements c.opens_list.new.reader (items_of (map receipt_line_data c.in-Some-2.lines)) c.read_usual_lines.new.reader = rw c.in-Some-2.is at c.in_ok-lines.ensures.read in
-    let closed : c.read_usual_lines.new.reader ≡ end_object ∷ c.closes_object.new.reader = search rules in
+    let keyed : c.read_at.new.reader ≡ key (codes "lines") ∷ c.has_key.new.self = search rules in
+    let opened : c.has_key.new.self ≡ begin_array ∷ c.opens_list.new.self = search rules in
+    let are : BeginsWithElements c.opens_list.new.self (items_of (map receipt_line_data c.in-Some-2.lines)) c.read_usual_lines.new.reader = rw c.in-Some-2.is at c.in_ok-lines.ensures.read in
+    let closed : c.read_usual_lines.new.reader ≡ end_object ∷ c.closes_object.new.self = search rules in
     let most : length c.in-Some-2.lines ≤ 100 = rw c.in-Some-2.is at c.in_ok-lines.ensures.count in
     let least : 1 ≤ length c.in-Some-2.lines = grind (arith, common_steps) in
     let limits : IsTrue (is_within_limits (Receipt c.in-Some.at c.in-Some-2.lines)) = grind (arith, nat_tests) in
-    receipt_read c.in-Some.at c.in-Some-2.lines _ c.read_at.new.reader c.has_key.new.reader c.opens_list.new.reader c.read_usual_lines.new.reader _ c.in-Some.ensures keyed opened are closed limits
+    receipt_read c.in-Some.at c.in-Some-2.lines _ c.read_at.new.reader c.has_key.new.self c.opens_list.new.self c.read_usual_lines.new.reader _ c.in-Some.ensures keyed opened are closed limits

@@ -1,29 +1,16 @@
 -- The tokens of lines in the usual form are read as the lines.
-use Rattle.std.proofs.Common.{◌≡◌, ℕ, suc, ◌-◌, ◌<◌, ◌≤◌, ◌^◌, List, [], ◌∷◌, ◌++◌, map, length, get_or, true, false, Option, Some, None, IfSome, SomeIff, ℤ, pos, codes, refl, sym, ap, ◌∙◌, arith, ne_eqb, lt-ltb}
-use Rattle.fast_float.specs.Text.{scan, digits_of, IsInteger}
+use Rattle.std.proofs.Common.{◌≡◌, ℕ, suc, ◌-◌, ◌<◌, ◌≤◌, List, [], ◌∷◌, ◌++◌, map, length, Some, None, ℤ, pos, codes, refl, ap, ◌∙◌, arith}
 use Rattle.json.specs.Json as json
 use Rattle.json.specs.Json.{after_end_array, items, members, parse_map, value}
-use Rattle.json.specs.Token.{Token, begin_object, end_object, key, string, number}
+use Rattle.json.specs.Token.{Token, begin_object, end_object, begin_array, end_array, key, string, number, boolean, null, bad}
 use Rattle.json.proofs.Grammar.{left, skip_value-shorter}
 use Rattle.serde_json.specs.Data as spec
 use Rattle.serde_json.specs.Data.{unsigned, Data, Items, no_items, item, no_members, member}
 use Rattle.serde_json.specs.Find.{of_integer}
-use Rattle.serde_json.specs.Read.{number_of, number_from, is_integer, of_json, of_items, converted}
+use Rattle.serde_json.specs.Read.{number_of, of_json, of_items, converted}
 use Rattle.serde_json.specs.View.{items_of}
 use Rattle.voucher_json.proofs.Conversions.{converted_some, item_read, items_over}
 use Rattle.voucher_json.specs.UsualTexts.{BeginsWithNumber, BeginsWithGoods, BeginsWithElement, BeginsWithElements}
-
--- a numeral of digits alone is the number that they spell
-pub numeral_read : (s : List ℕ) (found : Option ℕ) → (get_or s 0 0 ≡ 45 → ⊥) → SomeIff found (IsInteger (scan s) × (digits_of (scan s) < 2 ^ 64)) (digits_of (scan s))
-    → IfSome found (λ n. number_of s ≡ Some (unsigned n))
-unfolding number_of
-numeral_read s None other is = tt
-numeral_read s (Some n) other is =
-    let some : 0 < length (scan s).whole = is.0.0.0 in
-    let whole : is_integer (scan s) ≡ true = rw (lt-ltb _ _ some, is.0.0.1, is.0.0.2) in
-    let small : digits_of (scan s) < 2 ^ 64 = is.0.1 in
-    let from : number_from false (scan s) ≡ Some (unsigned (digits_of (scan s))) = rw (whole, lt-ltb _ _ small) in
-    rw (ne_eqb (get_or s 0 0) 45 other) (from ∙ ap (λ n. Some (unsigned n)) (sym is.1))
 
 -- a line of a receipt, as tokens
 abbrev receipt_line_tokens : List ℕ → List ℕ → List ℕ → List ℕ → List Token → List Token
@@ -70,6 +57,21 @@ issue_line_read code store qty tokens goods rest g closed =
     let all : tokens ≡ issue_line_tokens code store g.text rest = cc (g.first) in
     record { reads = rw all (issue_line-converted code store g.text qty rest g.reads) }
 
+-- where an element comes, the list does not end
+no_end : (tokens rest : List Token) (d : Data) → converted of_json (value 125 tokens) ≡ Some (d, rest) → after_end_array tokens ≡ None
+unfolding value
+no_end [] rest d is = refl
+no_end (begin_object ∷ ts) rest d is = refl
+no_end (end_object ∷ ts) rest d is = refl
+no_end (begin_array ∷ ts) rest d is = refl
+no_end (end_array ∷ ts) rest d is = absurd (cc)
+no_end (key s ∷ ts) rest d is = refl
+no_end (string s ∷ ts) rest d is = refl
+no_end (number s ∷ ts) rest d is = refl
+no_end (boolean b ∷ ts) rest d is = refl
+no_end (null ∷ ts) rest d is = refl
+no_end (bad ∷ ts) rest d is = refl
+
 -- elements, and then more
 abbrev then_items : List Data → Items → Items
 then_items [] more = more
@@ -96,9 +98,9 @@ module _ {A : Type 0} (data_of : A → Data) where
   HasRead-start list = record { turns = length list; enough = omega arith; reads = λ more after is. is }
 
   -- one more is read
-  pub HasRead-more : (list : List Token) (done : List A) (rest next : List Token) (line : A) → HasRead list done rest → after_end_array rest ≡ None → BeginsWithElement rest (data_of line) next
-      → HasRead list (done ++ line ∷ []) next
-  HasRead-more list done rest next line h going is =
+  pub HasRead-more : (list : List Token) (done : List A) (rest next : List Token) (line : A) → HasRead list done rest → BeginsWithElement rest (data_of line) next → HasRead list (done ++ line ∷ []) next
+  HasRead-more list done rest next line h is =
+      let going : after_end_array rest ≡ None = no_end rest next (data_of line) is.reads in
       let found = converted_some of_json (value 125 rest) (data_of line) next is.reads in
       let shorter : length next < length rest = skip_value-shorter 125 rest next (ap left found.1) in
       let enough : length rest ≤ h.turns = h.enough in
@@ -111,6 +113,7 @@ module _ {A : Type 0} (data_of : A → Data) where
       }
 
   -- all are read
-  pub HasRead-over : (list : List Token) (done : List A) (rest after : List Token) → HasRead list done rest → after_end_array rest ≡ Some after → BeginsWithElements list (items_of (map data_of done)) after
-  HasRead-over list done rest after h over =
+  pub HasRead-over : (list : List Token) (done : List A) (rest after : List Token) → HasRead list done rest → rest ≡ end_array ∷ after → BeginsWithElements list (items_of (map data_of done)) after
+  HasRead-over list done rest after h closes =
+      let over : after_end_array rest ≡ Some after = ap after_end_array closes in
       record { reads = h.reads no_items after (items_over (value 125) h.turns rest after h.enough over) ∙ ap (λ all. Some (all, after)) (then_items-no_items (map data_of done)) }
