@@ -1,17 +1,25 @@
-"""Measures the reading of requests, beside a Python loop over the same lines: receipts of 1, 10 and 100 lines.
-
-Each is of an item that there is not, so it is read whole, and refused before any work.
-"""
+"""Measures the reading of requests alone, beside json.loads of Python over the same lines: receipts of 1, 10 and 100 lines."""
 import datetime
 import json
+import os
 import sys
 
 import measuring
+import rounds
 
 LINES = 400_000  # of all receipts of a kind together
 KINDS = [1, 10, 100]
-WANTED = 5  # times as fast as the Python loop
-REPLY = '{"fault":"unknown-item","line":1,"status":"refused"}'
+ROUNDS = 20
+WANTED = 5  # times as fast as Python
+PYTHON_ROUNDS = 3
+PYTHON_READING = """
+import json, sys
+lines = sys.stdin.readlines()
+for _ in range(int(sys.argv[1])):
+    for line in lines:
+        json.loads(line)
+print(int(sys.argv[1]) * len(lines))
+"""
 
 
 def receipts(lines_of_each):
@@ -28,16 +36,23 @@ def receipts(lines_of_each):
 
 
 def figures(room, lines_of_each):
-    """Returns the figures of the program and of the Python loop over receipts with so many lines each."""
-    lines = receipts(lines_of_each)
-    check = measuring.same_as(lines, [REPLY] * len(lines))
-    of_program = measuring.measure(measuring.PROGRAM, lines, room, check)
-    of_python = measuring.measure(measuring.python_loop(REPLY), lines, room, check)
-    ratio = of_program["lines_per_second"] / of_python["lines_per_second"]
+    """Returns how fast receipts with so many lines each are read by the program and by Python."""
+    lines, given = receipts(lines_of_each), f"{room}/receipts"
+    with open(given, "w", encoding="ascii") as it:
+        it.writelines(f"{line}\n" for line in lines)
+    bytes_of_each = os.path.getsize(given) / len(lines)
+    of_program = rounds.per_second([rounds.BENCH, "reading"], given, ROUNDS, len(lines))
+    of_python = rounds.per_second([sys.executable, "-c", PYTHON_READING], given, PYTHON_ROUNDS, len(lines))
+    ratio = of_program / of_python
     if ratio < WANTED:
         print(f"bench: receipts of {lines_of_each} lines are read {ratio:.1f} times as fast as by Python, and not {WANTED}",
               file=sys.stderr)
-    return {**of_program, "python_loop": of_python, "times_python": round(ratio, 1)}
+    return {
+        "requests_per_second": round(of_program),
+        "bytes_per_second": round(of_program * bytes_of_each),
+        "python_requests_per_second": round(of_python),
+        "times_python": round(ratio, 1),
+    }
 
 
 def measure(room):

@@ -1,5 +1,5 @@
 use Rattle.std.proofs.Common.{◌+◌, ◌≤◌, length}
-use Rattle.wire_bench.proofs.count_requests.Given as goal
+use Rattle.rounds_bench.proofs.framing.count_framed.Given as goal
 
 abbrev pub invariant-loop-head : goal.invariant-loop-head
 invariant-loop-head l = l.count + length l.rest ≤ length l.bytes
