@@ -154,7 +154,7 @@ impl<'a> PlainReader<'a> {
         }
     }
 
-    /// A text.
+    /// A text with nothing escaped.
     #[inline(always)]
     pub fn next_text(&mut self) -> Option<&'a str>
         ensures { IfSome result (λ text. self.old ≡ string text.now ∷ self.new) }
@@ -168,7 +168,7 @@ impl<'a> PlainReader<'a> {
         Some(text)
     }
 
-    /// A whole number that is not negative, of 16 digits at most.
+    /// A whole number that is not negative, below 10^16.
     #[inline(always)]
     pub fn next_number(&mut self) -> Option<u64>
         ensures { IfSome result (λ n. BeginsWithNumber self.old n self.new) }

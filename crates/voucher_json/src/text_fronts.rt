@@ -1,4 +1,4 @@
-//! What a text begins with.
+//! What a JSON text begins with (RFC 8259).
 ghost use Rattle.std.specs.Prelude.{◌≡◌, ◌+◌, ◌<◌, ◌≤◌, ◌∷◌, ◌++◌, length, take, get_or, true, IfSome};
 ghost use Rattle.std.specs.Char.{is_ascii_digit};
 ghost use Rattle.std.specs.List.{list_all};
@@ -8,7 +8,7 @@ ghost use Rattle.json.specs.Print.{escape};
 ghost use Rattle.json.specs.Word.{head};
 ghost use Rattle.voucher_json.specs.PlainTokens.{is_blank, follows_value, IsQuotedText, IsNumeral};
 
-/// No digit is read after a number that is as large.
+/// A number as large as this takes no further digit: no field has as many, so its text goes the long way.
 const LIMIT: u64 = 1_000_000_000_000_000;
 
 /// The byte at this place, or a space past the end.
@@ -27,7 +27,7 @@ fn is_blank(byte: u8) -> bool
     byte == b' ' || byte == b'\t' || byte == b'\n' || byte == b'\r'
 }
 
-/// The text without the blanks at its front.
+/// The text without the blanks at its front (section 2).
 #[inline(always)]
 pub fn skip_blanks(text: &str) -> &str
     ensures { lex between result.now ≡ lex between text.now }
@@ -51,7 +51,7 @@ pub fn after_byte(text: &str, byte: u8) -> Option<&str>
     Some(&text[1..])
 }
 
-/// What comes after this key and its colon, where the text begins with them.
+/// What comes after this key and its colon, where the text begins with them and the key is not escaped (section 4).
 #[inline(always)]
 pub fn after_key<'a>(text: &'a str, name: &str) -> Option<&'a str>
     ensures { IfSome result (λ rest. text.now ≡ 34 ∷ (name.now ++ 34 ∷ 58 ∷ rest.now)) }
@@ -67,7 +67,7 @@ pub fn after_key<'a>(text: &'a str, name: &str) -> Option<&'a str>
     Some(&opened[len + 2..])
 }
 
-/// The text up to its closing quote, and what comes after that, where nothing is escaped.
+/// The text up to its closing quote, and what comes after that, where nothing is escaped (section 7).
 #[inline(always)]
 pub fn split_text(text: &str) -> Option<(&str, &str)>
     ensures { IfSome result (λ parts. IsQuotedText text.now parts.0.now parts.1.now) }
@@ -92,7 +92,8 @@ fn plain_len(bytes: &[u8]) -> usize
     len
 }
 
-/// The whole number with which the text begins, and what comes after it, where that may follow a value.
+/// The whole number with which the text begins, below 10^16, and what comes after it, where that may follow a
+/// value (section 6).
 #[inline(always)]
 pub fn split_number(text: &str) -> Option<(u64, &str)>
     ensures { IfSome result (λ parts. IsNumeral text.now parts.0 parts.1.now) }
