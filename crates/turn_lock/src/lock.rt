@@ -23,7 +23,7 @@ const SERVING: usize = 1;
 const SLOT: usize = 0;
 
 // How often a pass looks in vain before it parks.
-const SPINS: u32 = 200;
+const SPINS: u32 = 2_000;
 
 // The part of a word that parking looks at.
 const LOW_BITS: u64 = 0xFFFF_FFFF;
