@@ -23,7 +23,7 @@ use Rattle.voucher_json.specs.Fields.{choose, IsWord}
 use Rattle.voucher_json.specs.RecordTexts.{receipt_line_data, issue_line_data}
 use Rattle.voucher_json.specs.Records.{purposes, IsReceiptLine, IsIssueLine, IsWhat}
 use Rattle.voucher_json.specs.Requests.{IsRequest, IsReadAs}
-use Rattle.voucher_json.specs.UsualTexts.{BeginsWithElements, BeginsWithPost, BeginsWithMoment, BeginsWithPurpose}
+use Rattle.voucher_json.specs.UsualTexts.{BeginsWithElements, EndsWithLines, BeginsWithPost, BeginsWithMoment, BeginsWithPurpose}
 use Rattle.voucher_json.specs.declared.kinds.Kind.TheVariants as kind_of
 use Rattle.voucher_json.specs.declared.kinds.RecordKind.TheVariants as record_of
 use Rattle.voucher_json.proofs.RecordWalks.{list-read, receipt_line-read, issue_line-read}
@@ -96,26 +96,25 @@ issue-asks false text word at purpose lines spells names limits =
     comes _ _ tt _ refl (comes _ _ (kind_of.Post record_of.Issue) _ refl (comes _ _ (Issue at purpose lines) _ (issue-is text word at purpose lines spells names limits) refl))
 
 -- a receipt is read
-pub receipt_read : (at : Moment) (lines : List ReceiptLine) (first moment named elements closing rest : List Token) → BeginsWithMoment first at moment → moment ≡ key (codes "lines") ∷ named
-    → named ≡ begin_array ∷ elements → BeginsWithElements elements (items_of (map receipt_line_data lines)) closing → closing ≡ end_object ∷ rest → IsTrue (is_within_limits (Receipt at lines))
-    → BeginsWithPost (begin_object ∷ key (codes "do") ∷ string (codes "receipt") ∷ first) (Receipt at lines) rest
-receipt_read at lines first moment named elements closing rest m keyed opened are closed limits =
-    let all : first ≡ key (codes "at") ∷ string m.text ∷ key (codes "lines") ∷ begin_array ∷ elements = cc (m.first) in
+pub receipt_read : (at : Moment) (lines : List ReceiptLine) (first moment rest : List Token) → BeginsWithMoment first at moment → EndsWithLines moment (items_of (map receipt_line_data lines)) rest
+    → IsTrue (is_within_limits (Receipt at lines)) → BeginsWithPost (begin_object ∷ key (codes "do") ∷ string (codes "receipt") ∷ first) (Receipt at lines) rest
+receipt_read at lines first moment rest m l limits =
+    let all : first ≡ key (codes "at") ∷ string m.text ∷ key (codes "lines") ∷ begin_array ∷ l.list = cc (m.first, l.first) in
     record {
       object = receipt_data m.text lines;
-      reads = rw all (receipt-converted m.text lines elements rest (rw (← closed) are));
+      reads = rw all (receipt-converted m.text lines l.list rest l.are);
       asks = λ at_desk. receipt-asks at_desk m.text at lines m.spells limits;
     }
 
 -- an issue is read
-pub issue_read : (at : Moment) (purpose : Purpose) (lines : List IssueLine) (first moment used named elements closing rest : List Token) → BeginsWithMoment first at moment
-    → BeginsWithPurpose moment purpose used → used ≡ key (codes "lines") ∷ named → named ≡ begin_array ∷ elements → BeginsWithElements elements (items_of (map issue_line_data lines)) closing
-    → closing ≡ end_object ∷ rest → IsTrue (is_within_limits (Issue at purpose lines)) → BeginsWithPost (begin_object ∷ key (codes "do") ∷ string (codes "issue") ∷ first) (Issue at purpose lines) rest
-issue_read at purpose lines first moment used named elements closing rest m p keyed opened are closed limits =
-    let all : first ≡ key (codes "at") ∷ string m.text ∷ key (codes "use") ∷ string p.word ∷ key (codes "lines") ∷ begin_array ∷ elements = cc (m.first, p.first) in
+pub issue_read : (at : Moment) (purpose : Purpose) (lines : List IssueLine) (first moment used rest : List Token) → BeginsWithMoment first at moment → BeginsWithPurpose moment purpose used
+    → EndsWithLines used (items_of (map issue_line_data lines)) rest → IsTrue (is_within_limits (Issue at purpose lines))
+    → BeginsWithPost (begin_object ∷ key (codes "do") ∷ string (codes "issue") ∷ first) (Issue at purpose lines) rest
+issue_read at purpose lines first moment used rest m p l limits =
+    let all : first ≡ key (codes "at") ∷ string m.text ∷ key (codes "use") ∷ string p.word ∷ key (codes "lines") ∷ begin_array ∷ l.list = cc (m.first, p.first, l.first) in
     record {
       object = issue_data m.text p.word lines;
-      reads = rw all (issue-converted m.text p.word lines elements rest (rw (← closed) are));
+      reads = rw all (issue-converted m.text p.word lines l.list rest l.are);
       asks = λ at_desk. issue-asks at_desk m.text p.word at purpose lines m.spells p.names limits;
     }
 

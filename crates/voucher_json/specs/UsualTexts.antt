@@ -1,7 +1,7 @@
 -- What the tokens of a request in the usual form are, where the text is read with no JSON value in between.
 use Rattle.std.specs.Prelude.{ℕ, ◌≡◌, ◌≤◌, List, ◌∷◌, codes, length, Bool, Some, Ok}
 use Rattle.json.specs.Json.{items, value}
-use Rattle.json.specs.Token.{Token, begin_object, key, string, number}
+use Rattle.json.specs.Token.{Token, begin_object, end_object, begin_array, key, string, number}
 use Rattle.serde_json.specs.Data.{unsigned, Data, Items}
 use Rattle.serde_json.specs.Read.{number_of, of_json, of_items, converted, max_depth}
 use Rattle.stock_nums.specs.MomentText.{SpellsMoment}
@@ -34,6 +34,12 @@ pub record BeginsWithElement (tokens : List Token) (element : Data) (rest : List
 -- the elements of a list of the outer object, and the bracket that closes it, come before the rest
 pub record BeginsWithElements (tokens : List Token) (elements : Items) (rest : List Token) : Type 0 where
   pub reads : converted of_items (items (value 125) (length tokens) tokens) ≡ Some (elements, rest)
+
+-- the last field, `lines`, has these elements, and the brace that closes the object comes before the rest
+pub record EndsWithLines (tokens : List Token) (elements : Items) (rest : List Token) : Type 0 where
+  pub list : List Token
+  pub first : tokens ≡ key (codes "lines") ∷ begin_array ∷ list
+  pub are : BeginsWithElements list elements (end_object ∷ rest)
 
 -- the first value asks, at a desk or not, to post what a record says, before the rest
 pub record BeginsWithPost (tokens : List Token) (what : What) (rest : List Token) : Type 0 where

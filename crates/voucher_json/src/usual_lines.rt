@@ -3,7 +3,7 @@ ghost use Rattle.std.specs.Prelude.{◌≡◌, ◌≤◌, ℕ, IfOk, IfSome, len
 ghost use Rattle.serde_json.specs.Data.{Data};
 ghost use Rattle.serde_json.specs.View.{items_of};
 ghost use Rattle.voucher_json.specs.RecordTexts.{receipt_line_data, issue_line_data};
-ghost use Rattle.voucher_json.specs.UsualTexts.{BeginsWithGoods, BeginsWithElement, BeginsWithElements};
+ghost use Rattle.voucher_json.specs.UsualTexts.{BeginsWithGoods, BeginsWithElement, BeginsWithElements, EndsWithLines};
 
 use crate::plain_reader::PlainReader;
 use std::alloc::Global;
@@ -104,8 +104,29 @@ fn read_goods<'a>(reader: &mut PlainReader<'a>) -> Option<(&'a str, &'a str, u64
     Some((item, store, qty))
 }
 
+/// The lines with which a voucher ends, 1 to 100, and its closing brace.
+pub fn read_last_lines<L: UsualLine>(
+    alloc: Global,
+    reader: &mut PlainReader<'_>,
+) -> Result<Option<Lines<L>>, NoMemory>
+    ensures read { IfOk result (λ found. IfSome found (λ lines. EndsWithLines reader.old (items_of (map L.data_of lines)) reader.new)) }
+    ensures least { IfOk result (λ found. IfSome found (λ lines. 1 ≤ length lines)) }
+    ensures most { IfOk result (λ found. IfSome found (λ lines. length lines ≤ 100)) }
+{
+    if !reader.has_key(FieldName::Lines) || !reader.opens_list() {
+        return Ok(None);
+    }
+    let Some(lines) = read_usual_lines(alloc, reader)? else {
+        return Ok(None);
+    };
+    if lines.is_empty() || !reader.closes_object() {
+        return Ok(None);
+    }
+    Ok(Some(lines))
+}
+
 /// The lines up to the bracket that closes the list, if they have the usual form and are 100 at most.
-pub fn read_usual_lines<L: UsualLine>(
+fn read_usual_lines<L: UsualLine>(
     alloc: Global,
     reader: &mut PlainReader<'_>,
 ) -> Result<Option<Lines<L>>, NoMemory>

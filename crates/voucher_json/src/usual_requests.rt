@@ -8,7 +8,7 @@ ghost use Rattle.voucher_json.specs.UsualTexts.{BeginsWithPost, BeginsWithMoment
 
 use crate::kinds::purpose_named;
 use crate::plain_reader::PlainReader;
-use crate::usual_lines::read_usual_lines;
+use crate::usual_lines::read_last_lines;
 use std::alloc::Global;
 use stock_model::read_faults::FieldName;
 use stock_model::requests::Request;
@@ -58,15 +58,9 @@ fn read_receipt(alloc: Global, reader: &mut PlainReader<'_>) -> Result<Option<Wh
     let Some(at) = read_at(reader) else {
         return Ok(None);
     };
-    if !reader.has_key(FieldName::Lines) || !reader.opens_list() {
-        return Ok(None);
-    }
-    let Some(lines) = read_usual_lines(alloc, reader)? else {
+    let Some(lines) = read_last_lines(alloc, reader)? else {
         return Ok(None);
     };
-    if lines.is_empty() || !reader.closes_object() {
-        return Ok(None);
-    }
     Ok(Some(What::Receipt { at, lines }))
 }
 
@@ -81,15 +75,9 @@ fn read_issue(alloc: Global, reader: &mut PlainReader<'_>) -> Result<Option<What
     let Some(purpose) = read_purpose(reader) else {
         return Ok(None);
     };
-    if !reader.has_key(FieldName::Lines) || !reader.opens_list() {
-        return Ok(None);
-    }
-    let Some(lines) = read_usual_lines(alloc, reader)? else {
+    let Some(lines) = read_last_lines(alloc, reader)? else {
         return Ok(None);
     };
-    if lines.is_empty() || !reader.closes_object() {
-        return Ok(None);
-    }
     Ok(Some(What::Issue { at, purpose, lines }))
 }
 
