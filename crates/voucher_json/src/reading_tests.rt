@@ -1,5 +1,6 @@
 use crate::field_names::field_text;
 use crate::reading::read_request;
+use crate::usual_requests::read_usual;
 use std::alloc::Global;
 use std::test::Fail;
 use stock_model::queries::Query;
@@ -157,6 +158,38 @@ fn reads_unusual_spellings(rt: HostRuntime) -> Result<(), Fail> {
     for (text, want) in table {
         let found = read(rt.alloc(), text.as_bytes(), false)?;
         assert_eq!(rt; found.as_str(), want, "{text}");
+    }
+    Ok(())
+}
+
+#[test]
+fn knows_the_usual_form(rt: HostRuntime) -> Result<(), Fail> {
+    let table = [
+        (
+            r#"{"do":"receipt","at":"2026-01-03T07:08:09","lines":[{"item":"B","store":"W1","qty":10,"amount":0},{"item":"C","store":"W2","qty":1,"amount":20}]}"#,
+            true,
+        ),
+        (
+            r#"{"do": "issue", "at": "2026-01-03T07:08:09", "use": "sold", "lines": [{"item": "B", "store": "W1", "qty": 10}, {"item": "C", "store": "W1", "qty": 5}]} "#,
+            true,
+        ),
+        (
+            r#"{"do":"receipt","at":"2026-01-03T07:08:09","lines":[{"item":"B","store":"W1","amount":0,"qty":10}]}"#,
+            false,
+        ),
+        (
+            r#"{"do":"issue","at":"2026-01-03T07:08:09","use":"sold","lines":[{"item":"\u0042","store":"W1","qty":10}]}"#,
+            false,
+        ),
+        (
+            r#"{"do":"issue","at":"2026-01-03T07:08:09","use":"sold","lines":[{"item":"B","store":"W1","qty":10.0}]}"#,
+            false,
+        ),
+        (r#"{"do":"settle"}"#, false),
+    ];
+    for (text, want) in table {
+        let found = read_usual(rt.alloc(), text.as_bytes())?;
+        assert_eq!(rt; found.is_some(), want, "{text}");
     }
     Ok(())
 }
