@@ -27,10 +27,11 @@ use Rattle.stock_model.specs.declared.faults.PostFault.TheVariants.{Full}
 use Rattle.stock_model.specs.Entries.{entries, all_entries}
 use Rattle.stock_model.specs.Bounds.{AreBounded}
 use Rattle.stock_model.specs.Enough.{IsEnough, shortage}
-use Rattle.stock_model.specs.Faults.{fault, full, short, short_of, voucher_fault, max_records, max_entries}
+use Rattle.stock_model.specs.Faults.{fault, fault_but_short, full, short, short_of, voucher_fault}
+use Rattle.stock_nums.specs.declared.limits.TheConstants.{MAX_RECORDS, MAX_ENTRIES}
 use Rattle.stock_model.specs.declared.queries.Query.{Query}
 use Rattle.stock_model.specs.declared.queries.Need.TheVariants as need
-use Rattle.stock_model.specs.Answers.{need_at}
+use Rattle.stock_model.specs.Reports.{need_at}
 use Rattle.stock_model.specs.PostingOrder.{put_all, posting_line}
 use Rattle.stock_model.specs.Replay.{rows_of, replay}
 use Rattle.stock_model.specs.History as history
@@ -75,51 +76,23 @@ pub history-records : (events : List Event) (journal : List Record) (line : List
     → deeds events journal ≡ told → history.records told ≡ journal
 history-records events journal line c rows told book is = ap history.records (sym is) ∙ records-deeds events journal book.counted
 
--- a fault of what the record says is its first
-pub fault-voucher : (journal : List Record) (item : Record) (f : PostFault) → voucher_fault journal item.what ≡ Some f → fault journal item ≡ Some f
+-- a fault but a shortage is the first fault
+pub fault-at_once : (journal : List Record) (item : Record) (f : PostFault) → fault_but_short journal item ≡ Some f → fault journal item ≡ Some f
 unfolding fault
-fault-voucher journal item f is = rw is refl
+fault-at_once journal item f is = rw is refl
 
 -- what the test of the room says
-no_room_test : (journal : List Record) (item : Record) → (max_records ≤ length journal) ⊎ (max_entries < length (all_entries journal) + length (entries journal item))
+pub full-some : (journal : List Record) (item : Record) → (MAX_RECORDS ≤ length journal) ⊎ (MAX_ENTRIES < length (all_entries journal) + length (entries journal item))
     → full journal item ≡ Some (Full (length journal) (length (all_entries journal)))
-no_room_test journal item no_room = grind (arith, nat_tests)
+full-some journal item no_room = grind (arith, nat_tests)
 
-room_test : (journal : List Record) (item : Record) → length journal < max_records → length (all_entries journal) + length (entries journal item) ≤ max_entries
+pub full-none : (journal : List Record) (item : Record) → length journal < MAX_RECORDS → length (all_entries journal) + length (entries journal item) ≤ MAX_ENTRIES
     → full journal item ≡ None
-room_test journal item records room = grind (arith, nat_tests)
+full-none journal item records room = grind (arith, nat_tests)
 
 tested_room : (journal : List Record) (item : Record) → full journal item ≡ None
-    → (length journal < max_records) × (length (all_entries journal) + length (entries journal item) ≤ max_entries)
+    → (length journal < MAX_RECORDS) × (length (all_entries journal) + length (entries journal item) ≤ MAX_ENTRIES)
 tested_room journal item room = (grind (arith, nat_tests), grind (arith, nat_tests))
-
--- where there is no room that is the first fault, after those of what the record says
-pub fault-full : (journal : List Record) (item : Record) (n k : ℕ) → n ≡ length (all_entries journal) → k ≡ length (entries journal item)
-    → voucher_fault journal item.what ≡ None → (max_records ≤ length journal) ⊎ (max_entries < n + k)
-    → fault journal item ≡ Some (Full (length journal) n)
-unfolding fault
-fault-full journal item n k all new sound no_room =
-    rw (sound, no_room_test journal item (rw (← all, ← new) no_room), ← all) refl
-
--- where there is room, and with the record's movements one is short, that is the first fault
-pub fault-short : (journal : List Record) (item : Record) (s : Shortage) → voucher_fault journal item.what ≡ None → length journal < max_records
-    → length (all_entries journal) + length (entries journal item) ≤ max_entries → shortage (posting_line (journal ++ item ∷ [])) ≡ Some s
-    → fault journal item ≡ Some (short_of s)
-unfolding fault
-fault-short journal item s sound records room is = rw (sound, room_test journal item records room, is) refl
-
--- a record with no fault, for which there is room, and with which none is short, has none
-pub fault-none : (journal : List Record) (item : Record) → voucher_fault journal item.what ≡ None → length journal < max_records
-    → length (all_entries journal) + length (entries journal item) ≤ max_entries → shortage (posting_line (journal ++ item ∷ [])) ≡ None → fault journal item ≡ None
-unfolding fault
-fault-none journal item sound records room enough = rw (sound, room_test journal item records room, enough) refl
-
--- what it means that a record has no fault
-pub record NoFault (journal : List Record) (item : Record) : Type 0 where
-  pub sound : voucher_fault journal item.what ≡ None
-  pub records : length journal < max_records
-  pub few : length (all_entries journal) + length (entries journal item) ≤ max_entries
-  pub enough : shortage (posting_line (journal ++ item ∷ [])) ≡ None
 
 or_none : {X : Type 0} (a b : Option X) → option_or a b ≡ None → (a ≡ None) × (b ≡ None)
 or_none None b h = (refl, h)
@@ -129,17 +102,45 @@ map_none : {X Y : Type 0} (f : X → Y) (a : Option X) → option_map f a ≡ No
 map_none f None h = refl
 map_none f (Some x) h = cc
 
+-- where there is no fault but perhaps a shortage there is room
+pub room-from : (journal : List Record) (item : Record) → fault_but_short journal item ≡ None
+    → (length journal < MAX_RECORDS) × (length (all_entries journal) + length (entries journal item) ≤ MAX_ENTRIES)
+room-from journal item none = tested_room journal item (or_none (voucher_fault journal item.what) (full journal item) none).1
+
+-- and where with the record's movements one is short, that is the first fault
+fault-short : (journal : List Record) (item : Record) (s : Shortage) → fault_but_short journal item ≡ None
+    → shortage (posting_line (journal ++ item ∷ [])) ≡ Some s → fault journal item ≡ Some (short_of s)
+unfolding fault
+fault-short journal item s none is = rw (none, is) refl
+
+-- and where none is short, there is no fault
+pub fault-none : (journal : List Record) (item : Record) → fault_but_short journal item ≡ None
+    → shortage (posting_line (journal ++ item ∷ [])) ≡ None → fault journal item ≡ None
+unfolding fault
+fault-none journal item none enough = rw (none, enough) refl
+
+-- a record with no fault has none at once
+pub at_once-none : (journal : List Record) (item : Record) → fault journal item ≡ None → fault_but_short journal item ≡ None
+unfolding fault
+at_once-none journal item none = (or_none (fault_but_short journal item) (short journal item) none).0
+
+-- what it means that a record has no fault
+pub record NoFault (journal : List Record) (item : Record) : Type 0 where
+  pub sound : voucher_fault journal item.what ≡ None
+  pub records : length journal < MAX_RECORDS
+  pub few : length (all_entries journal) + length (entries journal item) ≤ MAX_ENTRIES
+  pub enough : shortage (posting_line (journal ++ item ∷ [])) ≡ None
+
 pub NoFault-from : (journal : List Record) (item : Record) → fault journal item ≡ None → NoFault journal item
 unfolding fault
 NoFault-from journal item none =
-    let first = or_none (voucher_fault journal item.what) (option_or (full journal item) (short journal item)) none in
-    let then = or_none (full journal item) (short journal item) first.1 in
-    let room = tested_room journal item then.0 in
+    let first = or_none (fault_but_short journal item) (short journal item) none in
+    let room = room-from journal item first.0 in
     record {
-      sound = first.0;
+      sound = (or_none (voucher_fault journal item.what) (full journal item) first.0).0;
       records = room.0;
       few = room.1;
-      enough = map_none short_of (shortage (posting_line (journal ++ item ∷ []))) then.1;
+      enough = map_none short_of (shortage (posting_line (journal ++ item ∷ []))) first.1;
     }
 
 -- a legal history stays so where a record without a fault is kept
@@ -245,16 +246,15 @@ entries-enough journal item line es posted new none =
     subst IsEnough (sym (put_all-entries journal item line es posted new)) (IsEnough-from_none (posting_line (journal ++ item ∷ [])) (NoFault-from journal item none).enough)
 
 -- what lacks with them is the fault of the record
-pub fault-lacks : (journal : List Record) (item : Record) (f : Short) → voucher_fault journal item.what ≡ None → length journal < max_records
-    → length (all_entries journal) + length (entries journal item) ≤ max_entries → option_map lacks_of (shortage (posting_line (journal ++ item ∷ []))) ≡ Some f
-    → fault journal item ≡ Some (fault_of f)
-fault-lacks journal item f sound records room is =
+pub fault-lacks : (journal : List Record) (item : Record) (f : Short) → fault_but_short journal item ≡ None
+    → option_map lacks_of (shortage (posting_line (journal ++ item ∷ []))) ≡ Some f → fault journal item ≡ Some (fault_of f)
+fault-lacks journal item f none is =
     let step : (o : Option Shortage) → shortage (posting_line (journal ++ item ∷ [])) ≡ o → option_map lacks_of o ≡ Some f → fault journal item ≡ Some (fault_of f) =
     λ o. elim o as (λ v. shortage (posting_line (journal ++ item ∷ [])) ≡ v → option_map lacks_of v ≡ Some f → fault journal item ≡ Some (fault_of f)) [
-      | None ↦ λ none told. cc
+      | None ↦ λ no_one told. cc
       | Some s ↦ λ some told.
           let same : lacks_of s ≡ f = cc in
-          fault-short journal item s sound records room some ∙ ap (λ (short : Short). Some (fault_of short)) same
+          fault-short journal item s none some ∙ ap (λ (short : Short). Some (fault_of short)) same
     ] in
     step (shortage (posting_line (journal ++ item ∷ []))) refl is
 

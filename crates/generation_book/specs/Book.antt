@@ -7,7 +7,7 @@ use Rattle.stock_model.specs.declared.deeds.Deed.{Deed}
 use Rattle.stock_model.specs.declared.deeds.Deed.TheVariants as deed
 use Rattle.stock_model.specs.Bounds.{AreBounded}
 use Rattle.stock_model.specs.Enough.{IsEnough}
-use Rattle.stock_model.specs.Faults.{max_entries}
+use Rattle.stock_nums.specs.declared.limits.TheConstants.{MAX_ENTRIES}
 use Rattle.stock_model.specs.PostingOrder.{posting_line}
 use Rattle.stock_model.specs.Replay.{replay}
 use Rattle.stock_model.specs.History as history
@@ -33,7 +33,7 @@ pub record IsBook (events : List Event) (journal : List Record) (line : List Ent
   pub counted : kept_count events ≡ length journal
   -- the movements stand in posting order, are few enough, and take no more than there is
   pub posted : line ≡ posting_line journal
-  pub few : length line ≤ max_entries
+  pub few : length line ≤ MAX_ENTRIES
   pub enough : IsEnough line
   -- the generation is the replay of the covered records
   pub covers : covered ≡ history.covered (deeds events journal)

@@ -1,10 +1,10 @@
 ghost use Rattle.std.specs.Prelude.{◌≡◌, ◌⊎◌, ◌<◌, ◌≤◌, [], ◌∷◌, ◌++◌, filter, IfOk, OnOk, OnErr, IfErr, Some, None};
 ghost use Rattle.std.specs.Option.{option_copied};
 ghost use Rattle.stock_model.specs.declared.deeds.Deed.TheVariants as deed;
-ghost use Rattle.stock_model.specs.Answers.{need_at, unmet_need, is_later, is_until, selected};
+ghost use Rattle.stock_model.specs.Reports.{need_at, unmet_need, is_later, is_until, selected};
 ghost use Rattle.stock_model.specs.Bounds.{AreBounded};
 ghost use Rattle.stock_model.specs.Entries.{entries};
-ghost use Rattle.stock_model.specs.Faults.{fault};
+ghost use Rattle.stock_model.specs.Faults.{voucher_fault, full, fault_but_short, fault};
 ghost use Rattle.stock_model.specs.History as history;
 ghost use Rattle.stock_model.specs.Masters.{record_at};
 ghost use Rattle.generation_book.specs.Shorts.{fault_of};
@@ -16,16 +16,14 @@ use std::marker::Model;
 use stock_model::faults::PostFault;
 use stock_model::queries::{Need, Query, SelectFault, Selected};
 use stock_model::records::Record;
-use stock_model::{masters, replay};
+use stock_model::{masters, movements, replay};
 use stock_nums::entry::{Entry, Row};
+use stock_nums::limits::{MAX_ENTRIES, MAX_RECORDS};
 use stock_nums::lines::Lines;
 use stock_nums::memory::NoMemory;
 use stock_nums::moment::Moment;
 use stock_nums::numbers::RecordNo;
-use voucher_kinds::journal::{Journal, MAX_RECORDS};
-
-/// How many movements a book holds at most.
-pub const MAX_ENTRIES: usize = 4_000;
+use voucher_kinds::journal::Journal;
 
 /// The accepted records, and the generation that reports are made from: the valued movements of the
 /// first `covered` records. Contracts see its history.
@@ -65,12 +63,14 @@ impl Book {
         }
     }
 
-    /// Accepts a record, or refuses it for its first fault. Reports stay as they were.
+    /// Accepts a record, or refuses it for its first fault. Reports stay as they were. Memory may be wanting only
+    /// where the record has no fault but perhaps a shortage.
     pub fn post(&mut self, alloc: Global, item: Record) -> Result<RecordNo, PostFault>
         ensures sound { OnOk result (fault (history.records self.old.history) item ≡ None) }
         ensures kept { OnOk result (self.new.history ≡ self.old.history ++ deed.Kept item ∷ []) }
         ensures number { IfOk result (λ n. n.0 ≡ history.accepted self.new.history) }
-        ensures fault { IfErr result (λ f. (f ≡ PostFault.NoMemory) ⊎ (fault (history.records self.old.history) item ≡ Some f)) }
+        ensures fault { IfErr result (λ f. (f ≡ PostFault.NoMemory) × (fault_but_short (history.records self.old.history) item ≡ None)
+            ⊎ (fault (history.records self.old.history) item ≡ Some f)) }
         ensures unchanged { OnErr result (self.new ≡ self.old) }
         ensures legal { OnOk result (history.IsLegal self.new.history) }
     {
@@ -96,23 +96,45 @@ impl Book {
     fn new_entries(&self, alloc: Global, item: &Record) -> Result<Lines<Entry>, PostFault>
         ensures sound { OnOk result (fault (history.records self.now.history) item.now ≡ None) }
         ensures entries { IfOk result (λ es. es ≡ entries (history.records self.now.history) item.now) }
-        ensures fault { IfErr result (λ f. (f ≡ PostFault.NoMemory) ⊎ (fault (history.records self.now.history) item.now ≡ Some f)) }
+        ensures fault { IfErr result (λ f. (f ≡ PostFault.NoMemory) × (fault_but_short (history.records self.now.history) item.now ≡ None)
+            ⊎ (fault (history.records self.now.history) item.now ≡ Some f)) }
     {
-        let entries = match self.journal.check(alloc, item) {
-            Ok(entries) => entries,
-            Err(fault) => return Err(fault),
-        };
-        let held = self.movements.timeline().entries().len();
-        if self.journal.count() as usize >= MAX_RECORDS || entries.len() > MAX_ENTRIES - held {
-            return Err(PostFault::Full {
-                records: self.journal.count(),
-                entries: held as u32,
-            });
+        if let Some(fault) = self.fault_but_short(item) {
+            return Err(fault);
         }
+        let Ok(entries) = self.journal.next_entries(alloc, item) else {
+            return Err(PostFault::NoMemory);
+        };
         match self.movements.try_entries(alloc, entries.as_slice()) {
             Ok(()) => Ok(entries),
             Err(short) => Err(fault_of(short)),
         }
+    }
+
+    /// The first fault of a record but a shortage. It takes no memory.
+    fn fault_but_short(&self, item: &Record) -> Option<PostFault>
+        ensures { result ≡ fault_but_short (history.records self.now.history) item.now }
+    {
+        match self.journal.fault(item) {
+            Some(fault) => Some(fault),
+            None => self.full(item),
+        }
+    }
+
+    /// Whether there is no room for a record without a fault of its own. It takes no memory.
+    fn full(&self, item: &Record) -> Option<PostFault>
+        requires { voucher_fault (history.records self.now.history) item.now.what ≡ None }
+        ensures { result ≡ full (history.records self.now.history) item.now }
+    {
+        let records = self.journal.count();
+        let held = self.movements.timeline().entries().len();
+        if records as usize >= MAX_RECORDS || movements::count(item) > MAX_ENTRIES - held {
+            return Some(PostFault::Full {
+                records,
+                entries: held as u32,
+            });
+        }
+        None
     }
 
     /// Covers every accepted record: where some are not covered it publishes their replay. It answers how

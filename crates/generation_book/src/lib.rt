@@ -6,3 +6,5 @@ pub use stock_model::queries::{Need, Query, SelectFault, Selected, Sheet};
 pub mod book;
 pub mod events;
 mod sending;
+#[cfg(test)]
+mod sheet_tests;

@@ -146,7 +146,7 @@ impl Master {
             Some(MasterFault::CodeTaken)
         } else if !code.is_well_formed() {
             Some(MasterFault::CodeShape)
-        } else if account.0 < 100 || account.0 > 9999 {
+        } else if !account.is_of_store() {
             Some(MasterFault::AccountRange)
         } else {
             None

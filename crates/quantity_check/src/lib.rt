@@ -1,5 +1,8 @@
 //! Whether there is enough of each item in each warehouse at all moments, kept as movements are added.
 #![tactic(auto)]
 
+pub mod holdings;
 pub mod running;
 mod sending;
+#[cfg(test)]
+mod shortage_tests;

@@ -7,11 +7,12 @@ ghost use Rattle.stock_model.specs.PostingOrder.{put_all};
 ghost use Rattle.quantity_check.specs.OwnPlaces.{HaveOwnPlaces};
 ghost use Rattle.quantity_check.specs.Shorts.{short_of};
 
+use crate::holdings::first_shortage;
 use posting_order::timeline::Timeline;
 use std::alloc::Global;
 use std::marker::Model;
 use stock_model::posting;
-use stock_model::shortages::{Shortage, first_shortage};
+use stock_model::shortages::Shortage;
 use stock_nums::entry::Entry;
 use stock_nums::lines::Lines;
 use stock_nums::memory::NoMemory;

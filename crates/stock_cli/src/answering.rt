@@ -1,10 +1,10 @@
 //! The answer to a request, over the book.
 ghost use Rattle.std.specs.Prelude.{◌≡◌, ℕ, List, IfOk, IsTrue, false};
 ghost use Rattle.stock_model.specs.Limits.{is_within_limits};
-ghost use Rattle.stock_model.specs.Answers.{sheet_reply};
+ghost use Rattle.stock_model.specs.Reports.{sheet_reply};
 ghost use Rattle.stock_model.specs.Bounds.{AreBounded};
 ghost use Rattle.stock_model.specs.History.{IsLegal};
-ghost use Rattle.stock_model.specs.Run.{Answers, Step};
+ghost use Rattle.stock_model.specs.Run.{IsReplyTo, Step};
 ghost use Rattle.voucher_json.specs.Requests.{IsReadAs, IsWithinLimits};
 ghost use Rattle.voucher_json.specs.ReplyText.{IsPrinted};
 ghost use Rattle.stock_cli.specs.OpenLines.{StandsForLine};
@@ -41,7 +41,7 @@ pub fn reply_to(alloc: Global, book: &mut Book, line: &OpenLine) -> Result<Reply
 
 fn answer(alloc: Global, book: &mut Book, request: Request) -> Result<Reply, NoMemory>
     requires { IsWithinLimits request }
-    ensures answers { IfOk result (λ reply. Answers book.old.history request reply book.new.history) }
+    ensures answers { IfOk result (λ reply. IsReplyTo book.old.history request reply book.new.history) }
     ensures printed { IfOk result IsPrinted }
     ensures legal { IfOk result (λ _. IsLegal book.old.history → IsLegal book.new.history) }
 {
@@ -54,7 +54,7 @@ fn answer(alloc: Global, book: &mut Book, request: Request) -> Result<Reply, NoM
 
 fn post(alloc: Global, book: &mut Book, what: What) -> Result<Reply, NoMemory>
     requires { IsTrue (is_within_limits what) }
-    ensures answers { IfOk result (λ reply. Answers book.old.history (Request.Post what) reply book.new.history) }
+    ensures answers { IfOk result (λ reply. IsReplyTo book.old.history (Request.Post what) reply book.new.history) }
     ensures printed { IfOk result IsPrinted }
     ensures legal { IfOk result (λ _. IsLegal book.old.history → IsLegal book.new.history) }
 {
@@ -69,7 +69,7 @@ fn post(alloc: Global, book: &mut Book, what: What) -> Result<Reply, NoMemory>
 }
 
 fn settle(alloc: Global, book: &mut Book) -> Result<Reply, NoMemory>
-    ensures answers { IfOk result (λ reply. Answers book.old.history Request.Settle reply book.new.history) }
+    ensures answers { IfOk result (λ reply. IsReplyTo book.old.history Request.Settle reply book.new.history) }
     ensures printed { IfOk result IsPrinted }
     ensures legal { IfOk result (λ _. IsLegal book.old.history → IsLegal book.new.history) }
 {
@@ -77,7 +77,7 @@ fn settle(alloc: Global, book: &mut Book) -> Result<Reply, NoMemory>
 }
 
 fn report(alloc: Global, book: &Book, query: &Query) -> Result<Reply, NoMemory>
-    ensures answers { IfOk result (λ reply. Answers book.now.history (Request.Report query.now) reply book.now.history) }
+    ensures answers { IfOk result (λ reply. IsReplyTo book.now.history (Request.Report query.now) reply book.now.history) }
     ensures printed { IfOk result IsPrinted }
 {
     match book.select(alloc, query) {

@@ -1,6 +1,6 @@
 //! The reply to a record that was refused, and to a line that is no request.
 ghost use Rattle.std.specs.Prelude.{◌≡◌, IfOk};
-ghost use Rattle.stock_model.specs.Answers.{refusal};
+ghost use Rattle.stock_model.specs.PostReplies.{refusal};
 ghost use Rattle.stock_model.specs.History.{records};
 ghost use Rattle.stock_model.specs.Masters.{code_at};
 ghost use Rattle.voucher_json.specs.ReplyText.{IsPrinted};

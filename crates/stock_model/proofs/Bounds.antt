@@ -10,7 +10,8 @@ use Rattle.std.proofs.lemmas.Int.{ints}
 use Rattle.stock_nums.specs.declared.entry.Key.{Key}
 use Rattle.stock_nums.specs.declared.entry.Row.{Row}
 use Rattle.stock_model.specs.Sums.{enters_at, leaves_at, units_of, value_of, quantity_in, quantity_out, value_in, value_out}
-use Rattle.stock_model.specs.Bounds.{max_value, has_value_in_range, AreBounded}
+use Rattle.stock_nums.specs.declared.limits.TheConstants.{MAX_VALUE}
+use Rattle.stock_model.specs.Bounds.{has_value_in_range, AreBounded}
 
 -- a sum over some of the rows is at most as many times the largest as there are rows
 sum_filtered-le : (f : Row → ℕ) (m : ℕ) (p : Row → Bool) (rows : List Row) → All (λ row. f row ≤ m) rows → sum_by f (filter p rows) ≤ length rows * m
@@ -20,15 +21,15 @@ sum_filtered-le f m p rows all =
     omega (arith, kept, mul-le-mul_right m fewer)
 
 -- a movement is worth at most 3 * 10^17
-value_of-le : (row : Row) → has_value_in_range row ≡ true → value_of row ≤ max_value
+value_of-le : (row : Row) → has_value_in_range row ≡ true → value_of row ≤ MAX_VALUE
 value_of-le row h = grind (arith, ints, nat_tests)
 
 units-le : (rows : List Row) → All (λ row. units_of row ≤ 1_000_000_000) rows
 units-le rows k d within = (get_or rows k d).entry.quantity.1
 
-values-le : (rows : List Row) → AreBounded rows → All (λ row. value_of row ≤ max_value) rows
+values-le : (rows : List Row) → AreBounded rows → All (λ row. value_of row ≤ MAX_VALUE) rows
 values-le rows bounded =
-    All-weaker (λ row. has_value_in_range row ≡ true) (λ row. value_of row ≤ max_value) value_of-le rows
+    All-weaker (λ row. has_value_in_range row ≡ true) (λ row. value_of row ≤ MAX_VALUE) value_of-le rows
     (AllPass-from_list_all has_value_in_range rows bounded.in_range)
 
 -- what entered a warehouse is at most 4 * 10^12 units
@@ -41,15 +42,15 @@ quantity_out-le rows key bounded =
     omega (arith, sum_filtered-le units_of 1_000_000_000 (leaves_at key) rows (units-le rows), bounded.few)
 
 -- all that entered a warehouse is worth at most 4,000 times what a movement is
-pub value_in-le : (rows : List Row) (key : Key) → AreBounded rows → value_in rows key ≤ 4_000 * max_value
+pub value_in-le : (rows : List Row) (key : Key) → AreBounded rows → value_in rows key ≤ 4_000 * MAX_VALUE
 value_in-le rows key bounded =
-    omega (arith, sum_filtered-le value_of max_value (enters_at key) rows (values-le rows bounded), bounded.few)
+    omega (arith, sum_filtered-le value_of MAX_VALUE (enters_at key) rows (values-le rows bounded), bounded.few)
 
-pub value_out-le : (rows : List Row) (key : Key) → AreBounded rows → value_out rows key ≤ 4_000 * max_value
+pub value_out-le : (rows : List Row) (key : Key) → AreBounded rows → value_out rows key ≤ 4_000 * MAX_VALUE
 value_out-le rows key bounded =
-    omega (arith, sum_filtered-le value_of max_value (leaves_at key) rows (values-le rows bounded), bounded.few)
+    omega (arith, sum_filtered-le value_of MAX_VALUE (leaves_at key) rows (values-le rows bounded), bounded.few)
 
 -- and what it holds at most what a movement is
-pub value_in-stock : (rows : List Row) (key : Key) → AreBounded rows → value_in rows key ≤ value_out rows key + max_value
+pub value_in-stock : (rows : List Row) (key : Key) → AreBounded rows → value_in rows key ≤ value_out rows key + MAX_VALUE
 value_in-stock rows key bounded =
-    subst (λ (all : List Row). value_in all key ≤ value_out all key + max_value) (take_all (length rows) rows (omega arith)) (bounded.not_large (length rows) key)
+    subst (λ (all : List Row). value_in all key ≤ value_out all key + MAX_VALUE) (take_all (length rows) rows (omega arith)) (bounded.not_large (length rows) key)

@@ -127,3 +127,14 @@ IsEnough-nil (suc n) key = omega arith
 pub shortage-first : (es : List Entry) (s : Shortage) → shortage es ≡ Some s → PartsAtShort es s
 unfolding shortage
 shortage-first es s some = some_from [] es s IsEnough-nil (λ key. omega arith) some
+
+-- what entered under the key of the last movement
+pub entered-own : (past : List Entry) (e : Entry) → entered (past ++ e ∷ []) (entry_key e) ≡ entered past (entry_key e) + cond (is_entering e.place.side) e.qty.0 0
+entered-own past e =
+    entered-snoc past e (entry_key e)
+    ∙ ap (λ (b : Bool). entered past (entry_key e) + units_where (b && is_entering e.place.side) e) (is_same_key-refl (entry_key e))
+
+pub departed-own : (past : List Entry) (e : Entry) → departed (past ++ e ∷ []) (entry_key e) ≡ departed past (entry_key e) + cond (not (is_entering e.place.side)) e.qty.0 0
+departed-own past e =
+    departed-snoc past e (entry_key e)
+    ∙ ap (λ (b : Bool). departed past (entry_key e) + units_where (b && not (is_entering e.place.side)) e) (is_same_key-refl (entry_key e))

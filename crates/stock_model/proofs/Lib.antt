@@ -5,10 +5,12 @@ pub mod Distinct
 pub mod PostingLine
 pub mod Histories
 pub mod Enough
-pub mod Holdings
 pub mod VoucherLines
 pub mod FirstOut
 pub mod Formulas
 pub mod Valuation
 pub mod Until
 pub mod LayersLeft
+pub mod HeadCodes
+pub mod MovementCount
+pub mod SheetKeys

@@ -8,8 +8,9 @@ use Rattle.stock_nums.specs.declared.entry.Entry.{Entry}
 use Rattle.stock_nums.specs.declared.entry.Row.{Row}
 use Rattle.stock_nums.specs.declared.moment.Moment.{Moment}
 use Rattle.stock_model.specs.declared.records.Record.{Record}
-use Rattle.stock_model.specs.Answers.{is_later, is_until}
-use Rattle.stock_model.specs.Bounds.{max_value, has_value_in_range, AreBounded}
+use Rattle.stock_model.specs.Reports.{is_later, is_until}
+use Rattle.stock_nums.specs.declared.limits.TheConstants.{MAX_VALUE}
+use Rattle.stock_model.specs.Bounds.{has_value_in_range, AreBounded}
 use Rattle.stock_model.specs.InOrder.{IsBefore}
 use Rattle.stock_model.specs.PostingOrder.{posting_line}
 use Rattle.stock_model.specs.Replay.{valued, value_next, rows_of, replay}
@@ -40,7 +41,7 @@ AreBounded-take rows k bounded =
       few = omega (arith, length-take k rows, bounded.few);
       in_range = list_all-take has_value_in_range k rows bounded.in_range;
       never_negative = λ n key. subst (λ (all : List Row). value_out all key ≤ value_in all key) (sym (front n).1) (bounded.never_negative (front n).0 key);
-      not_large = λ n key. subst (λ (all : List Row). value_in all key ≤ value_out all key + max_value) (sym (front n).1) (bounded.not_large (front n).0 key);
+      not_large = λ n key. subst (λ (all : List Row). value_in all key ≤ value_out all key + MAX_VALUE) (sym (front n).1) (bounded.not_large (front n).0 key);
     }
 
 -- where one fails the test, each later one does

@@ -23,16 +23,15 @@ use Rattle.stock_nums.specs.declared.entry.Key.{Key}
 use Rattle.stock_nums.specs.declared.entry.Row.{Row}
 use Rattle.stock_nums.specs.declared.place.Side.{Side}
 use Rattle.stock_nums.specs.declared.place.Side.TheVariants.{Leaves, Enters}
-use Rattle.stock_model.specs.Bounds.{max_value, has_value_in_range, AreBounded}
+use Rattle.stock_nums.specs.declared.limits.TheConstants.{MAX_VALUE, MAX_ENTRIES}
+use Rattle.stock_model.specs.Bounds.{has_value_in_range, AreBounded}
 use Rattle.stock_model.specs.Enough.{entry_key, enters_under, leaves_under, entry_units, entered, departed, IsEnough}
-use Rattle.stock_model.specs.Faults.{max_entries}
 use Rattle.stock_model.specs.Formulas.{HasFormula, HaveOneFormula}
 use Rattle.stock_model.specs.Replay.{valued, value_next, rows_of}
 use Rattle.stock_model.specs.Sums.{is_of, enters_at, leaves_at, units_of, value_of, quantity_in, quantity_out, value_in, value_out, stock_units, stock_value}
 use Rattle.stock_model.specs.Values.{average_cost, fifo_cost, cost_by, value_by, HasUnits}
-use Rattle.stock_model.proofs.Enough.{is_same_key-true}
+use Rattle.stock_model.proofs.Enough.{is_same_key-true, entered-own, departed-own}
 use Rattle.stock_model.proofs.FirstOut.{IsFirstOut-nil, IsFirstOutAt, IsFirstOutAt-next, LeavesFirst, next_cost-le}
-use Rattle.stock_model.proofs.Holdings.{entered-own, departed-own}
 
 abbrev pub row_entry : Row → Entry
 row_entry row = row.entry
@@ -164,16 +163,16 @@ Stock-by rows row (Issue sold) most key stock value amounts sides held out =
     Stock-left rows row most key stock leaves
     (subst (λ (v : ℤ). unsigned_abs v ≤ stock_value rows (entry_key row.entry)) (sym value) (cost_by-le rows row.entry row.entry.method out (held (ap not leaves))))
 
-amount-in_range : (amount : ℤ) → is_line_amount amount ≡ true → (int_le (pos 0) amount && int_le amount (pos max_value)) ≡ true
+amount-in_range : (amount : ℤ) → is_line_amount amount ≡ true → (int_le (pos 0) amount && int_le amount (pos MAX_VALUE)) ≡ true
 amount-in_range amount h = grind (arith, ints, nat_tests)
 
-cost-in_range : (cost : ℕ) → cost ≤ max_value → (int_le (pos 0) (pos cost) && int_le (pos cost) (pos max_value)) ≡ true
+cost-in_range : (cost : ℕ) → cost ≤ MAX_VALUE → (int_le (pos 0) (pos cost) && int_le (pos cost) (pos MAX_VALUE)) ≡ true
 cost-in_range cost h = grind (arith, ints, nat_tests)
 
 -- a movement's value is in range where the stock's is
 value_by-in_range : (rows : List Row) (row : Row) (cause : Cause) → row.worth.value.0 ≡ value_by rows row.entry cause → has_amounts_in_range cause ≡ true
     → has_side cause row.entry.place.side ≡ true → HasUnits rows row.entry → IsOutBy row.entry.method rows (entry_key row.entry)
-    → stock_value rows (entry_key row.entry) ≤ max_value → has_value_in_range row ≡ true
+    → stock_value rows (entry_key row.entry) ≤ MAX_VALUE → has_value_in_range row ≡ true
 value_by-in_range rows row (Receipt amount) value amounts sides held out small = rw value (amount-in_range amount.0 amounts)
 value_by-in_range rows row (Issue sold) value amounts sides held out small =
     let cost = cost_by-le rows row.entry row.entry.method out (held (ap not (issue-leaves row.entry.place.side sold sides))) in
@@ -191,7 +190,7 @@ IsCostedAt Average rows key = quantity_in rows key ≡ quantity_out rows key →
 -- at every prefix, and for each item and warehouse, no more value left than entered, and units left by their formula
 pub record Kept (formula : ℕ → Method) (rows : List Row) : Type 0 where
   pub stock : (n : ℕ) (key : Key) → Stock (take n rows) (length rows * 1_000_000_000_000) key
-  pub in_range : length rows ≤ max_entries → list_all has_value_in_range rows ≡ true
+  pub in_range : length rows ≤ MAX_ENTRIES → list_all has_value_in_range rows ≡ true
   pub formulas : All (λ row. HasFormula formula row.entry) rows
   pub held : (key : Key) → quantity_out rows key ≤ quantity_in rows key
   pub costed : (key : Key) → IsCostedAt (formula key.item.0) rows key
@@ -365,7 +364,7 @@ Kept-nil formula =
     record { stock = λ n key. Stock-nil n key; in_range = λ few. refl; formulas = All-nil (λ row. HasFormula formula row.entry); held = λ key. omega arith; costed = λ key. costed-nil (formula key.item.0) key }
 
 -- rows so kept are bounded
-AreBounded-Kept : (formula : ℕ → Method) (rows : List Row) → length rows ≤ max_entries → Kept formula rows → AreBounded rows
+AreBounded-Kept : (formula : ℕ → Method) (rows : List Row) → length rows ≤ MAX_ENTRIES → Kept formula rows → AreBounded rows
 AreBounded-Kept formula rows few kept =
     record {
       few = few;
@@ -396,14 +395,14 @@ Valuing-HasFormula formula line index e within is all = subst (HasFormula formul
 
 -- where it leaves, its cost is in range
 pub Valuing-cost : (formula : ℕ → Method) (line : List Entry) (rows : List Row) (index : ℕ) (e : Entry) → Valuing formula line rows index → index < length line → e ≡ get_or line index e
-    → All (HasFormula formula) line → IsEnough line → length line ≤ max_entries → not (is_entering e.place.side) ≡ true → cost_by e.method rows e ≤ max_value
+    → All (HasFormula formula) line → IsEnough line → length line ≤ MAX_ENTRIES → not (is_entering e.place.side) ≡ true → cost_by e.method rows e ≤ MAX_VALUE
 Valuing-cost formula line rows index e valuing within is all enough few leaves =
     let own = Kept-own formula rows e valuing.kept (Valuing-HasFormula formula line index e within is all) in
     let cost = cost_by-le rows e e.method own (Valuing-HasUnits formula line rows index e valuing within is enough leaves) in
     omega (arith, cost, (Kept-whole formula rows (entry_key e) valuing.kept).below, valuing.count, within, few)
 
 pub Valuing-next : (formula : ℕ → Method) (line : List Entry) (rows : List Row) (index : ℕ) (e : Entry) → Valuing formula line rows index → index < length line → e ≡ get_or line index e
-    → All (HasFormula formula) line → IsEnough line → length line ≤ max_entries → Valuing formula line (rows ++ valued rows e ∷ []) (index + 1)
+    → All (HasFormula formula) line → IsEnough line → length line ≤ MAX_ENTRIES → Valuing formula line (rows ++ valued rows e ∷ []) (index + 1)
 Valuing-next formula line rows index e valuing within is all enough few =
     let here : drop index line ≡ e ∷ drop (index + 1) line = rw add-one (drop-cons line index e within ∙ ap (λ (f : Entry). f ∷ drop (suc index) line) (sym is)) in
     record {
@@ -416,7 +415,7 @@ Valuing-next formula line rows index e valuing within is all enough few =
       rest = ap (fold value_next rows) (sym here) ∙ valuing.rest;
     }
 
-pub Valuing-AreBounded : (formula : ℕ → Method) (line : List Entry) (rows : List Row) (index : ℕ) → Valuing formula line rows index → index ≤ length line → length line ≤ max_entries → AreBounded rows
+pub Valuing-AreBounded : (formula : ℕ → Method) (line : List Entry) (rows : List Row) (index : ℕ) → Valuing formula line rows index → index ≤ length line → length line ≤ MAX_ENTRIES → AreBounded rows
 Valuing-AreBounded formula line rows index valuing within few = AreBounded-Kept formula rows (omega (arith, valuing.count, within, few)) valuing.kept
 
 -- and so the rows of all
@@ -435,6 +434,6 @@ pub Kept-rows_of : (formula : ℕ → Method) (line : List Entry) → All (HasFo
 Kept-rows_of formula line all enough = Kept-all formula [] line (Kept-nil formula) all enough
 
 -- the rows of a line of at most so many movements, at each of which there is enough, are bounded
-pub AreBounded-rows_of : (line : List Entry) → HaveOneFormula line → length line ≤ max_entries → IsEnough line → AreBounded (rows_of line)
+pub AreBounded-rows_of : (line : List Entry) → HaveOneFormula line → length line ≤ MAX_ENTRIES → IsEnough line → AreBounded (rows_of line)
 AreBounded-rows_of line (formula, all) few enough =
     AreBounded-Kept formula (rows_of line) (omega (arith, length-value_all [] line, few)) (Kept-rows_of formula line all enough)

@@ -13,11 +13,17 @@ entry_key e = record { item = e.item; store = e.store }
 abbrev pub is_same_key : Key → Key → Bool
 is_same_key a b = (a.item.0 == b.item.0) && (a.store.0 == b.store.0)
 
-abbrev pub enters_under : Key → Entry → Bool
-enters_under key e = is_same_key (entry_key e) key && is_entering e.place.side
+-- the movement is of this item in this warehouse
+abbrev pub is_of_key : Key → Entry → Bool
+is_of_key key e = is_same_key (entry_key e) key
 
+-- the movement enters, and is of this item in this warehouse
+abbrev pub enters_under : Key → Entry → Bool
+enters_under key e = is_of_key key e && is_entering e.place.side
+
+-- the movement leaves, and is of this item in this warehouse
 abbrev pub leaves_under : Key → Entry → Bool
-leaves_under key e = is_same_key (entry_key e) key && not (is_entering e.place.side)
+leaves_under key e = is_of_key key e && not (is_entering e.place.side)
 
 abbrev pub entry_units : Entry → ℕ
 entry_units e = e.qty.0

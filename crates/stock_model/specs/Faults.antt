@@ -1,7 +1,9 @@
 -- Why a record is refused: the first fault in the one order of faults, with its data.
-use Rattle.std.specs.Prelude.{ℕ, ◌+◌, Bool, ◌&&◌, ◌||◌, List, [], ◌∷◌, ◌++◌, length, map, nat_lt, nat_le, if◌then◌else◌, Option, Some, None, is_some, is_none}
+use Rattle.std.specs.Prelude.{ℕ, ◌+◌, Bool, ◌||◌, List, [], ◌∷◌, ◌++◌, length, map, nat_lt, nat_le, if◌then◌else◌, Option, Some, None, is_some, is_none}
 use Rattle.std.specs.Option.{option_map, option_or}
+use Rattle.stock_nums.specs.Accounts.{is_store_account}
 use Rattle.stock_nums.specs.Codes.{is_code}
+use Rattle.stock_nums.specs.declared.limits.TheConstants.{MAX_RECORDS, MAX_ENTRIES}
 use Rattle.stock_model.specs.declared.faults.PostFault.{PostFault}
 use Rattle.stock_model.specs.declared.faults.PostFault.TheVariants.{CodeTaken, CodeShape, AccountRange, UnknownItem, UnknownStore, Full, Short}
 use Rattle.stock_model.specs.declared.vouchers.What.{What}
@@ -14,14 +16,6 @@ use Rattle.stock_model.specs.Masters.{item_with, store_with}
 use Rattle.stock_model.specs.Entries.{entries, all_entries}
 use Rattle.stock_model.specs.PostingOrder.{posting_line}
 use Rattle.stock_model.specs.Enough.{shortage}
-
--- how many records a journal holds at most
-abbrev pub max_records : ℕ
-max_records = 50_000
-
--- how many movements a journal holds at most
-abbrev pub max_entries : ℕ
-max_entries = 4_000
 
 -- the number of the first that passes the test, the first of all being n
 abbrev pub first_line : {X : Type 0} → (X → Bool) → ℕ → List X → Option ℕ
@@ -77,7 +71,7 @@ code_shape (Issue at purpose lines) = None
 -- the new warehouse's account is not from 100 to 9999
 abbrev pub account_range : What → Option PostFault
 account_range (Item code method) = None
-account_range (Store code account) = if nat_le 100 account.0 && nat_le account.0 9999 then None else Some AccountRange
+account_range (Store code account) = if is_store_account account.0 then None else Some AccountRange
 account_range (Receipt at lines) = None
 account_range (Issue at purpose lines) = None
 
@@ -97,7 +91,7 @@ voucher_fault journal what =
 -- there is no room for the record or its movements
 abbrev pub full : List Record → Record → Option PostFault
 full journal item =
-    if nat_le max_records (length journal) || nat_lt max_entries (length (all_entries journal) + length (entries journal item))
+    if nat_le MAX_RECORDS (length journal) || nat_lt MAX_ENTRIES (length (all_entries journal) + length (entries journal item))
     then Some (Full (length journal) (length (all_entries journal)))
     else None
 
@@ -108,6 +102,10 @@ short_of s = Short s.place s.item s.store s.lacking
 abbrev pub short : List Record → Record → Option PostFault
 short journal item = option_map short_of (shortage (posting_line (journal ++ item ∷ [])))
 
+-- the first fault of a record but a shortage, which the movements of all records decide
+abbrev pub fault_but_short : List Record → Record → Option PostFault
+fault_but_short journal item = option_or (voucher_fault journal item.what) (full journal item)
+
 -- the first fault of a record that comes after the journal, or none
 unfoldable pub fault : List Record → Record → Option PostFault
-fault journal item = option_or (voucher_fault journal item.what) (option_or (full journal item) (short journal item))
+fault journal item = option_or (fault_but_short journal item) (short journal item)

@@ -10,14 +10,14 @@ pub mod History
 pub mod Sheets
 pub mod Layers
 pub mod Formulas
-pub mod Answers
+pub mod Reports
+pub mod PostReplies
 pub mod InputLines
 pub mod Run
 pub mod Bounds
 pub mod Worked
 pub mod InOrder
 pub mod Enough
-pub mod Holdings
 pub mod WorkedShortages
 pub mod WorkedIssues
 pub mod WorkedLayers

@@ -1,6 +1,7 @@
 -- The items and warehouses of a journal. A record's number is its place in the journal, from 1.
-use Rattle.std.specs.Prelude.{ℕ, zero, suc, List, [], Option, Some, None, option_and_then, unwrap_or, slice_get}
-use Rattle.std.specs.List.{filter_map, enumerate_from}
+use Rattle.std.specs.Prelude.{ℕ, zero, suc, Bool, ◌==◌, List, [], Option, Some, None, unwrap_or, slice_get}
+use Rattle.std.specs.Option.{option_map}
+use Rattle.std.specs.List.{filter_map, enumerate_from, find}
 use Rattle.stock_nums.specs.declared.cause.Method.{Method}
 use Rattle.stock_nums.specs.declared.head.Head.{Head}
 use Rattle.stock_nums.specs.declared.numbers.AccountNo.{AccountNo}
@@ -66,16 +67,22 @@ abbrev pub record_at : List Record → ℕ → Option Record
 record_at journal zero = None
 record_at journal (suc n) = slice_get journal n
 
--- the code of the item or warehouse that the record makes, if it makes one
-abbrev pub code_made : What → Option (List ℕ)
-code_made (Item code method) = Some code
-code_made (Store code account) = Some code
-code_made (Receipt at lines) = None
-code_made (Issue at purpose lines) = None
+abbrev pub has_number : ℕ → Head → Bool
+has_number n head = head.number.0 == n
 
-abbrev pub record_code : Record → Option (List ℕ)
-record_code item = code_made item.what
+abbrev pub head_code : Head → List ℕ
+head_code head = head.code
 
 -- the code of the item or warehouse with this number, or the empty code
-abbrev pub code_at : List Record → ℕ → List ℕ
-code_at journal n = unwrap_or (option_and_then record_code (record_at journal n)) []
+abbrev pub code_of : List Head → ℕ → List ℕ
+code_of heads n = unwrap_or (option_map head_code (find (has_number n) heads)) []
+
+-- the code of the item or warehouse that the record makes, or the empty code
+abbrev pub code_made : What → List ℕ
+code_made (Item code method) = code
+code_made (Store code account) = code
+code_made (Receipt at lines) = []
+code_made (Issue at purpose lines) = []
+
+abbrev pub record_code : Record → List ℕ
+record_code item = code_made item.what

@@ -9,7 +9,8 @@ use Rattle.stock_model.specs.declared.requests.Request.TheVariants.{Post, Settle
 use Rattle.stock_model.specs.declared.replies.Reply.{Reply}
 use Rattle.stock_model.specs.declared.replies.Reply.TheVariants.{Settled, Long, Bad}
 use Rattle.stock_model.specs.History.{accepted, covered}
-use Rattle.stock_model.specs.Answers.{report, IsPostAnswer}
+use Rattle.stock_model.specs.Reports.{report}
+use Rattle.stock_model.specs.PostReplies.{IsPostReply}
 
 -- what a run has come to
 pub record RunState : Type 0 where
@@ -32,29 +33,29 @@ pub record Settles (old : List Deed) (reply : Reply) (new : List Deed) : Type 0 
 -- a post carries desk 0
 pub record Posts (old : List Deed) (reply : Reply) (new : List Deed) (item : Record) : Type 0 where
   pub desk : item.desk.0 ≡ 0
-  pub answer : IsPostAnswer old item reply new
+  pub answer : IsPostReply old item reply new
 
 -- what a request may be answered, and which history it leaves
-abbrev pub Answers : List Deed → Request → Reply → List Deed → Type 0
-Answers old (Post what) reply new = (item : Record) × (item.what ≡ what) × Posts old reply new item
-Answers old Settle reply new = Settles old reply new
-Answers old (Report query) reply new = (reply ≡ report old query) × (new ≡ old)
+abbrev pub IsReplyTo : List Deed → Request → Reply → List Deed → Type 0
+IsReplyTo old (Post what) reply new = (item : Record) × (item.what ≡ what) × Posts old reply new item
+IsReplyTo old Settle reply new = Settles old reply new
+IsReplyTo old (Report query) reply new = (reply ≡ report old query) × (new ≡ old)
 
 -- the most bytes that a line may have
 abbrev pub max_line : ℕ
 max_line = 65_536
 
 -- what a line of at most so many bytes is answered, where reads says which request it is, or why it is none
-abbrev pub IsRead : (List ℕ → Result Request ReadFault → Type 0) → RunState → List ℕ → Reply → RunState → Type 0
-IsRead reads old line reply new =
-    ((request : Request) × reads line (Ok request) × Answers old.history request reply new.history)
+abbrev pub IsAnswered : (List ℕ → Result Request ReadFault → Type 0) → RunState → List ℕ → Reply → RunState → Type 0
+IsAnswered reads old line reply new =
+    ((request : Request) × reads line (Ok request) × IsReplyTo old.history request reply new.history)
     ⊎ ((f : ReadFault) × reads line (Err f) × (reply ≡ Bad f) × (new.history ≡ old.history))
 
 -- One line: a longer one is long.
 abbrev pub Step : (List ℕ → Result Request ReadFault → Type 0) → RunState → List ℕ → Reply → RunState → Type 0
 Step reads old line reply new =
     ((max_line < length line) × (reply ≡ Long) × (new.history ≡ old.history))
-    ⊎ ((length line ≤ max_line) × IsRead reads old line reply new)
+    ⊎ ((length line ≤ max_line) × IsAnswered reads old line reply new)
 
 -- the replies to the lines, one after another
 abbrev pub Run : (List ℕ → Result Request ReadFault → Type 0) → RunState → List (List ℕ) → List Reply → RunState → Type 0

@@ -1,7 +1,5 @@
 -- The sheets of a report, made from what was selected.
-use Rattle.std.specs.Prelude.{ℕ, Bool, true, ◌&&◌, ◌==◌, pos, Option, Some, None, List, [], ◌∷◌, map, filter, fold, nat_eq, if◌then◌else◌, unwrap_or, nat_lt}
-use Rattle.std.specs.Option.{option_map}
-use Rattle.std.specs.List.{find}
+use Rattle.std.specs.Prelude.{◌≡◌, ℕ, Bool, true, IsTrue, Contains, ◌&&◌, pos, Option, Some, None, List, [], ◌∷◌, map, filter, fold, nat_eq, if◌then◌else◌, nat_lt}
 use Rattle.std.specs.Cmp.Lexicographic.{pointwise}
 use Rattle.stock_nums.specs.Places.{first_by}
 use Rattle.stock_nums.specs.declared.entry.Key.{Key}
@@ -10,36 +8,33 @@ use Rattle.stock_nums.specs.declared.head.Head.{Head}
 use Rattle.stock_model.specs.declared.queries.Query.{Query}
 use Rattle.stock_model.specs.declared.queries.Selected.{Selected}
 use Rattle.stock_model.specs.declared.replies.BalanceRow.{BalanceRow}
+use Rattle.stock_model.specs.Enough.{entry_key}
+use Rattle.stock_model.specs.Masters.{code_of}
 use Rattle.stock_model.specs.Sums.{stock_units, stock_value}
 
 -- by the item's number, and then by the warehouse's
 abbrev pub is_key_before : Key → Key → Bool
 is_key_before a b = first_by a.item.0 b.item.0 (nat_lt a.store.0 b.store.0)
 
+-- the first key comes before the second
+abbrev pub IsKeyBefore : Key → Key → Type 0
+IsKeyBefore a b = IsTrue (is_key_before a b)
+
 -- the keys in order, with this one among them once
 abbrev pub put_key : List Key → Key → List Key
 put_key [] key = key ∷ []
 put_key (k ∷ ks) key = if is_key_before key k then key ∷ k ∷ ks else (if is_key_before k key then k ∷ put_key ks key else k ∷ ks)
 
-abbrev pub key_of : Row → Key
-key_of row = record { item = row.entry.item; store = row.entry.store }
-
 abbrev pub put_key_of : List Key → Row → List Key
-put_key_of keys row = put_key keys (key_of row)
+put_key_of keys row = put_key keys (entry_key row.entry)
 
 -- each item and warehouse with a movement, once, in order
 abbrev pub keys_of : List Row → List Key
 keys_of rows = fold put_key_of [] rows
 
-abbrev pub has_number : ℕ → Head → Bool
-has_number n head = head.number.0 == n
-
-abbrev pub head_code : Head → List ℕ
-head_code head = head.code
-
--- the code of the item or warehouse with this number
-abbrev pub code_of : List Head → ℕ → List ℕ
-code_of heads n = unwrap_or (option_map head_code (find (has_number n) heads)) []
+-- one of the rows is of this item in this warehouse
+abbrev pub HasKey : List Row → Key → Type 0
+HasKey rows key = (row : Row) × Contains rows row × (entry_key row.entry ≡ key)
 
 -- what one warehouse holds of one item: what entered less what left
 abbrev pub balance_row : List Head → List Row → Key → BalanceRow

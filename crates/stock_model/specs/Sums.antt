@@ -1,21 +1,22 @@
 -- What entered and what left, of one item in one warehouse.
-use Rattle.std.specs.Prelude.{ℕ, ◌-◌, Bool, ◌&&◌, ◌==◌, not, List, filter, sum_by, unsigned_abs}
+use Rattle.std.specs.Prelude.{ℕ, ◌-◌, Bool, List, filter, sum_by, unsigned_abs}
 use Rattle.stock_nums.specs.declared.entry.Key.{Key}
 use Rattle.stock_nums.specs.declared.entry.Row.{Row}
-use Rattle.stock_nums.specs.Causes.{is_entering}
+use Rattle.stock_model.specs.Enough.{is_of_key, enters_under, leaves_under, entry_units}
 
--- the row is of this item and this warehouse
+-- the row's movement is of this item in this warehouse
 abbrev pub is_of : Key → Row → Bool
-is_of key row = (row.entry.item.0 == key.item.0) && (row.entry.store.0 == key.store.0)
+is_of key row = is_of_key key row.entry
 
+-- and enters, or leaves
 abbrev pub enters_at : Key → Row → Bool
-enters_at key row = is_of key row && is_entering row.entry.place.side
+enters_at key row = enters_under key row.entry
 
 abbrev pub leaves_at : Key → Row → Bool
-leaves_at key row = is_of key row && not (is_entering row.entry.place.side)
+leaves_at key row = leaves_under key row.entry
 
 abbrev pub units_of : Row → ℕ
-units_of row = row.entry.qty.0
+units_of row = entry_units row.entry
 
 -- the value of a movement, which is never negative
 abbrev pub value_of : Row → ℕ

@@ -8,6 +8,7 @@ use crate::vouchers::{IssueLine, Purpose};
 use std::alloc::Global;
 use stock_nums::cause::{Cause, Method};
 use stock_nums::entry::Entry;
+use stock_nums::limits::MAX_LINES;
 use stock_nums::lines::Lines;
 use stock_nums::memory::NoMemory;
 use stock_nums::moment::Moment;
@@ -24,7 +25,7 @@ pub fn all_issued<N: Names>(
     purpose: Purpose,
     lines: &[IssueLine],
 ) -> Result<Lines<Entry>, NoMemory>
-    requires { length lines.now ≤ 100 }
+    requires { length lines.now ≤ MAX_LINES }
     ensures { IfOk result (λ es. es ≡ filter_map (issued_line (N.journal names.now) voucher.0 at purpose) (enumerate_from 1 lines.now)) }
 {
     let mut entries = Lines::new(alloc);

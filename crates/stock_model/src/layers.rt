@@ -6,9 +6,10 @@ ghost use Rattle.stock_model.specs.Bounds.{AreBounded, has_value_in_range};
 ghost use Rattle.stock_model.specs.Layers.{formula_at, layers_at, layer_row, layer_rows_by, layer_rows, layers};
 ghost use Rattle.stock_model.specs.Sums.{enters_at, units_of};
 
+use crate::masters::code_of;
 use crate::queries::{Query, Selected};
 use crate::replies::LayerRow;
-use crate::sheets::{code_of, is_asked_key, keys_of};
+use crate::sheets::{is_asked_key, keys_of};
 use crate::sums::{enters_at, is_of, quantity_out, stock_units, stock_value};
 use std::alloc::Global;
 use stock_nums::cause::Method;

@@ -21,11 +21,7 @@ pub mod refusals;
 pub mod replay;
 pub mod replies;
 pub mod requests;
-#[cfg(test)]
-mod sheet_tests;
 pub mod sheets;
-#[cfg(test)]
-mod shortage_tests;
 pub mod shortages;
 pub mod stock_lines;
 pub mod sums;

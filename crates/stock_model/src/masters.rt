@@ -1,6 +1,8 @@
 //! The items and warehouses of a journal, found by going over its records.
-ghost use Rattle.std.specs.Prelude.{◌≡◌, ◌^◌, ◌<◌, [], length, unwrap_or, IfOk};
-ghost use Rattle.stock_model.specs.Masters.{item_with, store_with, heads, head_made, code_made};
+ghost use Rattle.std.specs.Prelude.{◌≡◌, ◌^◌, ◌<◌, ℕ, List, [], length, IfOk};
+ghost use Rattle.std.specs.Option.{option_map_or};
+ghost use Rattle.stock_model.specs.declared.records.Record.{Record};
+ghost use Rattle.stock_model.specs.Masters.{item_with, store_with, heads, head_made, record_at, record_code, code_of};
 
 use crate::records::Record;
 use crate::vouchers::What;
@@ -87,9 +89,26 @@ fn head_made(alloc: Global, number: u32, what: &What) -> Result<Option<Head>, No
     }
 }
 
+/// The code of the item or warehouse with this number, or the empty code.
+pub fn code_of(alloc: Global, heads: &[Head], number: u32) -> Result<Code, NoMemory>
+    ensures { IfOk result (λ code. code ≡ code_of heads.now number) }
+{
+    for head in heads {
+        if head.number.0 == number {
+            return head.code.copy(alloc);
+        }
+    }
+    Code::of(alloc, "")
+}
+
+/// The code of the head with a number is that of the item or warehouse which the record with the number makes.
+pub fn heads_are_those_of_records()
+    ensures { (journal : List Record) (n : ℕ) → code_of (heads journal) n ≡ option_map_or record_code (record_at journal n) [] }
+{}
+
 /// The code of the item or warehouse that this record makes, or the empty code.
 pub fn record_code(alloc: Global, item: &Record) -> Result<Code, NoMemory>
-    ensures { IfOk result (λ code. code ≡ unwrap_or (code_made item.now.what) []) }
+    ensures { IfOk result (λ code. code ≡ record_code item.now) }
 {
     match &item.what {
         What::Item { code, method: _ } => code.copy(alloc),

@@ -1,5 +1,7 @@
 //! The movements that a record makes.
-ghost use Rattle.std.specs.Prelude.{◌≡◌, ◌+◌, length, IfOk};
+ghost use Rattle.std.specs.Prelude.{◌≡◌, ◌+◌, List, length, None, IfOk};
+ghost use Rattle.stock_model.specs.declared.records.Record.{Record};
+ghost use Rattle.stock_model.specs.Faults.{voucher_fault};
 ghost use Rattle.stock_model.specs.Entries.{entries};
 
 use crate::issued::all_issued;
@@ -12,6 +14,25 @@ use stock_nums::entry::Entry;
 use stock_nums::lines::Lines;
 use stock_nums::memory::NoMemory;
 use stock_nums::numbers::RecordNo;
+
+/// How many movements the record makes where nothing in it is unknown: one for each line. It takes no memory.
+pub fn count(item: &Record) -> usize
+    ensures { (journal : List Record) → voucher_fault journal item.now.what ≡ None → result ≡ length (entries journal item.now) }
+{
+    match &item.what {
+        What::Item { code: _, method: _ } => 0,
+        What::Store {
+            code: _,
+            account: _,
+        } => 0,
+        What::Receipt { at: _, lines } => lines.len(),
+        What::Issue {
+            at: _,
+            purpose: _,
+            lines,
+        } => lines.len(),
+    }
+}
 
 /// The movements of a record, read as the next one of the journal with these items and warehouses. Its
 /// number is the voucher of each. A line whose item or warehouse is unknown makes none.

@@ -8,6 +8,7 @@ use crate::vouchers::ReceiptLine;
 use std::alloc::Global;
 use stock_nums::cause::{Cause, Method};
 use stock_nums::entry::Entry;
+use stock_nums::limits::MAX_LINES;
 use stock_nums::lines::Lines;
 use stock_nums::memory::NoMemory;
 use stock_nums::moment::Moment;
@@ -23,7 +24,7 @@ pub fn all_received<N: Names>(
     at: Moment,
     lines: &[ReceiptLine],
 ) -> Result<Lines<Entry>, NoMemory>
-    requires { length lines.now ≤ 100 }
+    requires { length lines.now ≤ MAX_LINES }
     ensures { IfOk result (λ es. es ≡ filter_map (received_line (N.journal names.now) voucher.0 at) (enumerate_from 1 lines.now)) }
 {
     let mut entries = Lines::new(alloc);

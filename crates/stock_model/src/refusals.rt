@@ -1,5 +1,6 @@
 //! Why a record is refused, whatever room there is.
-ghost use Rattle.std.specs.Prelude.{◌≡◌, ◌≤◌, length, map, if◌then◌else◌, nat_le, ◌&&◌, Some, None};
+ghost use Rattle.std.specs.Prelude.{◌≡◌, ◌≤◌, length, map, if◌then◌else◌, Some, None};
+ghost use Rattle.stock_nums.specs.Accounts.{is_store_account};
 ghost use Rattle.stock_nums.specs.Codes.{is_code};
 ghost use Rattle.std.specs.Option.{option_map, option_or};
 ghost use Rattle.stock_model.specs.Faults.{first_line, lacks_item, lacks_store, voucher_fault};
@@ -10,6 +11,7 @@ use crate::records::Record;
 use crate::stock_lines::StockLine;
 use crate::vouchers::What;
 use stock_nums::code::Code;
+use stock_nums::limits::MAX_LINES;
 use stock_nums::numbers::AccountNo;
 
 /// The first fault of what a record says, read as the next one of the journal with these items and
@@ -47,12 +49,12 @@ fn code_fault(taken: bool, code: &Code) -> Option<PostFault>
 
 // The fault of a new warehouse.
 fn store_fault(taken: bool, code: &Code, account: AccountNo) -> Option<PostFault>
-    ensures { result ≡ (if taken then Some PostFault.CodeTaken else (if is_code code.now then (if nat_le 100 account.0 && nat_le account.0 9999 then None else Some PostFault.AccountRange) else Some PostFault.CodeShape)) }
+    ensures { result ≡ (if taken then Some PostFault.CodeTaken else (if is_code code.now then (if is_store_account account.0 then None else Some PostFault.AccountRange) else Some PostFault.CodeShape)) }
 {
     if let Some(fault) = code_fault(taken, code) {
         return Some(fault);
     }
-    if account.0 < 100 || account.0 > 9999 {
+    if !account.is_of_store() {
         return Some(PostFault::AccountRange);
     }
     None
@@ -60,7 +62,7 @@ fn store_fault(taken: bool, code: &Code, account: AccountNo) -> Option<PostFault
 
 // The first unknown item that the lines name, or else the first unknown warehouse.
 fn unknown_name<N: Names, T: StockLine>(names: &N, lines: &[T]) -> Option<PostFault>
-    requires { length lines.now ≤ 100 }
+    requires { length lines.now ≤ MAX_LINES }
     ensures { result ≡ option_or (option_map PostFault.UnknownItem (first_line (lacks_item (N.journal names.now)) 1 (map T.item_code lines.now))) (option_map PostFault.UnknownStore (first_line (lacks_store (N.journal names.now)) 1 (map T.store_code lines.now))) }
 {
     if let Some(line) = unknown_item(names, lines) {
@@ -73,7 +75,7 @@ fn unknown_name<N: Names, T: StockLine>(names: &N, lines: &[T]) -> Option<PostFa
 }
 
 fn unknown_item<N: Names, T: StockLine>(names: &N, lines: &[T]) -> Option<u32>
-    requires { length lines.now ≤ 100 }
+    requires { length lines.now ≤ MAX_LINES }
     ensures { result ≡ first_line (lacks_item (N.journal names.now)) 1 (map T.item_code lines.now) }
 {
     for (i, line) in lines.iter().enumerate() {
@@ -85,7 +87,7 @@ fn unknown_item<N: Names, T: StockLine>(names: &N, lines: &[T]) -> Option<u32>
 }
 
 fn unknown_store<N: Names, T: StockLine>(names: &N, lines: &[T]) -> Option<u32>
-    requires { length lines.now ≤ 100 }
+    requires { length lines.now ≤ MAX_LINES }
     ensures { result ≡ first_line (lacks_store (N.journal names.now)) 1 (map T.store_code lines.now) }
 {
     for (i, line) in lines.iter().enumerate() {

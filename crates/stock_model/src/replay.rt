@@ -3,10 +3,9 @@ ghost use Rattle.std.specs.Prelude.{◌≡◌, ◌^◌, ◌<◌, ◌≤◌, pos,
 ghost use Rattle.stock_nums.specs.Causes.{is_entering};
 ghost use Rattle.stock_nums.specs.FirstIn.{first_cost};
 ghost use Rattle.stock_nums.specs.declared.cause.Cause.{Cause};
-ghost use Rattle.stock_model.specs.Bounds.{AreBounded, max_value};
+ghost use Rattle.stock_model.specs.Bounds.{AreBounded};
 ghost use Rattle.stock_model.specs.Enough.{entry_key, IsEnough};
 ghost use Rattle.stock_model.specs.Entries.{all_entries};
-ghost use Rattle.stock_model.specs.Faults.{max_entries};
 ghost use Rattle.stock_model.specs.Formulas.{HaveOneFormula};
 ghost use Rattle.stock_model.specs.PostingOrder.{posting_line};
 ghost use Rattle.stock_model.specs.Replay.{valued, rows_of, replay};
@@ -21,6 +20,7 @@ use std::alloc::Global;
 use stock_nums::cause::{Cause, Method};
 use stock_nums::entry::{Entry, Key, Row, Worth};
 use stock_nums::half_up::half_up;
+use stock_nums::limits::{MAX_ENTRIES, MAX_VALUE};
 use stock_nums::lines::Lines;
 use stock_nums::memory::NoMemory;
 use stock_nums::numbers::{Minor, Qty};
@@ -48,7 +48,7 @@ fn first_cost(rows: &[Row], key: &Key, units: u64) -> u128
 // What the movement's units cost first in, first out.
 fn fifo_cost(before: &[Row], entry: &Entry) -> Minor
     requires bounded { AreBounded before.now }
-    requires small { fifo_cost before.now entry.now ≤ max_value }
+    requires small { fifo_cost before.now entry.now ≤ MAX_VALUE }
     ensures { result.0 ≡ pos (fifo_cost before.now entry.now) }
 {
     let key = entry_key(entry);
@@ -76,7 +76,7 @@ fn average_cost(before: &[Row], entry: &Entry) -> Minor
 fn cost(before: &[Row], entry: &Entry) -> Minor
     requires bounded { AreBounded before.now }
     requires held { entry.now.qty.0 ≤ stock_units before.now (entry_key entry.now) }
-    requires small { cost_by entry.now.method before.now entry.now ≤ max_value }
+    requires small { cost_by entry.now.method before.now entry.now ≤ MAX_VALUE }
     ensures { result.0 ≡ pos (cost_by entry.now.method before.now entry.now) }
 {
     match entry.method {
@@ -89,7 +89,7 @@ fn cost(before: &[Row], entry: &Entry) -> Minor
 fn valued(before: &[Row], entry: &Entry) -> Row
     requires bounded { AreBounded before.now }
     requires held { HasUnits before.now entry.now }
-    requires small { IsTrue (not (is_entering entry.now.place.side)) → cost_by entry.now.method before.now entry.now ≤ max_value }
+    requires small { IsTrue (not (is_entering entry.now.place.side)) → cost_by entry.now.method before.now entry.now ≤ MAX_VALUE }
     ensures { result ≡ valued before.now entry.now }
 {
     let value = match entry.cause {
@@ -108,7 +108,7 @@ fn valued(before: &[Row], entry: &Entry) -> Row
 /// The movements, each valued from those before it. What leaves has entered before, and each item has one
 /// cost formula.
 pub fn rows_of(alloc: Global, line: &[Entry]) -> Result<Lines<Row>, NoMemory>
-    requires few { length line.now ≤ max_entries }
+    requires few { length line.now ≤ MAX_ENTRIES }
     requires formulas { HaveOneFormula line.now }
     requires enough { IsEnough line.now }
     ensures rows { IfOk result (λ rows. rows ≡ rows_of line.now) }
@@ -127,7 +127,7 @@ pub fn rows_of(alloc: Global, line: &[Entry]) -> Result<Lines<Row>, NoMemory>
 /// All movements of a journal in posting order, each valued from those before it.
 pub fn replay(alloc: Global, records: &[Record]) -> Result<Lines<Row>, NoMemory>
     requires records { length records.now < 2 ^ 32 }
-    requires few { length (posting_line records.now) ≤ max_entries }
+    requires few { length (posting_line records.now) ≤ MAX_ENTRIES }
     requires enough { IsEnough (posting_line records.now) }
     ensures rows { IfOk result (λ rows. rows ≡ replay records.now) }
     ensures bounded { AreBounded (replay records.now) }

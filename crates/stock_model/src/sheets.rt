@@ -1,10 +1,15 @@
 //! The sheets of a report.
-ghost use Rattle.std.specs.Prelude.{◌≡◌, ◌≤◌, length, insert, IfOk, OnOk, OnErr, MatchOption, map};
+ghost use Rattle.std.specs.Prelude.{◌≡◌, ◌≤◌, List, length, insert, IfOk, OnOk, OnErr, MatchOption, AllPairs, Contains};
+ghost use Rattle.stock_nums.specs.declared.entry.Key.{Key};
+ghost use Rattle.stock_nums.specs.declared.entry.Row.{Row};
 ghost use Rattle.stock_model.specs.Bounds.{AreBounded};
-ghost use Rattle.stock_model.specs.Sheets.{is_key_before, put_key, key_of, keys_of, code_of, balance_row, is_asked_code, is_asked_key, balance};
+ghost use Rattle.stock_model.specs.Enough.{entry_key};
+ghost use Rattle.stock_model.specs.Sheets.{IsKeyBefore, HasKey, is_key_before, put_key, keys_of, balance_row, is_asked_code, is_asked_key, balance};
 
+use crate::masters::code_of;
 use crate::queries::{Query, Selected};
 use crate::replies::BalanceRow;
+use crate::shortages::entry_key;
 use crate::sums::{stock_units, stock_value};
 use std::alloc::Global;
 use stock_nums::code::Code;
@@ -46,37 +51,27 @@ pub fn put_key(keys: &mut Lines<Key>, key: Key) -> Result<(), NoMemory>
     }
 }
 
-fn key_of(row: &Row) -> Key
-    ensures { result ≡ key_of row.now }
-{
-    Key {
-        item: row.entry.item,
-        store: row.entry.store,
-    }
-}
-
 /// Each item and warehouse with a movement, once, in order.
 pub fn keys_of(alloc: Global, rows: &[Row]) -> Result<Lines<Key>, NoMemory>
     ensures { IfOk result (λ keys. keys ≡ keys_of rows.now) }
 {
     let mut keys = Lines::new(alloc);
     for row in rows {
-        put_key(&mut keys, key_of(row))?;
+        put_key(&mut keys, entry_key(&row.entry))?;
     }
     Ok(keys)
 }
 
-/// The code of the item or warehouse with this number, or the empty code.
-pub fn code_of(alloc: Global, heads: &[Head], number: u32) -> Result<Code, NoMemory>
-    ensures { IfOk result (λ code. code ≡ code_of heads.now number) }
-{
-    for head in heads {
-        if head.number.0 == number {
-            return head.code.copy(alloc);
-        }
-    }
-    Code::of(alloc, "")
-}
+/// The keys of a sheet are ascending, each once, by the item's number and then by the warehouse's, and they are
+/// exactly those of the rows. No other list is so.
+pub fn keys_are_those_of_the_rows()
+    ensures ascending { (rows : List Row) → AllPairs IsKeyBefore (keys_of rows) }
+    ensures of_rows { (rows : List Row) (key : Key) → Contains (keys_of rows) key → HasKey rows key }
+    ensures complete { (rows : List Row) (key : Key) → HasKey rows key → Contains (keys_of rows) key }
+    ensures only { (rows : List Row) (keys : List Key) → AllPairs IsKeyBefore keys
+        → ((key : Key) → Contains keys key → HasKey rows key) → ((key : Key) → HasKey rows key → Contains keys key)
+        → keys ≡ keys_of rows }
+{}
 
 /// What one warehouse holds of one item: what entered less what left.
 pub fn balance_row(

@@ -8,7 +8,7 @@ ghost use Rattle.stock_model.specs.declared.replies.Reply.TheVariants.{Balance};
 ghost use Rattle.stock_model.specs.InputLines.{lines_of, asked_lines};
 ghost use Rattle.stock_model.specs.Faults.{fault};
 ghost use Rattle.stock_model.specs.History.{settled};
-ghost use Rattle.stock_model.specs.Answers.{report};
+ghost use Rattle.stock_model.specs.Reports.{report};
 ghost use Rattle.stock_model.specs.Worked.{item_b, store_w1, receipt_of, first_journal, first_history, balance_sheet, ten_b};
 
 /// The empty input has no line to answer.
@@ -38,7 +38,7 @@ pub fn first_refusals()
 {}
 
 /// The balance sheet before and after the three records are published.
-#[tactic(auto, unfolding(crate::specs::Answers::selected, crate::specs::Replay::replay, crate::specs::PostingOrder::posting_line, crate::specs::Entries::all_entries, crate::specs::Sheets::balance))]
+#[tactic(auto, unfolding(crate::specs::Reports::selected, crate::specs::Replay::replay, crate::specs::PostingOrder::posting_line, crate::specs::Entries::all_entries, crate::specs::Sheets::balance))]
 pub fn first_reports()
     ensures before { report first_history balance_sheet ≡ Balance (record { 0 = 0 }) [] }
     ensures published { settled first_history ≡ first_history ++ Published (record { 0 = 3 }) ∷ [] }

@@ -2,6 +2,7 @@
 use Rattle.std.specs.Prelude.{ℕ, Bool, ◌&&◌, ◌||◌, ◌==◌, nat_le, List, length, string_bytes}
 use Rattle.std.specs.List.{list_all}
 use Rattle.stock_nums.specs.declared.code.Spelling.{Spelling}
+use Rattle.stock_nums.specs.declared.limits.TheConstants.{MAX_CODE}
 use Rattle.stock_nums.specs.declared.code.Spelling.TheVariants.{Short, Long}
 
 -- the bytes of a code
@@ -21,4 +22,4 @@ is_code_byte byte =
 
 -- from 1 to 24 such bytes
 abbrev pub is_code : List ℕ → Bool
-is_code bytes = nat_le 1 (length bytes) && nat_le (length bytes) 24 && list_all is_code_byte bytes
+is_code bytes = nat_le 1 (length bytes) && nat_le (length bytes) MAX_CODE && list_all is_code_byte bytes

@@ -1,3 +1,4 @@
+pub mod Accounts
 pub mod Calendar
 pub mod Causes
 pub mod Codes

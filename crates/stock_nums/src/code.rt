@@ -1,24 +1,23 @@
-ghost use Rattle.std.specs.Prelude.{◌≡◌, IfOk};
+ghost use Rattle.std.specs.Prelude.{◌≡◌, ◌≤◌, length, IsOk, IfOk};
 ghost use Rattle.std.specs.List.{list_all};
 ghost use Rattle.stock_nums.specs.Codes.{is_code_byte, is_code};
 
+use crate::limits::MAX_CODE;
 use crate::memory::NoMemory;
 use arrayvec::ArrayString;
 use std::alloc::Global;
 use std::fmt;
 use std::marker::Model;
 
-/// The most bytes that a text may have to stand in the value itself: those of a well-formed code.
-const SHORT: usize = 24;
-
 /// Where the text of a code stands.
 #[derive(Drop)]
 pub(crate) enum Spelling {
-    Short(ArrayString<SHORT>),
+    Short(ArrayString<MAX_CODE>),
     Long(String),
 }
 
-/// The code of an item or of a warehouse: text, which contracts see as its bytes. A short one takes no memory.
+/// The code of an item or of a warehouse: text, which contracts see as its bytes. One of at most `MAX_CODE`
+/// bytes takes no memory.
 #[derive(Drop)]
 pub struct Code {
     spelling: Spelling,
@@ -34,9 +33,10 @@ impl Model for Code {
 }
 
 impl Code {
-    /// The code that is spelled so.
+    /// The code that is spelled so. A text of at most `MAX_CODE` bytes takes no memory, and so never wants it.
     pub fn of(alloc: Global, text: &str) -> Result<Code, NoMemory>
-        ensures { IfOk result (λ code. code ≡ text.now) }
+        ensures spelled { IfOk result (λ code. code ≡ text.now) }
+        ensures short { length text.now ≤ MAX_CODE → IsOk result }
     {
         let spelling = match ArrayString::from(text) {
             Ok(short) => Spelling::Short(short),
@@ -62,9 +62,10 @@ impl Code {
         has_code_shape(self.text())
     }
 
-    /// An equal code.
+    /// An equal code. One of at most `MAX_CODE` bytes takes no memory, and so never wants it.
     pub fn copy(&self, alloc: Global) -> Result<Code, NoMemory>
-        ensures { IfOk result (λ code. code ≡ self.now) }
+        ensures copy { IfOk result (λ code. code ≡ self.now) }
+        ensures short { length self.now ≤ MAX_CODE → IsOk result }
     {
         Code::of(alloc, self.text())
     }
@@ -101,7 +102,7 @@ pub fn has_code_shape(text: &str) -> bool
     ensures { result ≡ is_code text.now }
 {
     let len = text.len();
-    1 <= len && len <= 24 && are_code_bytes(text.as_bytes())
+    1 <= len && len <= MAX_CODE && are_code_bytes(text.as_bytes())
 }
 
 fn are_code_bytes(bytes: &[u8]) -> bool

@@ -7,6 +7,7 @@ pub mod entry;
 pub mod first_in;
 pub mod half_up;
 pub mod head;
+pub mod limits;
 pub mod lines;
 pub mod memory;
 pub mod moment;

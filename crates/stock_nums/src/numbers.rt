@@ -1,3 +1,8 @@
+ghost use Rattle.std.specs.Prelude.{◌≡◌};
+ghost use Rattle.stock_nums.specs.Accounts.{is_store_account};
+
+use crate::limits::{GREATEST_ACCOUNT, LEAST_ACCOUNT};
+
 /// An item, by the number of the record that made it.
 #[derive(Clone, Copy, Debug, PartialEq, Eq, PartialOrd, Ord)]
 pub struct ItemNo(pub u32);
@@ -25,3 +30,12 @@ pub struct Minor(pub i64);
 /// A quantity, in whole smallest units of the item.
 #[derive(Clone, Copy, Debug, PartialEq, Eq, PartialOrd, Ord)]
 pub struct Qty(pub u64);
+
+impl AccountNo {
+    /// Whether a warehouse may have the account: from 100 to 9999.
+    pub fn is_of_store(self) -> bool
+        ensures { result ≡ is_store_account self.0 }
+    {
+        LEAST_ACCOUNT <= self.0 && self.0 <= GREATEST_ACCOUNT
+    }
+}

@@ -1,6 +1,7 @@
 ghost use Rattle.std.specs.Prelude.{◌≡◌, ◌+◌, ◌*◌, ◌/◌, ◌<◌, ◌≤◌, ℕ, pos, ◌≤ℤ◌, unsigned_abs};
 ghost use Rattle.stock_nums.specs.Part.{part};
 
+use crate::limits::{MAX_UNITS, MAX_VALUE};
 use crate::numbers::{Minor, Qty};
 
 /// What the units taken have of a total that is spread over the whole, after those before them, in minor
@@ -8,9 +9,9 @@ use crate::numbers::{Minor, Qty};
 /// one another add up to the total.
 pub fn part(total: Minor, before: Qty, take: Qty, whole: Qty) -> Minor
     requires from_zero { pos 0 ≤ℤ total.0 }
-    requires worth { total.0 ≤ℤ pos 300_000_000_000_000_000 }
+    requires worth { total.0 ≤ℤ pos MAX_VALUE }
     requires some { 0 < whole.0 }
-    requires units { whole.0 ≤ 1_000_000_000_000_000_000 }
+    requires units { whole.0 ≤ MAX_UNITS }
     requires within { before.0 + take.0 ≤ whole.0 }
     ensures share { result.0 ≡ pos (part (unsigned_abs total.0) before.0 take.0 whole.0) }
     ensures bounds { (pos 0 ≤ℤ result.0) × (result.0 ≤ℤ total.0) }
@@ -30,9 +31,9 @@ pub fn parts_add_up()
 
 // What the first units have, rounded down.
 fn share(total: u64, first: u64, whole: u64) -> u64
-    requires worth { total ≤ 300_000_000_000_000_000 }
+    requires worth { total ≤ MAX_VALUE }
     requires some { 0 < whole }
-    requires units { whole ≤ 1_000_000_000_000_000_000 }
+    requires units { whole ≤ MAX_UNITS }
     requires within { first ≤ whole }
     ensures share { result ≡ total * first / whole }
     ensures bound { result ≤ total }

@@ -6,7 +6,7 @@ use Rattle.std.proofs.lemmas.List.{length-append}
 use Rattle.std.proofs.lemmas.List.Elements.{filter_map-append}
 use Rattle.item_master.specs.State.{MasterState}
 use Rattle.stock_model.specs.declared.records.Record.{Record}
-use Rattle.stock_model.specs.Faults.{max_records}
+use Rattle.stock_nums.specs.declared.limits.TheConstants.{MAX_RECORDS}
 use Rattle.stock_model.specs.Masters.{item_numbered, store_numbered}
 use Rattle.voucher_kinds.specs.Heads.{with_made}
 use Rattle.voucher_kinds.specs.Journals.{master_of, IsJournal}
@@ -37,7 +37,7 @@ master_of-push journal item =
     rw (filter_map-push item_numbered 1 journal item, filter_map-push store_numbered 1 journal item, at) refl
 
 -- a journal with one more record
-pub IsJournal-push : (journal new : List Record) (master with_it : MasterState) (item : Record) (n : ℕ) → IsJournal journal master → length journal < max_records
+pub IsJournal-push : (journal new : List Record) (master with_it : MasterState) (item : Record) (n : ℕ) → IsJournal journal master → length journal < MAX_RECORDS
     → n ≡ length journal + 1 → new ≡ journal ++ item ∷ [] → with_it ≡ with_made master n item.what → IsJournal new with_it
 IsJournal-push journal new master with_it item n is room number grows adds = record {
   few = rw (grows, length-append journal (item ∷ [])) (omega (arith, room));

@@ -1,6 +1,6 @@
 ghost use Rattle.std.specs.Prelude.{◌≡◌, ◌⊎◌, ◌+◌, ◌<◌, ◌≤◌, [], ◌∷◌, ◌++◌, length, take, IfOk, OnOk, OnErr, IfErr, Some, None};
 ghost use Rattle.std.specs.Option.{option_copied};
-ghost use Rattle.stock_model.specs.Faults.{max_records, voucher_fault};
+ghost use Rattle.stock_model.specs.Faults.{voucher_fault};
 ghost use Rattle.stock_model.specs.Entries.{entries, entries_of};
 ghost use Rattle.stock_model.specs.Masters.{record_at};
 
@@ -15,12 +15,10 @@ use stock_model::{movements, refusals};
 use stock_nums::cause::Method;
 use stock_nums::code::Code;
 use stock_nums::entry::Entry;
+use stock_nums::limits::MAX_RECORDS;
 use stock_nums::lines::Lines;
 use stock_nums::memory::NoMemory;
 use stock_nums::numbers::{AccountNo, ItemNo, RecordNo, StoreNo};
-
-/// How many records a journal holds at most.
-pub const MAX_RECORDS: usize = 50_000;
 
 /// The accepted records in the order of their numbers, and their items and warehouses, which are found
 /// without going over the records. Contracts see it as the list of the records.
@@ -66,23 +64,40 @@ impl Journal {
     }
 
     /// The movements that the record would make as the next one, or its first fault, whatever room there is.
+    /// A fault takes no memory, so want of memory comes only where there is none.
     pub fn check(&self, alloc: Global, item: &Record) -> Result<Lines<Entry>, PostFault>
         ensures sound { OnOk result (voucher_fault self.now item.now.what ≡ None) }
         ensures entries { IfOk result (λ es. es ≡ entries self.now item.now) }
-        ensures fault { IfErr result (λ f. (f ≡ PostFault.NoMemory) ⊎ (voucher_fault self.now item.now.what ≡ Some f)) }
+        ensures fault { IfErr result (λ f. (f ≡ PostFault.NoMemory) × (voucher_fault self.now item.now.what ≡ None)
+            ⊎ (voucher_fault self.now item.now.what ≡ Some f)) }
     {
-        if let Some(fault) = refusals::voucher_fault(self, item) {
+        if let Some(fault) = self.fault(item) {
             return Err(fault);
         }
-        match movements::entries(alloc, self, self.next(), item) {
+        match self.next_entries(alloc, item) {
             Ok(entries) => Ok(entries),
             Err(_) => Err(PostFault::NoMemory),
         }
     }
 
+    /// The first fault of the record as the next one, whatever room there is. It takes no memory.
+    pub fn fault(&self, item: &Record) -> Option<PostFault>
+        ensures { result ≡ voucher_fault self.now item.now.what }
+    {
+        refusals::voucher_fault(self, item)
+    }
+
+    /// The movements that the record would make as the next one. A line whose item or warehouse is unknown makes
+    /// none.
+    pub fn next_entries(&self, alloc: Global, item: &Record) -> Result<Lines<Entry>, NoMemory>
+        ensures { IfOk result (λ es. es ≡ entries self.now item.now) }
+    {
+        movements::entries(alloc, self, self.next(), item)
+    }
+
     /// Keeps a record that has no fault, and answers its number. A refusal changes nothing.
     pub fn push(&mut self, item: Record) -> Result<RecordNo, NoMemory>
-        requires room { length self.old < max_records }
+        requires room { length self.old < MAX_RECORDS }
         requires sound { voucher_fault self.old item.what ≡ None }
         ensures kept { OnOk result (self.new ≡ self.old ++ item ∷ []) }
         ensures number { IfOk result (λ n. n.0 ≡ length self.new) }
@@ -122,7 +137,7 @@ impl Journal {
     /// How many records are held.
     pub fn count(&self) -> u32
         ensures count { result ≡ length self.now }
-        ensures within { length self.now ≤ max_records }
+        ensures within { length self.now ≤ MAX_RECORDS }
     {
         self.records.len() as u32
     }
@@ -130,7 +145,7 @@ impl Journal {
     /// The records in the order of their numbers.
     pub fn records(&self) -> &[Record]
         ensures records { result.now ≡ self.now }
-        ensures within { length self.now ≤ max_records }
+        ensures within { length self.now ≤ MAX_RECORDS }
     {
         self.records.as_slice()
     }

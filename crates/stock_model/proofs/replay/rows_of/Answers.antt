@@ -1,6 +1,7 @@
 use Rattle.std.proofs.Common.{◌≡◌, ◌+◌, ◌++◌, ◌∷◌, [], ◌≤◌, sym, ap, ◌∙◌, subst, List, arith}
 use Rattle.stock_nums.specs.declared.entry.Row.{Row}
-use Rattle.stock_model.specs.Bounds.{max_value, AreBounded}
+use Rattle.stock_nums.specs.declared.limits.TheConstants.{MAX_VALUE}
+use Rattle.stock_model.specs.Bounds.{AreBounded}
 use Rattle.stock_model.specs.Replay.{valued}
 use Rattle.stock_model.specs.Values.{cost_by, HasUnits}
 use Rattle.stock_model.proofs.Valuation.{Valuing, Valuing-start, Valuing-AreBounded, Valuing-cost, Valuing-HasUnits, Valuing-next, AreBounded-rows_of}
@@ -23,7 +24,7 @@ valued-row-requires-clause-held c =
 pub valued-row-requires-clause-small : goal.valued-row-requires-clause-small
 valued-row-requires-clause-small c leaves =
     let e = c.entry-item.result in
-    subst (λ (rows : List Row). cost_by e.method rows e ≤ max_value) (sym c.as_slice.ensures)
+    subst (λ (rows : List Row). cost_by e.method rows e ≤ MAX_VALUE) (sym c.as_slice.ensures)
     (Valuing-cost c.loop-entry.invariant.0.0 c.args.line.now c.loop-entry.rows c.loop-entry.entry-index e c.loop-entry.invariant.1 c.loop-entry-test.true c.entry-item.is c.loop-entry.invariant.0.1 c.requires.enough c.requires.few leaves)
 
 pub loop-entry-preserved : goal.loop-entry-preserved

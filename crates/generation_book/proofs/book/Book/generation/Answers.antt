@@ -2,7 +2,7 @@
 use Rattle.std.proofs.Common.{◌≡◌, filter, take, sym, ap, ◌∙◌, subst, refl}
 use Rattle.generation_book.specs.State.{BookState}
 use Rattle.generation_book.specs.Book.{deeds}
-use Rattle.stock_model.specs.Answers.{is_until, selected}
+use Rattle.stock_model.specs.Reports.{is_until, selected}
 use Rattle.stock_model.specs.Bounds.{AreBounded}
 use Rattle.stock_model.proofs.Until.{AreBounded-until}
 use Rattle.generation_book.proofs.Books.{history-records, history-covered}

@@ -1,5 +1,5 @@
 -- A record without a fault is kept.
-use Rattle.std.proofs.Common.{◌≡◌, [], ◌∷◌, ◌++◌, length-append, ap, ◌∙◌, subst, arith, length, None, List}
+use Rattle.std.proofs.Common.{◌≡◌, [], ◌∷◌, ◌++◌, length-append, ap, ◌∙◌, subst, arith, length, None, List, inl, refl}
 use Rattle.stock_model.specs.declared.records.Record.{Record}
 use Rattle.stock_model.specs.Faults.{fault}
 use Rattle.stock_model.specs.History as history
@@ -10,7 +10,7 @@ use Rattle.generation_book.specs.State.{BookState}
 use Rattle.generation_book.specs.Book.{deeds}
 use Rattle.generation_book.specs.declared.events.Event.{Event}
 use Rattle.generation_book.specs.declared.events.Event.TheVariants.{Kept}
-use Rattle.generation_book.proofs.Books.{records-deeds, history-records, NoFault-from, IsBook-kept, deeds-kept, put_all-entries, entries-own_places, entries-enough}
+use Rattle.generation_book.proofs.Books.{records-deeds, history-records, NoFault-from, IsBook-kept, deeds-kept, put_all-entries, entries-own_places, entries-enough, at_once-none}
 use Rattle.generation_book.proofs.book.Book.post.Goals as goal
 
 pub push-requires-clause-room : goal.push-requires-clause-room
@@ -74,3 +74,12 @@ returns-clause-number c =
 
 pub returns-clause-legal : goal.returns-clause-legal
 returns-clause-legal c = (invariant_of-self-2 c).legal
+
+pub returns-then-is_err-clause-fault : goal.returns-then-is_err-clause-fault
+returns-then-is_err-clause-fault c = inl (refl, at_once-none _ c.args.item c.in-Ok.ensures.sound)
+
+pub returns-then-is_err-2-clause-fault : goal.returns-then-is_err-2-clause-fault
+returns-then-is_err-2-clause-fault c = inl (refl, at_once-none _ c.args.item c.in-Ok.ensures.sound)
+
+pub returns-in_default-clause-fault : goal.returns-in_default-clause-fault
+returns-in_default-clause-fault c = inl (refl, at_once-none _ c.args.item c.in-Ok.ensures.sound)

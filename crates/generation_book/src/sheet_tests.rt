@@ -1,0 +1,142 @@
+//! A journal from its posting line to its balance sheet and its layers.
+ghost use Rattle.std.specs.Prelude.{◌^◌, ◌<◌, length, IsTrue, IfOk, IfSome};
+ghost use Rattle.stock_nums.specs.Calendar.{IsCalendarDate};
+ghost use Rattle.stock_model.specs.Bounds.{AreBounded};
+ghost use Rattle.stock_model.specs.Limits.{is_within_limits};
+
+use quantity_check::holdings::first_shortage;
+use std::alloc::Global;
+use std::test::Fail;
+use stock_model::enough_laws::no_shortage_is_enough;
+use stock_model::layers::layers;
+use stock_model::masters::heads;
+use stock_model::posting::posting_line;
+use stock_model::queries::{Query, Selected, Sheet};
+use stock_model::records::Record;
+use stock_model::replay::replay;
+use stock_model::sheets::balance;
+use stock_model::vouchers::{IssueLine, Purpose, ReceiptLine, What};
+use stock_nums::cause::Method;
+use stock_nums::code::Code;
+use stock_nums::entry::Row;
+use stock_nums::lines::Lines;
+use stock_nums::memory::NoMemory;
+use stock_nums::moment::Moment;
+use stock_nums::numbers::{AccountNo, DeskNo, Minor, Qty, RecordNo};
+
+fn record_of(what: What) -> Record
+    requires { IsTrue (is_within_limits what) }
+{
+    Record {
+        desk: DeskNo(1),
+        what,
+    }
+}
+
+// Units of B into W1, 100 each.
+fn receipt(alloc: Global, date: u32, units: u8) -> Result<Record, NoMemory>
+    requires date { IsCalendarDate date }
+    requires units { 0 < units }
+{
+    let mut lines = Lines::new(alloc);
+    lines.push(ReceiptLine {
+        item: Code::of(alloc, "B")?,
+        store: Code::of(alloc, "W1")?,
+        qty: Qty(u64::from(units)),
+        amount: Minor(100 * i64::from(units)),
+    })?;
+    let at = Moment { date, second: 0 };
+    Ok(record_of(What::Receipt { at, lines }))
+}
+
+fn journal(alloc: Global) -> Result<Lines<Record>, NoMemory> {
+    let mut records = Lines::new(alloc);
+    records.push(record_of(What::Item {
+        code: Code::of(alloc, "B")?,
+        method: Method::Average,
+    }))?;
+    records.push(record_of(What::Store {
+        code: Code::of(alloc, "W1")?,
+        account: AccountNo(100),
+    }))?;
+    records.push(receipt(alloc, 20_260_102, 10)?)?;
+    records.push(sale(alloc, 20_260_103)?)?;
+    records.push(receipt(alloc, 20_260_101, 5)?)?;
+    Ok(records)
+}
+
+// One unit of B out of W1.
+fn sale(alloc: Global, date: u32) -> Result<Record, NoMemory>
+    requires { IsCalendarDate date }
+{
+    let mut lines = Lines::new(alloc);
+    lines.push(IssueLine {
+        item: Code::of(alloc, "B")?,
+        store: Code::of(alloc, "W1")?,
+        qty: Qty(1),
+    })?;
+    let at = Moment { date, second: 0 };
+    let purpose = Purpose::Sold;
+    Ok(record_of(What::Issue { at, purpose, lines }))
+}
+
+// The rows of the records, where these are few and there is always enough.
+fn rows_of_all(alloc: Global, records: &[Record]) -> Result<Option<Lines<Row>>, NoMemory>
+    requires { length records.now < 2 ^ 32 }
+    ensures { IfOk result (λ found. IfSome found AreBounded) }
+{
+    let line = posting_line(alloc, records)?;
+    if line.len() > 4000 || first_shortage(alloc, line.as_slice())?.is_some() {
+        return Ok(None);
+    }
+    no_shortage_is_enough();
+    Ok(Some(replay(alloc, records)?))
+}
+
+// The record of each movement, and its value.
+fn told(rows: &[Row]) -> Option<[(u32, i64); 3]> {
+    match rows {
+        [a, b, c] => Some([a, b, c].map(|row| (row.entry.place.voucher.0, row.worth.value.0))),
+        _ => None,
+    }
+}
+
+#[test]
+fn a_receipt_of_the_day_before(rt: HostRuntime) -> Result<(), Fail> {
+    let alloc = rt.alloc();
+    let records = journal(alloc)?;
+    assert_eq!(rt; records.len(), 5);
+    let Some(rows) = rows_of_all(alloc, records.as_slice())? else {
+        assert!(rt; false);
+        return Ok(());
+    };
+    assert_eq!(rt;
+        told(rows.as_slice()),
+        Some([(5, 500), (3, 1000), (4, 100)])
+    );
+    let selected = Selected {
+        covered: RecordNo(5),
+        rows,
+        heads: heads(alloc, records.as_slice())?,
+    };
+    let query = Query {
+        sheet: Sheet::Balance,
+        need: RecordNo(0),
+        until: None,
+        item: Some(Code::of(alloc, "B")?),
+        store: None,
+    };
+    let sheet = balance(alloc, &query, &selected)?;
+    assert_eq!(rt; sheet.len(), 1);
+    let row = &sheet.as_slice()[0];
+    assert_eq!(rt; row.item.text(), "B");
+    assert_eq!(rt; row.store.text(), "W1");
+    assert_eq!(rt; row.qty, Qty(14));
+    assert_eq!(rt; row.value, Minor(1400));
+    let shown = layers(alloc, &query, &selected)?;
+    assert_eq!(rt; shown.len(), 1);
+    let row = &shown.as_slice()[0];
+    assert_eq!(rt; (row.voucher, row.line), (RecordNo(0), 0));
+    assert_eq!(rt; (row.qty, row.value), (Qty(14), Minor(1400)));
+    Ok(())
+}

@@ -1,0 +1,74 @@
+-- What a report is answered at a point of the history: a function of the history and the request.
+use Rattle.std.specs.Prelude.{Bool, true, not, List, filter, nat_lt, nat_le, if◌then◌else◌, Option, Some, None}
+use Rattle.stock_nums.specs.Places.{first_by}
+use Rattle.stock_nums.specs.declared.entry.Row.{Row}
+use Rattle.stock_nums.specs.declared.moment.Moment.{Moment}
+use Rattle.stock_nums.specs.declared.numbers.RecordNo.{RecordNo}
+use Rattle.stock_model.specs.declared.deeds.Deed.{Deed}
+use Rattle.stock_model.specs.declared.queries.Query.{Query}
+use Rattle.stock_model.specs.declared.queries.Sheet.{Sheet}
+use Rattle.stock_model.specs.declared.queries.Sheet.TheVariants as sheet
+use Rattle.stock_model.specs.declared.queries.Selected.{Selected}
+use Rattle.stock_model.specs.declared.queries.Need.{Need}
+use Rattle.stock_model.specs.declared.queries.Need.TheVariants as need
+use Rattle.stock_model.specs.declared.queries.SelectFault.{SelectFault}
+use Rattle.stock_model.specs.declared.queries.SelectFault.TheVariants as unmet
+use Rattle.stock_model.specs.declared.replies.Reply.{Reply}
+use Rattle.stock_model.specs.declared.replies.Reply.TheVariants.{Pending, NoSuchRecord, Balance, Layers}
+use Rattle.stock_model.specs.Masters.{heads}
+use Rattle.stock_model.specs.Replay.{replay}
+use Rattle.stock_model.specs.History.{accepted, covered, covered_records}
+use Rattle.stock_model.specs.Sheets.{balance}
+use Rattle.stock_model.specs.Layers.{layers}
+
+-- the first moment is after the second
+abbrev pub is_later : Moment → Moment → Bool
+is_later a b = first_by b.date a.date (nat_lt b.second a.second)
+
+-- the movement's moment is not after this one, where there is one
+abbrev pub is_until : Option Moment → Row → Bool
+is_until None row = true
+is_until (Some until) row = not (is_later row.entry.place.moment until)
+
+-- what a report is made from: the replay of the covered records up to the last moment that is asked for, and the
+-- items and warehouses of these records
+unfoldable pub selected : List Deed → Query → Selected
+selected history query =
+    record {
+      covered = record { 0 = covered history };
+      rows = filter (is_until query.until) (replay (covered_records history));
+      heads = heads (covered_records history);
+    }
+
+-- the record that a report has to cover, 0 for none
+abbrev pub need_of : Query → RecordNo
+need_of query = query.need
+
+-- whether the reports cover the record that this one has to cover: it is covered, or accepted and not covered yet,
+-- or not accepted
+abbrev pub need_at : List Deed → Query → Need
+need_at history query =
+    if nat_le (need_of query).0 (covered history) then need.Ready
+    else (if nat_le (need_of query).0 (accepted history)
+    then need.Pending (record { 0 = covered history }) (need_of query)
+    else need.NoSuchRecord (record { 0 = accepted history }) (need_of query))
+
+-- why nothing is selected where the need isn't met
+abbrev pub unmet_need : Need → Option SelectFault
+unmet_need need.Ready = None
+unmet_need (need.Pending covered wanted) = Some (unmet.Pending covered wanted)
+unmet_need (need.NoSuchRecord accepted wanted) = Some (unmet.NoSuchRecord accepted wanted)
+
+abbrev pub sheet_reply : Query → Sheet → Selected → Reply
+sheet_reply query sheet.Balance chosen = Balance chosen.covered (balance query chosen)
+sheet_reply query sheet.Layers chosen = Layers chosen.covered (layers query chosen)
+
+-- the answer to a report whose need is so met
+abbrev pub report_by : Need → List Deed → Query → Reply
+report_by need.Ready history query = sheet_reply query query.sheet (selected history query)
+report_by (need.Pending covered wanted) history query = Pending covered wanted
+report_by (need.NoSuchRecord accepted wanted) history query = NoSuchRecord accepted wanted
+
+-- the answer to a report
+abbrev pub report : List Deed → Query → Reply
+report history query = report_by (need_at history query) history query
