@@ -1,4 +1,5 @@
 ghost use Rattle.std.specs.Prelude.{◌≡◌, ◌≤◌, IsTrue, IfOk};
+ghost use Rattle.stock_nums.specs.declared.limits.TheConstants.{MAX_DESK};
 ghost use Rattle.stock_model.specs.Limits.{is_within_limits};
 
 use crate::vouchers::What;
@@ -12,7 +13,7 @@ pub struct Record {
     /// The desk that posted it, from 0 to 16. 0 is the input of a batch.
     pub desk: DeskNo,
     pub what: What,
-    pub ghost desks: { desk.0 ≤ 16 },
+    pub ghost desks: { desk.0 ≤ MAX_DESK },
     pub ghost limits: { IsTrue (is_within_limits what) },
 }
 

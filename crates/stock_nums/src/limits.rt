@@ -19,10 +19,10 @@ pub const LEAST_ACCOUNT: u32 = 100;
 pub const GREATEST_ACCOUNT: u32 = 9_999;
 
 /// The largest number that a record may say for an account. The book refuses what no warehouse may have.
-pub const MAX_SAID_ACCOUNT: u32 = 1_000_000_000;
+pub const MAX_SAID_ACCOUNT: u64 = 1_000_000_000;
 
 /// The greatest number of a desk. 0 stands for the input of a batch.
-pub const MAX_DESK: u32 = 16;
+pub const MAX_DESK: u64 = 16;
 
 /// The most records of a journal.
 pub const MAX_RECORDS: usize = 50_000;

@@ -24,7 +24,7 @@ use Rattle.voucher_json.specs.Fields.{IsObject, IsText, choose, IsWord, items_co
 use Rattle.voucher_json.specs.Records.{record_kinds, methods, purposes, IsItem, IsStore, IsReceiptLine, IsIssueLine, IsReceipt, IsIssue, IsWhat}
 use Rattle.voucher_json.specs.RecordTexts.{record_text}
 use Rattle.voucher_json.specs.Requests.{kinds, sheets, formats, IsReport, IsOfKind, IsRequest, IsReadAs}
-use Rattle.voucher_json.specs.StoredRecords.{record_fields, IsRecord, IsOtherSpelling, IsRecordReadAs}
+use Rattle.voucher_json.specs.StoredRecords.{record_fields, IsRecord, IsRecordReadAs}
 use Rattle.voucher_json.specs.Texts.{IsJson, IsWalked}
 use Rattle.voucher_json.specs.declared.kinds.Kind.{Kind}
 use Rattle.voucher_json.specs.declared.kinds.Kind.TheVariants as kind_of
@@ -335,28 +335,10 @@ no_memory_read at_desk text = (both _ _ (one_json text) (one_request at_desk)).m
 one_walk : (text : List ℕ) → IsDecided (IsWalked IsRecord text)
 one_walk text = both _ _ (one_json text) one_record
 
-walks_apart : (text : List ℕ) (found : Record) (fault : ReadFault) → IsWalked IsRecord text (Ok found) → IsWalked IsRecord text (Err fault) → ⊥
-walks_apart text found fault is_a is_b = let same : Ok found ≡ Err fault = (one_walk text).one _ _ is_a is_b in cc
-
-spelled_apart : (text : List ℕ) (found : Record) (fault : ReadFault) → IsWalked IsRecord text (Ok found) → text ≡ record_text found → IsOtherSpelling text fault → ⊥
-spelled_apart text found fault is written other =
-    let same : Ok found ≡ Ok other.found = (one_walk text).one _ _ is other.walked in
-    let one : found ≡ other.found = cc in
-    other.other (written ∙ ap record_text one)
-
 -- a stored text is read in one way at most
 pub one_record_reading : (text : List ℕ) (a b : Result Record ReadFault) → IsRecordReadAs text a → IsRecordReadAs text b → a ≡ b
-one_record_reading text (Ok x) (Ok y) is_a is_b = (one_walk text).one _ _ is_a.0 is_b.0
-one_record_reading text (Ok x) (Err g) is_a (inl is_b) = absurd (walks_apart text x g is_a.0 is_b)
-one_record_reading text (Ok x) (Err g) is_a (inr is_b) = absurd (spelled_apart text x g is_a.0 is_a.1 is_b)
-one_record_reading text (Err f) (Ok y) (inl is_a) is_b = absurd (walks_apart text y f is_b.0 is_a)
-one_record_reading text (Err f) (Ok y) (inr is_a) is_b = absurd (spelled_apart text y f is_b.0 is_b.1 is_a)
-one_record_reading text (Err f) (Err g) (inl is_a) (inl is_b) = (one_walk text).one _ _ is_a is_b
-one_record_reading text (Err f) (Err g) (inl is_a) (inr is_b) = absurd (walks_apart text is_b.found f is_b.walked is_a)
-one_record_reading text (Err f) (Err g) (inr is_a) (inl is_b) = absurd (walks_apart text is_a.found g is_a.walked is_b)
-one_record_reading text (Err f) (Err g) (inr is_a) (inr is_b) = ap Err (is_a.bad ∙ sym is_b.bad)
+one_record_reading text = (one_walk text).one
 
 -- no stored text is read as want of memory
 pub no_memory_record : (text : List ℕ) → IsRecordReadAs text (Err NoMemory) → ⊥
-no_memory_record text (inl is) = (one_walk text).memory is
-no_memory_record text (inr is) = let bad = is.bad in cc
+no_memory_record text = (one_walk text).memory

@@ -24,8 +24,8 @@ use Rattle.json.proofs.Printed.Strings.{escape_byte_plain, content-escape, lex-e
 use Rattle.serde_json.specs.Data.{unsigned}
 use Rattle.serde_json.specs.Read.{number_of}
 use Rattle.voucher_json.specs.PlainTokens.{tokens_at, may_begin, may_close, is_blank, follows_value, IsQuotedText, IsNumeral}
-use Rattle.voucher_json.specs.declared.plain_reader.Place.{Place}
-use Rattle.voucher_json.specs.declared.plain_reader.Place.TheVariants.{Fresh, AfterComma, AfterValue}
+use Rattle.voucher_json.specs.declared.plain_reader.Position.{Position}
+use Rattle.voucher_json.specs.declared.plain_reader.Position.TheVariants.{Fresh, AfterComma, AfterValue}
 
 spaced : (x : ℕ) (xs : List ℕ) → class x ≡ space → lex between (x ∷ xs) ≡ lex between xs
 unfolding lex
@@ -139,43 +139,43 @@ number_more d n some digit =
 -- ---- tokens at the front of a text, in which blanks were passed
 
 module _ (whole front rest : List ℕ) (same : lex between front ≡ lex between whole) where
-  pub object_opens : (p : Place) → may_begin p ≡ true → front ≡ 123 ∷ rest → tokens_at p whole ≡ begin_object ∷ tokens_at Fresh rest
+  pub object_opens : (p : Position) → may_begin p ≡ true → front ≡ 123 ∷ rest → tokens_at p whole ≡ begin_object ∷ tokens_at Fresh rest
   unfolding lex punctuate
   object_opens Fresh may is = rw (← same, is) refl
   object_opens AfterComma may is = rw (← same, is) refl
   object_opens AfterValue may is = absurd (false≢true may)
 
-  pub list_opens : (p : Place) → may_begin p ≡ true → front ≡ 91 ∷ rest → tokens_at p whole ≡ begin_array ∷ tokens_at Fresh rest
+  pub list_opens : (p : Position) → may_begin p ≡ true → front ≡ 91 ∷ rest → tokens_at p whole ≡ begin_array ∷ tokens_at Fresh rest
   unfolding lex punctuate
   list_opens Fresh may is = rw (← same, is) refl
   list_opens AfterComma may is = rw (← same, is) refl
   list_opens AfterValue may is = absurd (false≢true may)
 
-  pub object_closes : (p : Place) → may_close p ≡ true → front ≡ 125 ∷ rest → tokens_at p whole ≡ end_object ∷ punctuate after_value (lex between rest)
+  pub object_closes : (p : Position) → may_close p ≡ true → front ≡ 125 ∷ rest → tokens_at p whole ≡ end_object ∷ punctuate after_value (lex between rest)
   unfolding lex punctuate
   object_closes Fresh may is = rw (← same, is) refl
   object_closes AfterComma may is = absurd (false≢true may)
   object_closes AfterValue may is = rw (← same, is) refl
 
-  pub list_closes : (p : Place) → may_close p ≡ true → front ≡ 93 ∷ rest → tokens_at p whole ≡ end_array ∷ punctuate after_value (lex between rest)
+  pub list_closes : (p : Position) → may_close p ≡ true → front ≡ 93 ∷ rest → tokens_at p whole ≡ end_array ∷ punctuate after_value (lex between rest)
   unfolding lex punctuate
   list_closes Fresh may is = rw (← same, is) refl
   list_closes AfterComma may is = absurd (false≢true may)
   list_closes AfterValue may is = rw (← same, is) refl
 
-  pub key_comes : (p : Place) (name : List ℕ) → may_begin p ≡ true → escape name ≡ name → front ≡ 34 ∷ (name ++ 34 ∷ 58 ∷ rest) → tokens_at p whole ≡ key name ∷ tokens_at Fresh rest
+  pub key_comes : (p : Position) (name : List ℕ) → may_begin p ≡ true → escape name ≡ name → front ≡ 34 ∷ (name ++ 34 ∷ 58 ∷ rest) → tokens_at p whole ≡ key name ∷ tokens_at Fresh rest
   unfolding lex punctuate
   key_comes p name may plain_name is = go p may
     where
       lexes : lex between whole ≡ token (string name) ∷ lex between (58 ∷ rest)
       lexes = sym same ∙ ap (lex between) is ∙ text-lex name (58 ∷ rest) plain_name
 
-      go : (p : Place) → may_begin p ≡ true → tokens_at p whole ≡ key name ∷ tokens_at Fresh rest
+      go : (p : Position) → may_begin p ≡ true → tokens_at p whole ≡ key name ∷ tokens_at Fresh rest
       go Fresh may = rw lexes refl
       go AfterComma may = rw lexes refl
       go AfterValue may = absurd (false≢true may)
 
-  pub text_comes : (p : Place) (opened text : List ℕ) → may_begin p ≡ true → front ≡ 34 ∷ opened → IsQuotedText opened text rest → follows_value (head rest) ≡ true
+  pub text_comes : (p : Position) (opened text : List ℕ) → may_begin p ≡ true → front ≡ 34 ∷ opened → IsQuotedText opened text rest → follows_value (head rest) ≡ true
       → tokens_at p whole ≡ string text ∷ punctuate after_value (lex between rest)
   unfolding punctuate
   text_comes p opened text may is quoted ends = go p may
@@ -183,19 +183,19 @@ module _ (whole front rest : List ℕ) (same : lex between front ≡ lex between
       lexes : lex between whole ≡ token (string text) ∷ lex between rest
       lexes = sym same ∙ ap (lex between) (is ∙ ap (λ t. 34 ∷ t) quoted.parts) ∙ text-lex text rest quoted.plain
 
-      go : (p : Place) → may_begin p ≡ true → tokens_at p whole ≡ string text ∷ punctuate after_value (lex between rest)
+      go : (p : Position) → may_begin p ≡ true → tokens_at p whole ≡ string text ∷ punctuate after_value (lex between rest)
       go Fresh may = rw (lexes, no_colon rest ends) refl
       go AfterComma may = rw (lexes, no_colon rest ends) refl
       go AfterValue may = absurd (false≢true may)
 
-  pub number_comes : (p : Place) (n : ℕ) → may_begin p ≡ true → (is : IsNumeral front n rest) → tokens_at p whole ≡ number is.numeral ∷ punctuate after_value (lex between rest)
+  pub number_comes : (p : Position) (n : ℕ) → may_begin p ≡ true → (is : IsNumeral front n rest) → tokens_at p whole ≡ number is.numeral ∷ punctuate after_value (lex between rest)
   unfolding punctuate
   number_comes p n may is = go p may
     where
       lexes : lex between whole ≡ token (number is.numeral) ∷ lex between rest
       lexes = sym same ∙ ap (lex between) is.parts ∙ lex-number is.numeral rest is.number (word_ends rest is.ends)
 
-      go : (p : Place) → may_begin p ≡ true → tokens_at p whole ≡ number is.numeral ∷ punctuate after_value (lex between rest)
+      go : (p : Position) → may_begin p ≡ true → tokens_at p whole ≡ number is.numeral ∷ punctuate after_value (lex between rest)
       go Fresh may = rw lexes refl
       go AfterComma may = rw lexes refl
       go AfterValue may = absurd (false≢true may)
@@ -206,7 +206,7 @@ unfolding lex punctuate
 comma_passed text rest is = rw is refl
 
 -- no token is left
-pub at_end : (p : Place) (whole front : List ℕ) → lex between front ≡ lex between whole → may_close p ≡ true → front ≡ [] → tokens_at p whole ≡ []
+pub at_end : (p : Position) (whole front : List ℕ) → lex between front ≡ lex between whole → may_close p ≡ true → front ≡ [] → tokens_at p whole ≡ []
 unfolding lex punctuate
 at_end Fresh whole front same may is = rw (← same, is) refl
 at_end AfterComma whole front same may is = absurd (false≢true may)

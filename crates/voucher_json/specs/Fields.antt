@@ -5,6 +5,7 @@ use Rattle.serde_json.specs.Data.{Num, unsigned, negative, float, Data, Items, n
 use Rattle.serde_json.specs.Find.{as_str, as_number, as_array, as_object}
 use Rattle.stock_nums.specs.MomentText.{HasMomentShape, IsMomentInRange, SpellsMoment}
 use Rattle.stock_nums.specs.declared.moment.Moment.{Moment}
+use Rattle.stock_model.specs.Limits.{is_line_count}
 use Rattle.stock_model.specs.declared.read_faults.FieldName.{FieldName}
 use Rattle.stock_model.specs.declared.read_faults.FieldName.TheVariants as field
 use Rattle.stock_model.specs.declared.read_faults.ReadFault.{ReadFault}
@@ -59,7 +60,7 @@ items_count (item value values) = items_count values + 1
 -- the elements, of which there are 1 to 100
 abbrev pub list_outcome : FieldName → ℕ → Option Items → Result Items ReadFault
 list_outcome name line None = Err (BadField name line)
-list_outcome name line (Some values) = if nat_le 1 (items_count values) && nat_le (items_count values) 100 then Ok values else Err (Limit name line)
+list_outcome name line (Some values) = if is_line_count (items_count values) then Ok values else Err (Limit name line)
 
 -- a list of 1 to 100 elements of a form
 abbrev pub IsList : {A : Type 0} → (FieldName → ℕ → Data → Result A ReadFault → Type 0) → FieldName → ℕ → Data → Result (List A) ReadFault → Type 0

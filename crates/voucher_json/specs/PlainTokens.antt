@@ -6,21 +6,21 @@ use Rattle.json.specs.Token.{Token}
 use Rattle.json.specs.Word.{head}
 use Rattle.serde_json.specs.Data.{unsigned}
 use Rattle.serde_json.specs.Read.{number_of}
-use Rattle.voucher_json.specs.declared.plain_reader.Place.{Place}
-use Rattle.voucher_json.specs.declared.plain_reader.Place.TheVariants.{Fresh, AfterComma, AfterValue}
+use Rattle.voucher_json.specs.declared.plain_reader.Position.{Position}
+use Rattle.voucher_json.specs.declared.plain_reader.Position.TheVariants.{Fresh, AfterComma, AfterValue}
 
 -- the tokens of what is left of a text
-abbrev pub tokens_at : Place → List ℕ → List Token
+abbrev pub tokens_at : Position → List ℕ → List Token
 tokens_at Fresh rest = punctuate fresh (lex between rest)
 tokens_at AfterComma rest = punctuate after_comma (lex between rest)
 tokens_at AfterValue rest = punctuate after_value (lex between rest)
 
-abbrev pub may_begin : Place → Bool
+abbrev pub may_begin : Position → Bool
 may_begin Fresh = true
 may_begin AfterComma = true
 may_begin AfterValue = false
 
-abbrev pub may_close : Place → Bool
+abbrev pub may_close : Position → Bool
 may_close Fresh = true
 may_close AfterComma = false
 may_close AfterValue = true

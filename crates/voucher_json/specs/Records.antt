@@ -3,6 +3,7 @@
 use Rattle.std.specs.Prelude.{ℕ, ◌≡◌, List, [], ◌∷◌, ◌++◌, codes, Result, pos}
 use Rattle.serde_json.specs.Data.{Data}
 use Rattle.stock_nums.specs.declared.cause.Method.{Method}
+use Rattle.stock_nums.specs.declared.limits.TheConstants.{MAX_QUANTITY, MAX_AMOUNT, MAX_SAID_ACCOUNT}
 use Rattle.stock_nums.specs.declared.cause.Method.TheVariants.{Fifo, Average}
 use Rattle.stock_model.specs.declared.read_faults.FieldName.{FieldName}
 use Rattle.stock_model.specs.declared.read_faults.FieldName.TheVariants as field
@@ -47,7 +48,7 @@ IsItem shared value =
 abbrev pub IsStore : List FieldName → Data → Result What ReadFault → Type 0
 IsStore shared value =
     Then (Field IsText field.Code 0 value) (λ code.
-    Then (Field (IsNumber 0 1_000_000_000) field.Account 0 value) (λ account.
+    Then (Field (IsNumber 0 MAX_SAID_ACCOUNT) field.Account 0 value) (λ account.
     Then (NoOther (shared ++ field.Code ∷ field.Account ∷ []) 0 value) (λ none.
     Ends (Store code (record { 0 = account })))))
 
@@ -57,8 +58,8 @@ IsReceiptLine name place value =
     Then (IsObject name place value) (λ is_one.
     Then (Field IsText field.Item place value) (λ item.
     Then (Field IsText field.Store place value) (λ store.
-    Then (Field (IsNumber 1 1_000_000_000) field.Qty place value) (λ qty.
-    Then (Field (IsNumber 0 1_000_000_000_000) field.Amount place value) (λ amount.
+    Then (Field (IsNumber 1 MAX_QUANTITY) field.Qty place value) (λ qty.
+    Then (Field (IsNumber 0 MAX_AMOUNT) field.Amount place value) (λ amount.
     Then (NoOther (field.Item ∷ field.Store ∷ field.Qty ∷ field.Amount ∷ []) place value) (λ none.
     Yields (λ line. (line.item ≡ item) × (line.store ≡ store) × (line.qty.0 ≡ qty) × (line.amount.0 ≡ pos amount))))))))
 
@@ -68,7 +69,7 @@ IsIssueLine name place value =
     Then (IsObject name place value) (λ is_one.
     Then (Field IsText field.Item place value) (λ item.
     Then (Field IsText field.Store place value) (λ store.
-    Then (Field (IsNumber 1 1_000_000_000) field.Qty place value) (λ qty.
+    Then (Field (IsNumber 1 MAX_QUANTITY) field.Qty place value) (λ qty.
     Then (NoOther (field.Item ∷ field.Store ∷ field.Qty ∷ []) place value) (λ none.
     Yields (λ line. (line.item ≡ item) × (line.store ≡ store) × (line.qty.0 ≡ qty)))))))
 

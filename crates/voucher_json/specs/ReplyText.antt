@@ -1,6 +1,6 @@
 -- The texts of the replies: JSON objects with no space, their members in byte order of their keys.
-use Rattle.std.specs.Prelude.{ℕ, List, [], ◌∷◌, ◌++◌, map, codes}
-use Rattle.serde_json.specs.Data.{Data, null, string, number, unsigned, array, object, Items, no_members, member}
+use Rattle.std.specs.Prelude.{ℕ, ℤ, List, [], ◌∷◌, ◌++◌, map, codes}
+use Rattle.serde_json.specs.Data.{Data, null, string, number, unsigned, array, object, Items, Members, no_members, member}
 use Rattle.serde_json.specs.Find.{of_integer}
 use Rattle.serde_json.specs.Written.{compact_text}
 use Rattle.serde_json.specs.View.{items_of}
@@ -17,31 +17,55 @@ use Rattle.stock_model.specs.declared.replies.Reply.{Reply}
 use Rattle.stock_model.specs.declared.replies.Reply.TheVariants.{Accepted, Refused, Short, Pending, NoSuchRecord, Worked, Settled, Balance, Layers, Long, Bad, StoreFailed, MemoryFailed, Http}
 use Rattle.voucher_json.specs.FieldNames.{field_text}
 
--- a fault and the status alone: {"fault":..,"status":..}
+-- a field of an object: its name, and a text, a count, a signed amount, or a list
+abbrev pub Member : Type 0
+Member = List ℕ × Data
+
+abbrev pub text : List ℕ → List ℕ → Member
+text name value = (name, string value)
+
+abbrev pub count : List ℕ → ℕ → Member
+count name n = (name, number (unsigned n))
+
+abbrev pub amount : List ℕ → ℤ → Member
+amount name z = (name, number (of_integer z))
+
+abbrev pub rows : Items → Member
+rows values = (codes "rows", array values)
+
+abbrev pub status : List ℕ → Member
+status value = text (codes "status") value
+
+abbrev pub members_of : List Member → Members
+members_of [] = no_members
+members_of (m ∷ ms) = member m.0 m.1 (members_of ms)
+
+-- the object with these fields, in this order
+abbrev pub object_of : List Member → Data
+object_of ms = object (members_of ms)
+
+-- a fault and the status alone
 abbrev pub fault_data : List ℕ → List ℕ → Data
-fault_data fault status = object (member (codes "fault") (string fault) (member (codes "status") (string status) no_members))
+fault_data fault outcome = object_of (text (codes "fault") fault ∷ status outcome ∷ [])
 
--- a fault of the whole record: {"fault":..,"status":"refused"}
+-- a fault of the whole record
 abbrev pub record_fault_data : List ℕ → Data
-record_fault_data name = fault_data name (codes "refused")
+record_fault_data fault = fault_data fault (codes "refused")
 
--- a fault of a line, from 1: {"fault":..,"line":..,"status":"refused"}
+-- a fault of a line, from 1
 abbrev pub line_fault_data : List ℕ → ℕ → Data
-line_fault_data name line = object (member (codes "fault") (string name) (member (codes "line") (number (unsigned line)) (member (codes "status") (string (codes "refused")) no_members)))
+line_fault_data fault line = object_of (text (codes "fault") fault ∷ count (codes "line") line ∷ status (codes "refused") ∷ [])
 
--- {"asked":..,"fault":"over-return","left":..,"line":..,"status":"refused"}
+-- more was asked to be returned than is left of the target of a line
 abbrev pub over_return_data : ℕ → ℕ → ℕ → Data
 over_return_data line asked left =
-    object
-    (member (codes "asked") (number (unsigned asked))
-    (member (codes "fault") (string (codes "over-return"))
-    (member (codes "left") (number (unsigned left))
-    (member (codes "line") (number (unsigned line))
-    (member (codes "status") (string (codes "refused")) no_members)))))
+    object_of
+    (count (codes "asked") asked ∷ text (codes "fault") (codes "over-return") ∷ count (codes "left") left ∷ count (codes "line") line ∷ status (codes "refused") ∷ [])
 
--- {"entries":..,"fault":"full","records":..,"status":"refused"}
+-- so many records and movements are held
 abbrev pub full_data : ℕ → ℕ → Data
-full_data records entries = object (member (codes "entries") (number (unsigned entries)) (member (codes "fault") (string (codes "full")) (member (codes "records") (number (unsigned records)) (member (codes "status") (string (codes "refused")) no_members))))
+full_data records entries =
+    object_of (count (codes "entries") entries ∷ text (codes "fault") (codes "full") ∷ count (codes "records") records ∷ status (codes "refused") ∷ [])
 
 -- a shortage has a reply of its own, and a failed keeper and want of memory have no refusal
 abbrev pub refusal_data : PostFault → Data
@@ -61,14 +85,10 @@ refusal_data (fault_of.Short place item store lacking) = null
 refusal_data fault_of.KeeperFailed = null
 refusal_data fault_of.NoMemory = null
 
--- {"fault":..,"field":..,"line":..,"status":"bad"}, where the line is 0 for a field of the outer object
+-- a field of a line of input is wrong; the line is 0 for a field of the outer object
 abbrev pub field_fault_data : List ℕ → FieldName → ℕ → Data
 field_fault_data fault name line =
-    object
-    (member (codes "fault") (string fault)
-    (member (codes "field") (string (field_text name))
-    (member (codes "line") (number (unsigned line))
-    (member (codes "status") (string (codes "bad")) no_members))))
+    object_of (text (codes "fault") fault ∷ text (codes "field") (field_text name) ∷ count (codes "line") line ∷ status (codes "bad") ∷ [])
 
 -- why a text is no request; want of memory is none of it
 abbrev pub bad_data : ReadFault → Data
@@ -77,57 +97,57 @@ bad_data (unread.BadField name line) = field_fault_data (codes "bad-field") name
 bad_data (unread.Limit name line) = field_fault_data (codes "limit") name line
 bad_data unread.NoMemory = null
 
--- {"at":..,"fault":"short","item":..,"lacking":..,"line":..,"record":..,"status":"refused","store":..}
+-- at this place so many units of the item are lacking in the warehouse
 abbrev pub short_data : Place → List ℕ → List ℕ → ℕ → Data
 short_data place item store lacking =
-    object
-    (member (codes "at") (string (moment_text place.moment))
-    (member (codes "fault") (string (codes "short"))
-    (member (codes "item") (string item)
-    (member (codes "lacking") (number (unsigned lacking))
-    (member (codes "line") (number (unsigned place.line))
-    (member (codes "record") (number (unsigned place.voucher.0))
-    (member (codes "status") (string (codes "refused"))
-    (member (codes "store") (string store) no_members))))))))
+    object_of
+    (text (codes "at") (moment_text place.moment) ∷ text (codes "fault") (codes "short") ∷ text (codes "item") item
+    ∷ count (codes "lacking") lacking ∷ count (codes "line") place.line ∷ count (codes "record") place.voucher.0
+    ∷ status (codes "refused") ∷ text (codes "store") store ∷ [])
 
--- {"item":..,"qty":..,"store":..,"value":..}
+-- a row of the balance
 abbrev pub row_data : BalanceRow → Data
-row_data row = object (member (codes "item") (string row.item) (member (codes "qty") (number (unsigned row.qty.0)) (member (codes "store") (string row.store) (member (codes "value") (number (of_integer row.value.0)) no_members))))
+row_data row =
+    object_of
+    (text (codes "item") row.item ∷ count (codes "qty") row.qty.0 ∷ text (codes "store") row.store ∷ amount (codes "value") row.value.0 ∷ [])
 
 -- the rows, one after another
 abbrev pub rows_data : List BalanceRow → Items
-rows_data rows = items_of (map row_data rows)
+rows_data shown = items_of (map row_data shown)
 
--- {"item":..,"line":..,"qty":..,"record":..,"store":..,"value":..}
+-- a row of the layers
 abbrev pub layer_data : LayerRow → Data
 layer_data row =
-    object
-    (member (codes "item") (string row.item)
-    (member (codes "line") (number (unsigned row.line))
-    (member (codes "qty") (number (unsigned row.qty.0))
-    (member (codes "record") (number (unsigned row.voucher.0))
-    (member (codes "store") (string row.store)
-    (member (codes "value") (number (of_integer row.value.0)) no_members))))))
+    object_of
+    (text (codes "item") row.item ∷ count (codes "line") row.line ∷ count (codes "qty") row.qty.0
+    ∷ count (codes "record") row.voucher.0 ∷ text (codes "store") row.store ∷ amount (codes "value") row.value.0 ∷ [])
 
 -- the layers, one after another
 abbrev pub layers_data : List LayerRow → Items
-layers_data rows = items_of (map layer_data rows)
+layers_data shown = items_of (map layer_data shown)
 
--- a sheet of this name: {"covered":..,"report":..,"rows":[..],"status":"ok"}
+-- a sheet of this name
 abbrev pub sheet_data : List ℕ → ℕ → Items → Data
-sheet_data name covered rows = object (member (codes "covered") (number (unsigned covered)) (member (codes "report") (string name) (member (codes "rows") (array rows) (member (codes "status") (string (codes "ok")) no_members))))
+sheet_data name covered shown =
+    object_of (count (codes "covered") covered ∷ text (codes "report") name ∷ rows shown ∷ status (codes "ok") ∷ [])
+
+-- how many records are covered, and the status
+abbrev pub covered_data : ℕ → List ℕ → Data
+covered_data covered outcome = object_of (count (codes "covered") covered ∷ status outcome ∷ [])
 
 -- the JSON value of a reply
 abbrev pub reply_data : Reply → Data
-reply_data (Accepted number_of_it) = object (member (codes "record") (number (unsigned number_of_it.0)) (member (codes "status") (string (codes "accepted")) no_members))
+reply_data (Accepted record_no) = object_of (count (codes "record") record_no.0 ∷ status (codes "accepted") ∷ [])
 reply_data (Refused fault) = refusal_data fault
 reply_data (Short place item store lacking) = short_data place item store lacking.0
-reply_data (Pending covered wanted) = object (member (codes "covered") (number (unsigned covered.0)) (member (codes "need") (number (unsigned wanted.0)) (member (codes "status") (string (codes "pending")) no_members)))
-reply_data (NoSuchRecord accepted wanted) = object (member (codes "accepted") (number (unsigned accepted.0)) (member (codes "need") (number (unsigned wanted.0)) (member (codes "status") (string (codes "no-such-record")) no_members)))
-reply_data (Worked covered) = object (member (codes "covered") (number (unsigned covered.0)) (member (codes "status") (string (codes "worked")) no_members))
-reply_data (Settled covered) = object (member (codes "covered") (number (unsigned covered.0)) (member (codes "status") (string (codes "settled")) no_members))
-reply_data (Balance covered rows) = sheet_data (codes "balance") covered.0 (rows_data rows)
-reply_data (Layers covered rows) = sheet_data (codes "layers") covered.0 (layers_data rows)
+reply_data (Pending covered wanted) =
+    object_of (count (codes "covered") covered.0 ∷ count (codes "need") wanted.0 ∷ status (codes "pending") ∷ [])
+reply_data (NoSuchRecord accepted wanted) =
+    object_of (count (codes "accepted") accepted.0 ∷ count (codes "need") wanted.0 ∷ status (codes "no-such-record") ∷ [])
+reply_data (Worked covered) = covered_data covered.0 (codes "worked")
+reply_data (Settled covered) = covered_data covered.0 (codes "settled")
+reply_data (Balance covered shown) = sheet_data (codes "balance") covered.0 (rows_data shown)
+reply_data (Layers covered shown) = sheet_data (codes "layers") covered.0 (layers_data shown)
 reply_data Long = fault_data (codes "long") (codes "bad")
 reply_data (Bad fault) = bad_data fault
 reply_data StoreFailed = fault_data (codes "store") (codes "failed")

@@ -1,15 +1,14 @@
 -- How a stored text is read: as the record that it is, or with the first fault of the walk over its fields.
-use Rattle.std.specs.Prelude.{ℕ, ◌≡◌, ◌≢◌, ◌⊎◌, List, [], ◌∷◌, Result, Ok, Err}
+use Rattle.std.specs.Prelude.{ℕ, ◌≡◌, List, [], ◌∷◌, Result}
 use Rattle.serde_json.specs.Data.{Data}
+use Rattle.stock_nums.specs.declared.limits.TheConstants.{MAX_DESK}
 use Rattle.stock_model.specs.declared.read_faults.FieldName.{FieldName}
 use Rattle.stock_model.specs.declared.read_faults.FieldName.TheVariants as field
 use Rattle.stock_model.specs.declared.read_faults.ReadFault.{ReadFault}
-use Rattle.stock_model.specs.declared.read_faults.ReadFault.TheVariants.{BadField}
 use Rattle.stock_model.specs.declared.records.Record.{Record}
 use Rattle.voucher_json.specs.Walks.{Then, Yields, Field}
 use Rattle.voucher_json.specs.Fields.{IsObject, IsWord, IsNumber}
 use Rattle.voucher_json.specs.Records.{record_kinds, IsWhat}
-use Rattle.voucher_json.specs.RecordTexts.{record_text}
 use Rattle.voucher_json.specs.Texts.{IsWalked}
 
 -- the fields that every record has
@@ -21,19 +20,10 @@ abbrev pub IsRecord : Data → Result Record ReadFault → Type 0
 IsRecord value =
     Then (IsObject field.Request 0 value) (λ is_one.
     Then (Field (IsWord record_kinds) field.Do 0 value) (λ kind.
-    Then (Field (IsNumber 0 16) field.Desk 0 value) (λ desk.
+    Then (Field (IsNumber 0 MAX_DESK) field.Desk 0 value) (λ desk.
     Then (IsWhat record_fields kind value) (λ what.
     Yields (λ found. (found.desk.0 ≡ desk) × (found.what ≡ what))))))
 
--- The walk of the text comes to a record that is written otherwise: with no space, with each key once in byte
--- order, and with the shortest escapes.
-pub record IsOtherSpelling (text : List ℕ) (fault : ReadFault) : Type 0 where
-  pub found : Record
-  pub walked : IsWalked IsRecord text (Ok found)
-  pub other : text ≢ record_text found
-  pub bad : fault ≡ BadField field.Request 0
-
--- The text is a record only where it is exactly what is written of the record.
+-- How a stored text is read, however it is spelled.
 abbrev pub IsRecordReadAs : List ℕ → Result Record ReadFault → Type 0
-IsRecordReadAs text (Ok found) = IsWalked IsRecord text (Ok found) × (text ≡ record_text found)
-IsRecordReadAs text (Err fault) = IsWalked IsRecord text (Err fault) ⊎ IsOtherSpelling text fault
+IsRecordReadAs = IsWalked IsRecord

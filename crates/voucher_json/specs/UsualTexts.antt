@@ -5,6 +5,7 @@ use Rattle.json.specs.Token.{Token, begin_object, end_object, begin_array, key, 
 use Rattle.serde_json.specs.Data.{unsigned, Data, Items}
 use Rattle.serde_json.specs.Read.{number_of, of_json, of_items, converted, max_depth}
 use Rattle.stock_nums.specs.MomentText.{SpellsMoment}
+use Rattle.stock_nums.specs.declared.limits.TheConstants.{MAX_QUANTITY}
 use Rattle.stock_nums.specs.declared.moment.Moment.{Moment}
 use Rattle.stock_model.specs.declared.requests.Request.TheVariants.{Post}
 use Rattle.stock_model.specs.declared.vouchers.Purpose.{Purpose}
@@ -25,7 +26,7 @@ pub record BeginsWithGoods (tokens : List Token) (item store : List ℕ) (qty : 
   pub first : tokens ≡ begin_object ∷ key (codes "item") ∷ string item ∷ key (codes "store") ∷ string store ∷ key (codes "qty") ∷ number text ∷ rest
   pub reads : number_of text ≡ Some (unsigned qty)
   pub least : 1 ≤ qty
-  pub most : qty ≤ 1_000_000_000
+  pub most : qty ≤ MAX_QUANTITY
 
 -- an element of a list of the outer object, which has two levels of nesting around it, is this value, before the rest
 pub record BeginsWithElement (tokens : List Token) (element : Data) (rest : List Token) : Type 0 where

@@ -14,11 +14,9 @@ use serde_json::{Map, Value};
 use std::alloc::Global;
 use stock_model::read_faults::{FieldName, ReadFault};
 use stock_nums::code::Code;
+use stock_nums::limits::MAX_LINES;
 use stock_nums::moment::Moment;
 use stock_nums::moment_text::{MomentFault, read_moment};
-
-/// The most elements that a list may have.
-const MAX_ELEMENTS: usize = 100;
 
 /// Whether the value is an object.
 pub fn check_object(value: &Value, name: FieldName, line: u32) -> Result<(), ReadFault>
@@ -87,7 +85,7 @@ fn moment_of(text: &str, name: FieldName, line: u32) -> Result<Moment, ReadFault
 /// The elements of the list that the value is, 1 to 100 of them.
 pub fn elements_in(value: &Value, name: FieldName, line: u32) -> Result<&[Value], ReadFault>
     ensures ok { IfOk result (λ values. list_outcome name line (as_array (view value.now)) ≡ Ok (items_view values.now)) }
-    ensures count { IfOk result (λ values. (1 ≤ length values.now) × (length values.now ≤ 100)) }
+    ensures count { IfOk result (λ values. (1 ≤ length values.now) × (length values.now ≤ MAX_LINES)) }
     ensures err { IfErr result (λ fault. list_outcome name line (as_array (view value.now)) ≡ Err fault) }
 {
     let Some(values) = value.as_array() else {
@@ -96,7 +94,7 @@ pub fn elements_in(value: &Value, name: FieldName, line: u32) -> Result<&[Value]
     if values.is_empty() {
         return Err(ReadFault::Limit { name, line });
     }
-    if values.len() > MAX_ELEMENTS {
+    if values.len() > MAX_LINES {
         return Err(ReadFault::Limit { name, line });
     }
     Ok(values.as_slice())

@@ -15,25 +15,25 @@ use stock_model::read_faults::FieldName;
 
 /// What stands before the next token.
 #[derive(Clone, Copy, Drop)]
-pub(crate) enum Place {
+pub(crate) enum Position {
     Fresh,
     AfterComma,
     AfterValue,
 }
 
-impl Place {
+impl Position {
     #[inline(always)]
     fn may_begin(self) -> bool
         ensures { result ≡ may_begin self }
     {
-        !matches!(self, Place::AfterValue)
+        !matches!(self, Position::AfterValue)
     }
 
     #[inline(always)]
     fn may_close(self) -> bool
         ensures { result ≡ may_close self }
     {
-        !matches!(self, Place::AfterComma)
+        !matches!(self, Position::AfterComma)
     }
 }
 
@@ -41,7 +41,7 @@ impl Place {
 /// nothing, though the text may be JSON.
 #[derive(Drop)]
 pub struct PlainReader<'a> {
-    place: Place,
+    place: Position,
     rest: &'a str,
 }
 
@@ -59,12 +59,12 @@ impl<'a> Model for PlainReader<'a> {
 
 /// Passes the comma that may follow a value.
 #[inline(always)]
-fn pass_comma(text: &str) -> (Place, &str)
+fn pass_comma(text: &str) -> (Position, &str)
     ensures { tokens_at result.0 result.1.now ≡ punctuate after_value (lex between text.now) }
 {
     match after_byte(text, b',') {
-        Some(rest) => (Place::AfterComma, rest),
-        None => (Place::AfterValue, text),
+        Some(rest) => (Position::AfterComma, rest),
+        None => (Position::AfterValue, text),
     }
 }
 
@@ -75,7 +75,7 @@ impl<'a> PlainReader<'a> {
         ensures { result ≡ tokens text.now }
     {
         PlainReader {
-            place: Place::Fresh,
+            place: Position::Fresh,
             rest: text,
         }
     }
@@ -87,7 +87,7 @@ impl<'a> PlainReader<'a> {
     {
         match after_byte(skip_blanks(self.rest), b'{') {
             Some(rest) if self.place.may_begin() => {
-                self.place = Place::Fresh;
+                self.place = Position::Fresh;
                 self.rest = rest;
                 true
             }
@@ -116,7 +116,7 @@ impl<'a> PlainReader<'a> {
     {
         match after_byte(skip_blanks(self.rest), b'[') {
             Some(rest) if self.place.may_begin() => {
-                self.place = Place::Fresh;
+                self.place = Position::Fresh;
                 self.rest = rest;
                 true
             }
@@ -146,7 +146,7 @@ impl<'a> PlainReader<'a> {
     {
         match after_key(skip_blanks(self.rest), field_text(name)) {
             Some(rest) if self.place.may_begin() => {
-                self.place = Place::Fresh;
+                self.place = Position::Fresh;
                 self.rest = rest;
                 true
             }

@@ -386,5 +386,12 @@ fn knows_the_deepest_and_the_longest(rt: HostRuntime) -> Result<(), Fail> {
         let text = issue_of(alloc, before, "{\"item\":\"B\",\"store\":\"W1\",\"qty\":0}")?;
         assert_eq!(rt; read(alloc, text.as_bytes(), false)?.as_str(), want);
     }
+    // The most lines that a voucher has, in the most bytes that a line of input has.
+    let mut most = issue_of(alloc, 99, "{\"item\":\"B\",\"store\":\"W1\",\"qty\":1}")?;
+    while most.len() < 65_536 {
+        most.push(' ')?;
+    }
+    let found = read(alloc, most.as_bytes(), false)?;
+    assert!(rt; found.as_str().starts_with("issue 20260101"));
     Ok(())
 }

@@ -1,6 +1,6 @@
 use crate::field_names::field_text;
 use crate::record_reading::read_record;
-use crate::record_texts::record_text;
+use crate::record_texts::{is_text_of, record_text};
 use std::alloc::Global;
 use std::test::Fail;
 use stock_model::read_faults::ReadFault;
@@ -56,26 +56,43 @@ fn tells_the_first_fault(rt: HostRuntime) -> Result<(), Fail> {
             r#"{"code":"A","desk":0,"do":"item","method":"fifo","x":1}"#,
             "bad other 0",
         ),
-        (
-            r#"{"code":"A","desk":0,"do":"item","method":"fifo"} "#,
-            "bad request 0",
-        ),
-        (
-            r#"{"desk":0,"code":"A","do":"item","method":"fifo"}"#,
-            "bad request 0",
-        ),
-        (
-            r#"{"code":"A","code":"A","desk":0,"do":"item","method":"fifo"}"#,
-            "bad request 0",
-        ),
-        (
-            r#"{"code":"\u0041","desk":0,"do":"item","method":"fifo"}"#,
-            "bad request 0",
-        ),
     ];
     for (text, want) in table {
         let found = read(rt.alloc(), text.as_bytes())?;
         assert_eq!(rt; found.as_str(), want, "{text}");
+    }
+    Ok(())
+}
+
+#[test]
+fn knows_the_one_stored_spelling(rt: HostRuntime) -> Result<(), Fail> {
+    let table = [
+        (r#"{"code":"A","desk":0,"do":"item","method":"fifo"}"#, true),
+        (
+            r#"{"code":"A","desk":0,"do":"item","method":"fifo"} "#,
+            false,
+        ),
+        (
+            r#"{"desk":0,"code":"A","do":"item","method":"fifo"}"#,
+            false,
+        ),
+        (
+            r#"{"code":"A","code":"A","desk":0,"do":"item","method":"fifo"}"#,
+            false,
+        ),
+        (
+            r#"{"code":"\u0041","desk":0,"do":"item","method":"fifo"}"#,
+            false,
+        ),
+    ];
+    for (text, want) in table {
+        match read_record(rt.alloc(), text.as_bytes()) {
+            Ok(found) => {
+                let stored = is_text_of(rt.alloc(), &found, text.as_bytes())?;
+                assert_eq!(rt; stored, want, "{text}");
+            }
+            Err(_) => assert!(rt; false, "{text}"),
+        }
     }
     Ok(())
 }

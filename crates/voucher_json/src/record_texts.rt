@@ -1,5 +1,5 @@
 //! The stored texts of records.
-ghost use Rattle.std.specs.Prelude.{◌≡◌, ℕ, List, map, All, IsTrue, IfOk, IsUtf8};
+ghost use Rattle.std.specs.Prelude.{◌≡◌, ◌↔◌, ℕ, List, map, All, IsTrue, IfOk, IsUtf8};
 ghost use Rattle.serde_json.specs.View.{view};
 ghost use Rattle.stock_nums.specs.Codes.{is_code};
 ghost use Rattle.stock_model.specs.declared.records.Record.{Record};
@@ -26,6 +26,15 @@ pub fn record_text(alloc: Global, item: &Record) -> Result<Lines<u8>, NoMemory>
 {
     let text = record_value(alloc, item)?.to_string(alloc)?;
     Ok(Lines::from_vec(text.into_bytes()))
+}
+
+/// Whether the bytes are exactly the stored text of the record: with no space, with each key once in byte order,
+/// and with the shortest escapes. Nothing is stored in two ways, so that a change of a stored byte is seen.
+pub fn is_text_of(alloc: Global, item: &Record, bytes: &[u8]) -> Result<bool, NoMemory>
+    ensures { IfOk result (λ same. IsTrue same ↔ (bytes.now ≡ record_text item.now)) }
+{
+    let text = record_text(alloc, item)?;
+    Ok(bytes == text.as_slice())
 }
 
 /// The stored text of a record whose codes are UTF-8 is UTF-8, and well-formed codes are.

@@ -10,18 +10,10 @@ use std::alloc::Global;
 use stock_model::read_faults::FieldName;
 use stock_model::vouchers::{IssueLine, ReceiptLine};
 use stock_nums::code::Code;
+use stock_nums::limits::{MAX_AMOUNT, MAX_LINES, MAX_QUANTITY};
 use stock_nums::lines::Lines;
 use stock_nums::memory::NoMemory;
 use stock_nums::numbers::{Minor, Qty};
-
-/// The most lines that a voucher may have.
-const MAX_LINES: usize = 100;
-
-/// The largest quantity of a line, in smallest units.
-const MAX_QTY: u64 = 1_000_000_000;
-
-/// The largest amount of a line, in minor units.
-const MAX_AMOUNT: u64 = 1_000_000_000_000;
 
 /// A line of a voucher, as it is usually written.
 pub trait UsualLine: Drop {
@@ -98,7 +90,7 @@ fn read_goods<'a>(reader: &mut PlainReader<'a>) -> Option<(&'a str, &'a str, u64
         return None;
     }
     let qty = reader.next_number()?;
-    if qty < 1 || qty > MAX_QTY {
+    if qty < 1 || qty > MAX_QUANTITY {
         return None;
     }
     Some((item, store, qty))
@@ -111,7 +103,7 @@ pub fn read_last_lines<L: UsualLine>(
 ) -> Result<Option<Lines<L>>, NoMemory>
     ensures read { IfOk result (λ found. IfSome found (λ lines. EndsWithLines reader.old (items_of (map L.data_of lines)) reader.new)) }
     ensures least { IfOk result (λ found. IfSome found (λ lines. 1 ≤ length lines)) }
-    ensures most { IfOk result (λ found. IfSome found (λ lines. length lines ≤ 100)) }
+    ensures most { IfOk result (λ found. IfSome found (λ lines. length lines ≤ MAX_LINES)) }
 {
     if !reader.has_key(FieldName::Lines) || !reader.opens_list() {
         return Ok(None);
@@ -131,7 +123,7 @@ fn read_usual_lines<L: UsualLine>(
     reader: &mut PlainReader<'_>,
 ) -> Result<Option<Lines<L>>, NoMemory>
     ensures read { IfOk result (λ found. IfSome found (λ lines. BeginsWithElements reader.old (items_of (map L.data_of lines)) reader.new)) }
-    ensures count { IfOk result (λ found. IfSome found (λ lines. length lines ≤ 100)) }
+    ensures count { IfOk result (λ found. IfSome found (λ lines. length lines ≤ MAX_LINES)) }
 {
     let mut lines = Lines::new(alloc);
     while !reader.closes_list() {

@@ -15,6 +15,7 @@ use serde_json::Value;
 use std::alloc::Global;
 use stock_model::read_faults::{FieldName, ReadFault};
 use stock_model::vouchers::{IssueLine, ReceiptLine};
+use stock_nums::limits::{MAX_AMOUNT, MAX_LINES, MAX_QUANTITY};
 use stock_nums::lines::Lines;
 use stock_nums::numbers::{Minor, Qty};
 
@@ -34,8 +35,8 @@ impl VoucherLine for ReceiptLine {
         check_object(value, FieldName::Lines, place)?;
         let item = code_field(alloc, value, FieldName::Item, place)?;
         let store = code_field(alloc, value, FieldName::Store, place)?;
-        let qty = number_field(value, FieldName::Qty, place, 1, 1_000_000_000)?;
-        let amount = number_field(value, FieldName::Amount, place, 0, 1_000_000_000_000)?;
+        let qty = number_field(value, FieldName::Qty, place, 1, MAX_QUANTITY)?;
+        let amount = number_field(value, FieldName::Amount, place, 0, MAX_AMOUNT)?;
         let names = [
             FieldName::Item,
             FieldName::Store,
@@ -59,7 +60,7 @@ impl VoucherLine for IssueLine {
         check_object(value, FieldName::Lines, place)?;
         let item = code_field(alloc, value, FieldName::Item, place)?;
         let store = code_field(alloc, value, FieldName::Store, place)?;
-        let qty = number_field(value, FieldName::Qty, place, 1, 1_000_000_000)?;
+        let qty = number_field(value, FieldName::Qty, place, 1, MAX_QUANTITY)?;
         let names = [FieldName::Item, FieldName::Store, FieldName::Qty];
         no_other(value, &[], &names, place)?;
         Ok(IssueLine {
@@ -73,7 +74,7 @@ impl VoucherLine for IssueLine {
 /// The lines of the voucher that the object is.
 pub fn lines_field<L: VoucherLine>(alloc: Global, object: &Value) -> Result<Lines<L>, ReadFault>
     ensures outcome { OrNoMemory (Field (IsList L.is_line) FieldName.Lines 0 (view object.now)) result }
-    ensures count { IfOk result (λ lines. (1 ≤ length lines) × (length lines ≤ 100)) }
+    ensures count { IfOk result (λ lines. (1 ≤ length lines) × (length lines ≤ MAX_LINES)) }
 {
     match object.get(field_text(FieldName::Lines)) {
         Some(value) => lines_in(alloc, value),
@@ -87,7 +88,7 @@ pub fn lines_field<L: VoucherLine>(alloc: Global, object: &Value) -> Result<Line
 /// The lines that the list is.
 fn lines_in<L: VoucherLine>(alloc: Global, value: &Value) -> Result<Lines<L>, ReadFault>
     ensures outcome { OrNoMemory (IsList L.is_line FieldName.Lines 0 (view value.now)) result }
-    ensures count { IfOk result (λ lines. (1 ≤ length lines) × (length lines ≤ 100)) }
+    ensures count { IfOk result (λ lines. (1 ≤ length lines) × (length lines ≤ MAX_LINES)) }
 {
     let values = elements_in(value, FieldName::Lines, 0)?;
     read_lines(alloc, values)
@@ -95,7 +96,7 @@ fn lines_in<L: VoucherLine>(alloc: Global, value: &Value) -> Result<Lines<L>, Re
 
 /// The lines that the elements are.
 fn read_lines<L: VoucherLine>(alloc: Global, values: &[Value]) -> Result<Lines<L>, ReadFault>
-    requires { length values.now ≤ 100 }
+    requires { length values.now ≤ MAX_LINES }
     ensures outcome { OrNoMemory (Elements L.is_line FieldName.Lines 1 (items_view values.now)) result }
     ensures count { IfOk result (λ lines. length lines ≡ length values.now) }
 {

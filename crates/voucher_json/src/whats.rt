@@ -13,6 +13,7 @@ use serde_json::Value;
 use std::alloc::Global;
 use stock_model::read_faults::{FieldName, ReadFault};
 use stock_model::vouchers::What;
+use stock_nums::limits::MAX_SAID_ACCOUNT;
 use stock_nums::numbers::AccountNo;
 
 /// What a record of this kind says by an object, which has the shared fields beside those of the kind.
@@ -50,7 +51,7 @@ fn read_store(alloc: Global, object: &Value, shared: &[FieldName]) -> Result<Wha
     ensures limits { IfOk result (λ what. IsTrue (is_within_limits what)) }
 {
     let code = code_field(alloc, object, FieldName::Code, 0)?;
-    let account = number_field(object, FieldName::Account, 0, 0, 1_000_000_000)?;
+    let account = number_field(object, FieldName::Account, 0, 0, MAX_SAID_ACCOUNT)?;
     no_other(object, shared, &[FieldName::Code, FieldName::Account], 0)?;
     Ok(What::Store {
         code,

@@ -1,4 +1,3 @@
-use Rattle.std.proofs.Common.{refl}
 use Rattle.voucher_json.specs.RecordTexts.{record_data}
 use Rattle.voucher_json.proofs.OneReading.{one_record_reading, no_memory_record}
 use Rattle.voucher_json.proofs.RecordWalks.{record-read}
@@ -13,4 +12,4 @@ pub returns-clause-memory : goal.returns-clause-memory
 returns-clause-memory c = no_memory_record
 
 pub returns-clause-round : goal.returns-clause-round
-returns-clause-round c r utf8 = (comes _ _ (record_data r) _ (utf8, read-record_text r) (record-read r), refl)
+returns-clause-round c r utf8 = comes _ _ (record_data r) _ (utf8, read-record_text r) (record-read r)
