@@ -3,7 +3,6 @@ use Rattle.std.proofs.Common.{◌≡◌, ℕ, Option, List, [], ◌∷◌, ◌++
 use Rattle.stock_io.proofs.Slices.{slice-rest}
 use Rattle.std.specs.Io.KnownBytes.{Appends, Keeps}
 use Rattle.std.proofs.KnownBytes.{Appends-nil, Appends-trans, Appends-kept}
-use Rattle.stock_io.specs.Counts.{NeverFalls}
 use Rattle.stock_io.specs.Streams.{AppendsFront, Chained, Through}
 
 -- one more step at the end
@@ -30,7 +29,7 @@ pub record HasWritten {S : Type 0} (written : S → Option (List ℕ)) (faults :
   pub front : List ℕ
   pub whole : front ++ rest ≡ bytes
   pub appended : Appends (written old) (written new) front
-  pub never_falls : NeverFalls (faults old) (faults new)
+  pub faults_kept : faults new ≡ faults old
   pub frame : Chained leaves old new
 
 module _ {S : Type 0} (written : S → Option (List ℕ)) (faults : S → ℕ) (leaves : S → S → Type 0) where
@@ -39,18 +38,18 @@ module _ {S : Type 0} (written : S → Option (List ℕ)) (faults : S → ℕ) (
     front = [];
     whole = refl;
     appended = Appends-nil (written old);
-    never_falls = omega arith;
+    faults_kept = refl;
     frame = ([], refl);
   }
 
   pub more_written : (old mid new : S) (bytes rest : List ℕ) (n : ℕ) → HasWritten written faults leaves old mid bytes rest
-      → Appends (written mid) (written new) (take n rest) → NeverFalls (faults mid) (faults new) → leaves mid new
+      → Appends (written mid) (written new) (take n rest) → faults new ≡ faults mid → leaves mid new
       → HasWritten written faults leaves old new bytes (take (length rest - n) (drop n rest))
-  more_written old mid new bytes rest n before appended never_falls frame = rw (slice-rest rest n) record {
+  more_written old mid new bytes rest n before appended kept frame = rw (slice-rest rest n) record {
     front = before.front ++ take n rest;
     whole = append_assoc before.front (take n rest) (drop n rest) ∙ ap (λ l. before.front ++ l) (take-append-drop n rest) ∙ before.whole;
     appended = Appends-trans (written old) (written mid) (written new) before.front (take n rest) before.appended appended;
-    never_falls = omega (arith, before.never_falls, never_falls);
+    faults_kept = kept ∙ before.faults_kept;
     frame = Chained-step leaves old mid new before.frame frame;
   }
 

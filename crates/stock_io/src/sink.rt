@@ -17,7 +17,8 @@ pub trait Sink {
     // What a write leaves as it was, beside what the clauses of `write` say.
     ghost write_leaves: { Self → Self → Type 0 } = { λ _ _. Unit {0} };
 
-    /// Writes a front of the bytes, at least one of them, and says how many.
+    /// Writes a front of the bytes, at least one of them, and says how many. A write that succeeds has
+    /// counted no fault.
     ///
     /// # Errors
     ///
@@ -28,6 +29,7 @@ pub trait Sink {
         ensures bound { WritesAtMost result bytes.now }
         ensures bytes { IfOk result (λ n.
             Appends (written self.old) (written self.new) (take n bytes.now)) }
+        ensures faults_kept { OnOk result (faults self.new ≡ faults self.old) }
         ensures written_kept { OnErr result (Keeps (written self.old) (written self.new)) }
         ensures never_falls { NeverFalls (faults self.old) (faults self.new) }
         ensures cause { OnErr result (Rose (faults self.old) (faults self.new)) }
@@ -41,6 +43,7 @@ pub trait Sink {
 /// `Failed` where a write failed: a front of the bytes was written, and a fault was counted.
 pub fn write_all<W: Sink>(sink: &mut W, bytes: &[u8]) -> Result<(), Failed>
     ensures all { OnOk result (Appends (W.written sink.old) (W.written sink.new) bytes.now) }
+    ensures faults_kept { OnOk result (W.faults sink.new ≡ W.faults sink.old) }
     ensures front { OnErr result
         (AppendsFront (W.written sink.old) (W.written sink.new) bytes.now) }
     ensures never_falls { NeverFalls (W.faults sink.old) (W.faults sink.new) }

@@ -1,4 +1,4 @@
-ghost use Rattle.std.specs.Prelude.{◌≡◌, ℕ, ◌+◌, ◌<◌, Option, List, length, take, IfOk, OnErr};
+ghost use Rattle.std.specs.Prelude.{◌≡◌, ℕ, ◌+◌, ◌<◌, Option, List, length, take, IfOk, OnOk, OnErr};
 ghost use Rattle.std.specs.Io.{ReadsAtMost};
 ghost use Rattle.std.specs.Io.KnownBytes.{Consumes, IsAtEnd, Keeps};
 ghost use Rattle.stock_io.specs.Counts.{Rose, NeverFalls};
@@ -20,7 +20,7 @@ pub trait Source {
     ghost read_leaves: { Self → Self → Type 0 } = { λ _ _. Unit {0} };
 
     /// Reads some bytes into the front of the buffer and says how many, as soon as some are there.
-    /// No bytes come only at the end.
+    /// No bytes come only at the end. A read that succeeds has counted no fault.
     ///
     /// # Errors
     ///
@@ -32,6 +32,7 @@ pub trait Source {
             Consumes (left self.old) (left self.new) (take n buf.new)) }
         ensures end { IfOk result (λ n. n ≡ 0 → IsAtEnd (left self.old)) }
         ensures count { IfOk result (λ n. taken self.new ≡ taken self.old + n) }
+        ensures faults_kept { OnOk result (faults self.new ≡ faults self.old) }
         ensures left_kept { OnErr result (Keeps (left self.old) (left self.new)) }
         ensures taken_kept { OnErr result (taken self.new ≡ taken self.old) }
         ensures never_falls { NeverFalls (faults self.old) (faults self.new) }

@@ -6,5 +6,5 @@ returns-in_err-n-clause-frame g c = Chained-step g.W.Sink.write_leaves _ _ _ c.l
 
 pub loop-rest-preserved : goal.loop-rest-preserved
 loop-rest-preserved g c =
-    more_written g.W.Sink.written g.W.Sink.faults g.W.Sink.write_leaves _ _ _ _ _ _ c.loop-rest.invariant c.in_ok-n.ensures.bytes c.write.ensures.never_falls
+    more_written g.W.Sink.written g.W.Sink.faults g.W.Sink.write_leaves _ _ _ _ _ _ c.loop-rest.invariant c.in_ok-n.ensures.bytes c.in_ok-n.ensures.faults_kept
     c.write.ensures.frame
