@@ -40,6 +40,7 @@ pub fn frame<S: Source>(
     ensures one_framing { IfSome (S.left source.old) (λ left. IfOk result (λ framing. (other : Framing)
         → Framed (inbox.old.bytes ++ left) other.requests other.stop → IsWithinLimit framing → IsWithinLimit other
         → IsSameFraming (inbox.old.bytes ++ left) framing other)) }
+    ensures faults_kept { result ≢ Err FramingFault.ReadFailed → S.faults source.new ≡ S.faults source.old }
     ensures fault { result ≡ Err FramingFault.ReadFailed → Rose (S.faults source.old) (S.faults source.new) }
 {
     hear_all(alloc, inbox, source)
@@ -52,6 +53,7 @@ fn hear_all<S: Source>(
 ) -> Result<Framing, FramingFault>
     ensures framed { IfSome (S.left source.old) (λ left. IfOk result (λ framing.
         Framed (inbox.old.bytes ++ left) framing.requests framing.stop)) }
+    ensures faults_kept { result ≢ Err FramingFault.ReadFailed → S.faults source.new ≡ S.faults source.old }
     ensures fault { result ≡ Err FramingFault.ReadFailed → Rose (S.faults source.old) (S.faults source.new) }
 {
     let mut requests = Lines::new(alloc);

@@ -91,6 +91,7 @@ impl Inbox {
         ensures ended { result ≡ Ok (Heard.Last Stop.Ended)
             → IfSome (S.left source.old) (λ left. self.new.bytes ≡ self.old.bytes ++ left) }
 
+        ensures faults_kept { OnOk result (S.faults source.new ≡ S.faults source.old) }
         ensures never_falls { NeverFalls (S.faults source.old) (S.faults source.new) }
         ensures fault { OnErr result (Rose (S.faults source.old) (S.faults source.new)) }
         ensures frame { Chained S.read_leaves source.old source.new }
@@ -105,6 +106,7 @@ impl Inbox {
         ensures cause { IfOk result (λ heard. HasCause heard self.new) }
         ensures ended { result ≡ Ok (Heard.Last Stop.Ended)
             → IfSome (S.left source.old) (λ left. self.new.bytes ≡ self.old.bytes ++ left) }
+        ensures faults_kept { OnOk result (S.faults source.new ≡ S.faults source.old) }
         ensures fault { OnErr result (Rose (S.faults source.old) (S.faults source.new)) }
     {
         loop {
@@ -130,6 +132,7 @@ impl Inbox {
         ensures takes_in { TakesIn S.left S.taken self.old self.new source.old source.new }
         ensures amount { IfOk result (λ n. length self.new.bytes ≡ length self.old.bytes + n) }
         ensures end { IfOk result (λ n. n ≡ 0 → IsAtEnd (S.left source.old)) }
+        ensures faults_kept { OnOk result (S.faults source.new ≡ S.faults source.old) }
         ensures never_falls { NeverFalls (S.faults source.old) (S.faults source.new) }
         ensures fault { OnErr result (Rose (S.faults source.old) (S.faults source.new)) }
         ensures frame { S.read_leaves source.old source.new }
@@ -170,6 +173,7 @@ fn read_at<S: Source>(
     ensures bytes { IfOk result (λ n. Consumes (S.left source.old) (S.left source.new) (slice_range buffer.new at (at + n))) }
     ensures count { IfOk result (λ n. S.taken source.new ≡ S.taken source.old + n) }
     ensures end { IfOk result (λ n. n ≡ 0 → IsAtEnd (S.left source.old)) }
+    ensures faults_kept { OnOk result (S.faults source.new ≡ S.faults source.old) }
     ensures left_kept { OnErr result (Keeps (S.left source.old) (S.left source.new)) }
     ensures taken_kept { OnErr result (S.taken source.new ≡ S.taken source.old) }
     ensures never_falls { NeverFalls (S.faults source.old) (S.faults source.new) }

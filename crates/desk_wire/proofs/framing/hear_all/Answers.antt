@@ -1,5 +1,5 @@
 -- One more request, or the last answer.
-use Rattle.std.proofs.Common.{List, [], ◌∷◌, ◌++◌, arith, sym, subst}
+use Rattle.std.proofs.Common.{List, [], ◌∷◌, ◌++◌, ◌∙◌, arith, sym, subst}
 use Rattle.std.specs.Io.KnownBytes.{prepend_known}
 use Rattle.desk_wire.specs.Waiting.{Waiting}
 use Rattle.desk_wire.specs.declared.heard.Request.{Request}
@@ -24,5 +24,5 @@ loop-requests-preserved g c =
     (heard_next (g.S.Source.left c.loop-requests.source) c.loop-requests.inbox.bytes c.in-Ok-Next.field-0-is c.in-Ok-Next.ensures.any_cut) lies.within in (
       subst (λ (rs : List Request). Follows first (prepend_known c.pass.new.self.bytes left) rs) (sym c.in-Ok.ensures.added)
           (subst (λ (w : Waiting). Follows first (prepend_known w.bytes left) (c.loop-requests.requests ++ c.in-Ok-Next.request ∷ [])) (sym c.pass.ensures) next),
-      omega (arith, c.loop-requests.invariant.1, c.hear.ensures.never_falls),
+      c.in-Ok-Next.ensures.faults_kept ∙ c.loop-requests.invariant.1,
     )
