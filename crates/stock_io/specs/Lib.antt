@@ -1,4 +1,5 @@
 pub mod Counts
+pub mod Edges
 pub mod Streams
 pub mod Memory
 pub mod Standard

@@ -2,6 +2,7 @@
 //! standard streams.
 #![tactic(auto)]
 
+mod edge;
 pub mod failed;
 pub mod link;
 pub mod listener;

@@ -3,6 +3,7 @@ ghost use Rattle.std.specs.Io.{ReadsAtMost, WritesAtMost};
 ghost use Rattle.stock_io.specs.Counts.{NeverFalls};
 ghost use Rattle.stock_io.specs.Nets.{new_connection, after_receiving, after_link_fault, after_ending};
 
+use crate::edge::{count_fault, taken_of, written_of};
 use crate::failed::Failed;
 use crate::link::Link;
 use crate::sink::Sink;
@@ -98,14 +99,10 @@ impl Source for NetLink {
         ensures after_failed { OnErr result (self.new ≡ after_link_fault self.old) }
     {
         let room = u64::MAX - self.taken;
-        if buf.len() as u64 <= room
-            && let Ok(n) = self.stream.read(buf)
-        {
-            self.taken += n as u64;
-            return Ok(n);
+        if buf.len() as u64 > room {
+            return Err(count_fault(&mut self.faults));
         }
-        self.faults = self.faults.saturating_add(1);
-        Err(Failed)
+        taken_of(self.stream.read(buf), &mut self.taken, &mut self.faults)
     }
 }
 
@@ -118,7 +115,7 @@ impl Sink for NetLink {
 
     ghost write_leaves = { λ old new. (new.taken ≡ old.taken) × (new.ended ≡ old.ended) };
 
-    // One write to the socket. A socket that takes nothing failed.
+    // One write to the socket.
     fn write(&mut self, bytes: &[u8]) -> Result<usize, Failed>
         requires { 0 < length bytes.now }
         ensures some { IfOk result (λ n. 0 < n) }
@@ -127,13 +124,7 @@ impl Sink for NetLink {
         ensures after_ok { OnOk result (self.new ≡ self.old) }
         ensures after_failed { OnErr result (self.new ≡ after_link_fault self.old) }
     {
-        match self.stream.write(bytes) {
-            Ok(n) if n > 0 => Ok(n),
-            _ => {
-                self.faults = self.faults.saturating_add(1);
-                Err(Failed)
-            }
-        }
+        written_of(self.stream.write(bytes), &mut self.faults)
     }
 }
 

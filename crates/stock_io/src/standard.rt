@@ -3,6 +3,7 @@ ghost use Rattle.std.specs.Io.{ReadsAtMost, WritesAtMost};
 ghost use Rattle.stock_io.specs.Counts.{NeverFalls, raised};
 ghost use Rattle.stock_io.specs.Standard.{new_reading, after_bytes, after_failed_read};
 
+use crate::edge::{count_fault, taken_of, written_of};
 use crate::failed::Failed;
 use crate::sink::Sink;
 use crate::source::Source;
@@ -71,14 +72,10 @@ impl<R: Input> Source for StdSource<R> {
         ensures after_failed { OnErr result (self.new ≡ after_failed_read self.old) }
     {
         let room = u64::MAX - self.taken;
-        if buf.len() as u64 <= room
-            && let Ok(n) = self.reader.read(buf)
-        {
-            self.taken += n as u64;
-            return Ok(n);
+        if buf.len() as u64 > room {
+            return Err(count_fault(&mut self.faults));
         }
-        self.faults = self.faults.saturating_add(1);
-        Err(Failed)
+        taken_of(self.reader.read(buf), &mut self.taken, &mut self.faults)
     }
 }
 
@@ -132,7 +129,7 @@ impl<P: Print> Sink for StdSink<P> {
 
     ghost faults = { λ count. count };
 
-    // One write to the stream, which holds nothing back. A stream that takes nothing failed.
+    // One write to the stream, which holds nothing back.
     fn write(&mut self, bytes: &[u8]) -> Result<usize, Failed>
         requires { 0 < length bytes.now }
         ensures some { IfOk result (λ n. 0 < n) }
@@ -141,12 +138,6 @@ impl<P: Print> Sink for StdSink<P> {
         ensures after_ok { OnOk result (self.new ≡ self.old) }
         ensures after_failed { OnErr result (self.new ≡ raised self.old) }
     {
-        match self.stream.write_some(bytes) {
-            Ok(n) if n > 0 => Ok(n),
-            _ => {
-                self.faults = self.faults.saturating_add(1);
-                Err(Failed)
-            }
-        }
+        written_of(self.stream.write_some(bytes), &mut self.faults)
     }
 }
