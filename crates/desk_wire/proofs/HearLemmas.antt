@@ -1,8 +1,8 @@
 -- What was taken of a stream so far, and what was heard then.
-use Rattle.std.proofs.Common.{◌≡◌, ◌≢◌, ℕ, Option, Some, None, List, [], ◌++◌, refl, sym, ap, ◌∙◌, subst, arith, append_assoc, append-nil, length-append, IfSome, IfOk, Result, Ok, Err}
+use Rattle.std.proofs.Common.{◌≡◌, ◌≢◌, ℕ, ◌<◌, Option, Some, None, List, [], ◌∷◌, ◌++◌, length, refl, sym, ap, ◌∙◌, subst, arith, append_assoc, append-nil, length-append, IfSome, IfOk, Result, Ok, Err}
 use Rattle.std.specs.Io.KnownBytes.{Consumes, IsAtEnd}
 use Rattle.std.proofs.KnownBytes.{Consumes-nil, Consumes-trans, Consumes-whole}
-use Rattle.stock_io.specs.Counts.{NeverFalls}
+use Rattle.stock_io.specs.Streams.{Chained, Through}
 use Rattle.stock_io.proofs.Writing.{Chained-step}
 use Rattle.desk_wire.specs.declared.wire.Wire.{Wire}
 use Rattle.desk_wire.specs.declared.wire.Wire.TheVariants.{More, Bad}
@@ -11,11 +11,12 @@ use Rattle.desk_wire.specs.declared.heard.Heard.TheVariants.{Next, Last}
 use Rattle.desk_wire.specs.declared.heard.Stop.TheVariants.{Refused, Ended, TooMuch}
 use Rattle.stock_io.specs.declared.failed.Failed.{Failed}
 use Rattle.desk_wire.specs.Waiting.{Waiting}
-use Rattle.desk_wire.specs.Streams.{TakesIn, HasTaken, whole, LiesIn, IfNext, heard_answer, IsOfStream, IsHopeless, IsHeardAs}
+use Rattle.desk_wire.specs.Streams.{TakesIn, ReadsMore, whole, LiesIn, IfNext, heard_answer, IsOfStream, IsHopeless, IsHeardAs}
 use Rattle.desk_wire.specs.Rules.{Answers}
+use Rattle.desk_wire.proofs.InboxLemmas.{nothing_new}
 use Rattle.desk_wire.proofs.RuleLemmas.{Answers-append, Answers-unique, whole_is_not_more, whole_within, needed_only_if_hopeless}
 
-IfSome-any : {A : Type 0} (o : Option A) {P : A → Type 0} → ((a : A) → P a) → IfSome o P
+pub IfSome-any : {A : Type 0} (o : Option A) {P : A → Type 0} → ((a : A) → P a) → IfSome o P
 IfSome-any None all = tt
 IfSome-any (Some a) all = all a
 
@@ -37,19 +38,14 @@ result_is_there bytes (Ok (Next request)) answers =
 result_is_there bytes (Ok (Last stop)) answers = tt
 result_is_there bytes (Err failed) answers = tt
 
-module _ {S : Type 0} (left : S → Option (List ℕ)) (taken faults : S → ℕ) (leaves : S → S → Type 0) where
-  pub nothing_taken : (waits : Waiting) (source : S) → HasTaken left taken faults leaves waits waits source source
+module _ {S : Type 0} (left : S → Option (List ℕ)) (taken : S → ℕ) where
+  nothing_taken : (waits : Waiting) (source : S) → TakesIn left taken waits waits source source
   nothing_taken waits source = record {
-    takes_in = record {
-      piece = [];
-      behind = sym (append-nil waits.bytes);
-      spare = omega arith;
-      took = Consumes-nil (left source);
-      counted = omega arith;
-    };
-    never_falls = omega arith;
-    frame = ([], refl);
-    ready = λ request answers. refl;
+    piece = [];
+    behind = sym (append-nil waits.bytes);
+    spare = omega arith;
+    took = Consumes-nil (left source);
+    counted = omega arith;
   }
 
   pub TakesIn-trans : (a b c : Waiting) (x y z : S) → TakesIn left taken a b x y → TakesIn left taken b c y z
@@ -60,19 +56,6 @@ module _ {S : Type 0} (left : S → Option (List ℕ)) (taken faults : S → ℕ
     spare = omega (arith, p.spare, q.spare, length-append p.piece q.piece);
     took = Consumes-trans (left x) (left y) (left z) p.piece q.piece p.took q.took;
     counted = omega (arith, p.counted, q.counted, length-append p.piece q.piece);
-  }
-
-  -- one more piece, where more bytes were needed
-  pub more_taken : (a b c : Waiting) (x y z : S) → HasTaken left taken faults leaves a b x y → Answers b.bytes More → TakesIn left taken b c y z
-      → NeverFalls (faults y) (faults z) → leaves y z → HasTaken left taken faults leaves a c x z
-  more_taken a b c x y z before needed takes_in never_falls frame = record {
-    takes_in = TakesIn-trans a b c x y z before.takes_in takes_in;
-    never_falls = omega (arith, before.never_falls, never_falls);
-    frame = Chained-step leaves x y z before.frame frame;
-    ready = λ request answers.
-        absurd (whole_is_not_more b.bytes request
-        (subst (λ bytes. Answers bytes (whole request)) (sym before.takes_in.behind)
-        (Answers-append a.bytes before.takes_in.piece (whole request) answers (λ same. cc))) needed);
   }
 
   -- what a source that tells its bytes had left comes behind what waits now
@@ -88,11 +71,12 @@ module _ {S : Type 0} (left : S → Option (List ℕ)) (taken faults : S → ℕ
           ap (λ (l : List ℕ). l ++ rest) takes_in.behind ∙ append_assoc a.bytes takes_in.piece rest ∙ ap (λ (l : List ℕ). a.bytes ++ l) (sym took) in
           subst P same (holds rest)
 
-  -- the same where all that was left waits now
-  pub stream_ends : (a b : Waiting) (x y : S) (P : List ℕ → Type 0) → TakesIn left taken a b x y → IsAtEnd (left y)
-      → P b.bytes → IfSome (left x) (λ ahead. P (a.bytes ++ ahead))
-  stream_ends a b x y P takes_in end holds =
-      Consumes-whole (left x) (left y) takes_in.piece (λ ahead. P (a.bytes ++ ahead)) takes_in.took end (subst P takes_in.behind holds)
+  -- all that was left waits now, where a read at the end gave nothing more
+  pub all_came : (a b c : Waiting) (x y z : S) → TakesIn left taken a b x y → TakesIn left taken b c y z → length c.bytes ≡ length b.bytes
+      → IsAtEnd (left y) → IfSome (left x) (λ ahead. c.bytes ≡ a.bytes ++ ahead)
+  all_came a b c x y z takes_in none same end =
+      let bytes : c.bytes ≡ a.bytes ++ takes_in.piece = nothing_new left taken b c y z none same ∙ takes_in.behind in
+      Consumes-whole (left x) (left y) takes_in.piece (λ ahead. c.bytes ≡ a.bytes ++ ahead) takes_in.took end bytes
 
   -- what was heard once these bytes were taken
   module _ (a b : Waiting) (x y : S) (takes_in : TakesIn left taken a b x y) where
@@ -136,3 +120,44 @@ module _ {S : Type 0} (left : S → Option (List ℕ)) (taken faults : S → ℕ
         → IfSome (left x) (λ ahead. (wire : Wire) → Answers (a.bytes ++ ahead) wire → wire ≢ More → IfOk r (IsHeardAs (a.bytes ++ ahead) wire))
     result_heard_as (Ok heard) answers ended = heard_as heard answers (λ same. ended (ap Ok same))
     result_heard_as (Err failed) answers ended = IfSome-any (left x) (λ ahead wire other settled. tt)
+
+-- ---- the reads of a call, one after another
+
+module _ {S : Type 0} (left : S → Option (List ℕ)) (taken : S → ℕ) (leaves : S → S → Type 0) where
+  -- one more read, where more bytes were needed and might be taken
+  pub one_more_read : (o a b : Waiting) (w x y : S) → Chained (ReadsMore left taken leaves) (o, w) (a, x)
+      → Answers a.bytes More → 0 < a.spare → TakesIn left taken a b x y → leaves x y → Chained (ReadsMore left taken leaves) (o, w) (b, y)
+  one_more_read o a b w x y reads needed allowed takes_in frame =
+      Chained-step (ReadsMore left taken leaves) (o, w) (a, x) (b, y) reads
+      (record { needed = needed; allowed = allowed; takes_in = takes_in; frame = frame })
+
+  Through-takes_in : (old new : Waiting × S) (states : List (Waiting × S)) → Through (ReadsMore left taken leaves) old states new
+      → TakesIn left taken old.0 new.0 old.1 new.1
+  Through-takes_in old new [] same =
+      subst (λ (p : Waiting × S). TakesIn left taken old.0 p.0 old.1 p.1) (sym same) (nothing_taken left taken old.0 old.1)
+  Through-takes_in old new (state ∷ states) steps =
+      TakesIn-trans left taken old.0 state.0 new.0 old.1 state.1 new.1 steps.0.takes_in (Through-takes_in state new states steps.1)
+
+  pub reads_take_in : (a b : Waiting) (x y : S) → Chained (ReadsMore left taken leaves) (a, x) (b, y) → TakesIn left taken a b x y
+  reads_take_in a b x y reads = Through-takes_in (a, x) (b, y) reads.0 reads.1
+
+  Through-frame : (old new : Waiting × S) (states : List (Waiting × S)) → Through (ReadsMore left taken leaves) old states new
+      → Chained leaves old.1 new.1
+  Through-frame old new [] same = subst (λ (p : Waiting × S). Chained leaves old.1 p.1) (sym same) ([], refl)
+  Through-frame old new (state ∷ states) steps =
+      let later = Through-frame state new states steps.1 in (state.1 ∷ later.0, (steps.0.frame, later.1))
+
+  pub reads_frame : (a b : Waiting) (x y : S) → Chained (ReadsMore left taken leaves) (a, x) (b, y) → Chained leaves x y
+  reads_frame a b x y reads = Through-frame (a, x) (b, y) reads.0 reads.1
+
+  -- where no more bytes are needed at first, nothing is read
+  Through-ready : (old new : Waiting × S) (states : List (Waiting × S)) → Through (ReadsMore left taken leaves) old states new
+      → ¬ Answers old.0.bytes More → new ≡ old
+  Through-ready old new [] same ready = same
+  Through-ready old new (state ∷ states) steps ready = absurd (ready steps.0.needed)
+
+  pub reads_ready : (a b : Waiting) (x y : S) → Chained (ReadsMore left taken leaves) (a, x) (b, y) → ¬ Answers a.bytes More
+      → (b ≡ a) × (y ≡ x)
+  reads_ready a b x y reads ready =
+      let same = Through-ready (a, x) (b, y) reads.0 reads.1 ready in
+      (ap (λ (p : Waiting × S). p.0) same, ap (λ (p : Waiting × S). p.1) same)

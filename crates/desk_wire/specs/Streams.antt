@@ -1,8 +1,6 @@
 -- Requests in a stream of bytes, which comes in pieces.
 use Rattle.std.specs.Prelude.{◌≡◌, ℕ, ◌+◌, ◌<◌, ◌≤◌, Option, List, ◌++◌, length, ⊤}
 use Rattle.std.specs.Io.KnownBytes.{Consumes}
-use Rattle.stock_io.specs.Counts.{NeverFalls}
-use Rattle.stock_io.specs.Streams.{Chained}
 use Rattle.desk_wire.specs.declared.wire.Wire.{Wire}
 use Rattle.desk_wire.specs.declared.wire.Wire.TheVariants.{Whole, More, Bad}
 use Rattle.desk_wire.specs.declared.heard.Request.{Request}
@@ -53,20 +51,21 @@ pub record TakesIn {S : Type 0} (left : S → Option (List ℕ)) (taken : S → 
   pub took : Consumes (left source) (left source') piece
   pub counted : taken source' ≡ taken source + length piece
 
--- a piece was taken, with what else is known of the source, and none where a request was whole already.
--- faults and leaves are the source's too
-pub record HasTaken {S : Type 0} (left : S → Option (List ℕ)) (taken faults : S → ℕ) (leaves : S → S → Type 0) (waits waits' : Waiting) (source source' : S) : Type 0 where
-  pub takes_in : TakesIn left taken waits waits' source source'
-  pub never_falls : NeverFalls (faults source) (faults source')
-  pub frame : Chained leaves source source'
-  pub ready : (request : Request) → Answers waits.bytes (whole request) → source' ≡ source
+-- one read that was needed, of an inbox and its source: the rules answered More to the bytes that waited, more might be
+-- taken, and what was read was put behind them. leaves is what the source says that a read leaves as it was
+pub record ReadsMore {S : Type 0} (left : S → Option (List ℕ)) (taken : S → ℕ) (leaves : S → S → Type 0) (before after : Waiting × S) : Type 0 where
+  pub needed : Answers before.0.bytes More
+  pub allowed : 0 < before.0.spare
+  pub takes_in : TakesIn left taken before.0 after.0 before.1 after.1
+  pub frame : leaves before.1 after.1
 
--- no more bytes may be taken, where that is why no further request is heard
-abbrev pub HasCause : Heard → Waiting → Type 0
-HasCause (Next request) waits = ⊤
-HasCause (Last (Refused status)) waits = ⊤
-HasCause (Last Ended) waits = ⊤
-HasCause (Last TooMuch) waits = waits.spare ≡ 0
+-- where no whole request waits, the stop tells whether the limit was reached: no more bytes may be taken after TooMuch, and
+-- some more after the end
+abbrev pub TellsLimit : Heard → Waiting → Type 0
+TellsLimit (Next request) waits = ⊤
+TellsLimit (Last (Refused status)) waits = ⊤
+TellsLimit (Last Ended) waits = 0 < waits.spare
+TellsLimit (Last TooMuch) waits = waits.spare ≡ 0
 
 -- what was heard is what the rules answer to the whole stream, unless the limit came first
 abbrev pub IsOfStream : List ℕ → Heard → Type 0

@@ -5,11 +5,10 @@ ghost use Rattle.stock_io.specs.Counts.{Rose, NeverFalls};
 ghost use Rattle.stock_io.specs.Streams.{Chained};
 ghost use Rattle.desk_wire.specs.declared.wire.Wire.{Wire};
 ghost use Rattle.desk_wire.specs.declared.heard.Heard.{Heard};
-ghost use Rattle.desk_wire.specs.declared.heard.Request.{Request};
 ghost use Rattle.desk_wire.specs.declared.heard.Stop.{Stop};
 ghost use Rattle.desk_wire.specs.Rules.{Answers};
 ghost use Rattle.desk_wire.specs.Waiting.{nothing_waits, after_passing};
-ghost use Rattle.desk_wire.specs.Streams.{TakesIn, HasTaken, whole, LiesIn, IfNext, heard_answer, HasCause, IsOfStream, IsHeardAs};
+ghost use Rattle.desk_wire.specs.Streams.{TakesIn, ReadsMore, LiesIn, IfNext, heard_answer, TellsLimit, IsOfStream, IsHeardAs};
 
 use crate::heard::{Heard, Request, Stop};
 use crate::wire::{BODY_LIMIT, HEAD_LIMIT, Wire, next_request};
@@ -79,15 +78,19 @@ impl Inbox {
         ensures takes_in { TakesIn S.left S.taken self.old self.new source.old source.new }
         ensures heard { IfOk result (λ heard. Answers self.new.bytes (heard_answer heard)) }
         ensures there { IfOk result (λ heard. IfNext heard (LiesIn self.new.bytes)) }
-        ensures cause { IfOk result (λ heard. HasCause heard self.new) }
+        ensures limit { IfOk result (λ heard. TellsLimit heard self.new) }
 
         // Where the source tells its bytes, all that waited and was left decides, however it comes in pieces.
         ensures any_cut { IfSome (S.left source.old) (λ left. IfOk result (IsOfStream (self.old.bytes ++ left))) }
         ensures one_answer { IfSome (S.left source.old) (λ left. (wire : Wire) → Answers (self.old.bytes ++ left) wire
             → wire ≢ Wire.More → IfOk result (IsHeardAs (self.old.bytes ++ left) wire)) }
 
-        // It reads only while more bytes are needed, and to the end where it says that the stream ended.
-        ensures ready { (request : Request) → Answers self.old.bytes (whole request) → source.new ≡ source.old }
+        // Each read begins where more bytes are needed, so none where a request is whole or refused. It reads to
+        // the end where it says that the stream ended.
+        ensures reads { Chained (ReadsMore S.left S.taken S.read_leaves)
+            (self.old, source.old) (self.new, source.new) }
+        ensures ready { ¬ Answers self.old.bytes Wire.More
+            → (self.new ≡ self.old) × (source.new ≡ source.old) }
         ensures ended { result ≡ Ok (Heard.Last Stop.Ended)
             → IfSome (S.left source.old) (λ left. self.new.bytes ≡ self.old.bytes ++ left) }
 
@@ -101,12 +104,14 @@ impl Inbox {
 
     // Takes pieces until the next request is heard.
     fn take_until_heard<S: Source>(&mut self, source: &mut S) -> Result<Heard, Failed>
-        ensures taken { HasTaken S.left S.taken S.faults S.read_leaves self.old self.new source.old source.new }
+        ensures reads { Chained (ReadsMore S.left S.taken S.read_leaves)
+            (self.old, source.old) (self.new, source.new) }
         ensures heard { IfOk result (λ heard. Answers self.new.bytes (heard_answer heard)) }
-        ensures cause { IfOk result (λ heard. HasCause heard self.new) }
+        ensures limit { IfOk result (λ heard. TellsLimit heard self.new) }
         ensures ended { result ≡ Ok (Heard.Last Stop.Ended)
             → IfSome (S.left source.old) (λ left. self.new.bytes ≡ self.old.bytes ++ left) }
         ensures faults_kept { OnOk result (S.faults source.new ≡ S.faults source.old) }
+        ensures never_falls { NeverFalls (S.faults source.old) (S.faults source.new) }
         ensures fault { OnErr result (Rose (S.faults source.old) (S.faults source.new)) }
     {
         loop {
@@ -117,7 +122,8 @@ impl Inbox {
                 Wire::Bad { status } => return Ok(Heard::Last(Stop::Refused { status })),
                 Wire::More if self.spare == 0 => return Ok(Heard::Last(Stop::TooMuch)),
                 Wire::More => {
-                    if self.take_piece(source)? == 0 {
+                    let piece = self.take_piece(source)?;
+                    if piece == 0 {
                         return Ok(Heard::Last(Stop::Ended));
                     }
                 }
@@ -125,7 +131,7 @@ impl Inbox {
         }
     }
 
-    // Takes a piece of the source, and says how many bytes it has.
+    // Takes a piece of the source by one read, and says how many bytes it has.
     fn take_piece<S: Source>(&mut self, source: &mut S) -> Result<usize, Failed>
         requires room { length self.old.bytes < INBOX_SIZE }
         requires spare { 0 < self.old.spare }

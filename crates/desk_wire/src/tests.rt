@@ -5,6 +5,7 @@ use crate::heard::{Heard, Request, Stop};
 use crate::inbox::Inbox;
 use crate::response::response_text;
 use crate::wire::{Wire, next_request};
+use itoa::Buffer;
 use std::alloc::Global;
 use std::test::Fail;
 use stock_io::failed::Failed;
@@ -284,6 +285,33 @@ fn a_request_is_heard_however_it_is_cut(rt: HostRuntime) -> Result<(), Fail> {
     for piece in [1, 100] {
         let mut inbox = Inbox::new(rt.alloc(), 1 << 32)?;
         let mut source = source_of(rt.alloc(), ASKED, piece)?;
+        assert_eq!(rt; inbox.hear(&mut source), Ok(asked));
+    }
+    Ok(())
+}
+
+// A request whose head and body have so many bytes.
+fn request_of(alloc: Global, head: usize, body: usize) -> Result<Vec<u8>, NoMemory> {
+    let mut bytes = Vec::from_slice(alloc, b"POST /desk HTTP/1.0\r\nContent-Length: ")?;
+    bytes.extend_from_slice(Buffer::new().format(body).as_bytes())?;
+    bytes.extend_from_slice(b"\r\nX: ")?;
+    bytes.resize(head.saturating_sub(4), b'a')?;
+    bytes.extend_from_slice(b"\r\n\r\n")?;
+    bytes.resize(head.saturating_add(body), b'1')?;
+    Ok(bytes)
+}
+
+#[test]
+fn a_request_of_the_largest_size_is_heard(rt: HostRuntime) -> Result<(), Fail> {
+    for (head, body) in [(65_536, 0), (100, 65_536), (65_536, 65_536)] {
+        let bytes = request_of(rt.alloc(), head, body)?;
+        let mut inbox = Inbox::new(rt.alloc(), 1 << 32)?;
+        let mut source = source_of(rt.alloc(), bytes.as_slice(), 10_000)?;
+        let asked = Heard::Next(Request {
+            head,
+            body,
+            close: true,
+        });
         assert_eq!(rt; inbox.hear(&mut source), Ok(asked));
     }
     Ok(())

@@ -14,6 +14,16 @@ Through-step step old mid new (state ∷ states) steps last = (steps.0, Through-
 pub Chained-step : {S : Type 0} (step : S → S → Type 0) (old mid new : S) → Chained step old mid → step mid new → Chained step old new
 Chained-step step old mid new steps last = (steps.0 ++ new ∷ [], Through-step step old mid new steps.0 steps.1 last)
 
+-- one chain of steps after another
+Through-append : {S : Type 0} (step : S → S → Type 0) (old mid new : S) (states more : List S)
+    → Through step old states mid → Through step mid more new → Through step old (states ++ more) new
+Through-append step old mid new [] more same later = subst (λ s. Through step s more new) same later
+Through-append step old mid new (state ∷ states) more steps later =
+    (steps.0, Through-append step state mid new states more steps.1 later)
+
+pub Chained-trans : {S : Type 0} (step : S → S → Type 0) (old mid new : S) → Chained step old mid → Chained step mid new → Chained step old new
+Chained-trans step old mid new steps later = (steps.0 ++ later.0, Through-append step old mid new steps.0 later.0 steps.1 later.1)
+
 -- what each step keeps, a chain of steps keeps
 pub Through-keeps : {S X : Type 0} (step : S → S → Type 0) (part : S → X) → ((a b : S) → step a b → part b ≡ part a)
     → (old new : S) (states : List S) → Through step old states new → part new ≡ part old

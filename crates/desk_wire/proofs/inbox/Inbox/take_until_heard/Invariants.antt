@@ -1,11 +1,12 @@
 use Rattle.std.proofs.Common.{◌≡◌, ◌-◌, length}
-use Rattle.desk_wire.specs.Streams.{HasTaken}
+use Rattle.stock_io.specs.Streams.{Chained}
+use Rattle.desk_wire.specs.Streams.{ReadsMore}
 use Rattle.desk_wire.proofs.inbox.Inbox.take_until_heard.Given as goal
 
 abbrev pub invariant-loop-head : goal.invariant-loop-head
 invariant-loop-head g l =
     record {
-      taken : HasTaken g.S.Source.left g.S.Source.taken g.S.Source.faults g.S.Source.read_leaves l.initial.self l.self l.initial.source l.source;
+      reads : Chained (ReadsMore g.S.Source.left g.S.Source.taken g.S.Source.read_leaves) (l.initial.self, l.initial.source) (l.self, l.source);
       faults_kept : g.S.Source.faults l.source ≡ g.S.Source.faults l.initial.source;
     }
 
