@@ -15,7 +15,7 @@ use crate::source::Source;
 use crate::standard::{StdSink, StdSource};
 use crate::sure::{SureSink, SureSource};
 use std::alloc::Global;
-use std::net::{Net, TcpListener, TcpStream};
+use std::net::{Ipv4Addr, Net, SocketAddr, TcpListener, TcpStream};
 use std::test::Fail;
 use stock_nums::lines::Lines;
 use stock_nums::memory::NoMemory;
@@ -160,17 +160,19 @@ fn connected<R: Net<Listener = TcpListener, Stream = TcpStream> + Copy>(
     Ok((listener, client))
 }
 
-// What the client is told by the peer that it asked: how many bytes, and the first.
+// What the client is told by the peer that it asked: how many bytes, and the first. Then it comes to the
+// end, since the peer ended its link, which isn't closed yet.
 fn answer_to<L: Listener>(listener: &mut L, client: &mut NetLink) -> Result<(usize, u8), Failed> {
     write_all(client, b"ask")?;
     let mut peer = listener.accept()?;
     write_all(&mut peer, b"told")?;
-    let asked = next_read(&mut peer);
+    let asked = next_read(&mut peer)?;
     peer.end();
-    listener.hang_up(peer);
     let told = next_read(client)?;
+    let (more, _) = next_read(client)?;
+    listener.hang_up(peer);
     client.end();
-    if asked == Ok((3, b'a')) {
+    if asked == (3, b'a') && more == 0 {
         Ok(told)
     } else {
         Err(Failed)
@@ -186,5 +188,10 @@ fn sockets_answer(rt: HostRuntime) -> Result<(), Fail> {
         (4, 0, true)
     );
     assert_eq!(rt; listener.faults(), 0);
+
+    // It listens at 127.0.0.1 alone, and not at another address of this machine.
+    let port = listener.port().ok_or(Failed)?;
+    let elsewhere = rt.connect(SocketAddr::from((Ipv4Addr::new(127, 0, 0, 2), port)));
+    assert!(rt; elsewhere.is_err());
     Ok(())
 }
