@@ -1,3 +1,5 @@
+//! First in, first out (IAS 2.27).
+
 ghost use Rattle.std.specs.Prelude.{◌≡◌, ◌+◌, ◌<◌, ◌≤◌, ℕ, List, [], ◌∷◌, ◌++◌, pos, ◌+ℤ◌, ◌≤ℤ◌, unsigned_abs, OnOk, OnErr, All, sum_by};
 ghost use Rattle.stock_nums.specs.FirstIn.{next_cost, layers_left};
 ghost use Rattle.cost_formulas.specs.Lots.{Lot, lot, lot_units, lot_value, untouched};

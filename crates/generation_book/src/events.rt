@@ -1,3 +1,5 @@
+//! What a book keeps of its own history.
+
 use stock_nums::numbers::RecordNo;
 
 /// What happened to a book, in the order in which it did.

@@ -1,3 +1,5 @@
+//! The items and the warehouses of a book.
+
 ghost use Rattle.std.specs.Prelude.{◌≡◌, ◌-◌, [], ◌∷◌, ◌++◌, length, take, None, unwrap_or, IfErr, OnOk, OnErr};
 ghost use Rattle.item_master.specs.Faults.{item_fault, store_fault};
 ghost use Rattle.stock_nums.specs.Heads.{item_in, store_in};

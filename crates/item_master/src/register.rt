@@ -1,3 +1,5 @@
+//! Codes with what they stand for, found without going over them.
+
 ghost use Rattle.std.specs.Prelude.{◌≡◌, ◌-◌, [], ◌∷◌, ◌++◌, length, take, None, OnOk, OnErr};
 ghost use Rattle.item_master.specs.Register.{value_of};
 

@@ -8,7 +8,7 @@ use Rattle.stock_nums.specs.declared.entry.Key.{Key}
 use Rattle.stock_nums.specs.declared.moment.Moment.{Moment}
 use Rattle.stock_nums.specs.declared.place.Place.{Place}
 use Rattle.stock_model.specs.Reports.{is_later}
-use Rattle.stock_model.specs.Enough.{entry_key, is_same_key}
+use Rattle.stock_model.specs.Enough.{entry_key, is_of_key}
 
 -- the two places are one
 abbrev pub is_same_place : Place → Place → Bool
@@ -34,10 +34,6 @@ comes_before place e = is_before e.place place
 -- the movement comes after the place
 abbrev pub comes_after : Place → Entry → Bool
 comes_after place e = is_before place e.place
-
--- the movement is of this item in this warehouse
-abbrev pub is_of_key : Key → Entry → Bool
-is_of_key key e = is_same_key (entry_key e) key
 
 -- where the movement stands
 abbrev pub entry_place : Entry → Place

@@ -3,9 +3,10 @@ ghost use Rattle.std.specs.Prelude.{◌≡◌, ◌+◌, ◌<◌, ◌≤◌, [], 
 ghost use Rattle.std.specs.List.{find};
 ghost use Rattle.std.specs.Option.{option_copied, option_map};
 ghost use Rattle.stock_model.specs.Reports.{is_later};
+ghost use Rattle.stock_model.specs.Enough.{is_of_key};
 ghost use Rattle.stock_model.specs.InOrder.{IsInPostingOrder};
 ghost use Rattle.stock_model.specs.PostingOrder.{put};
-ghost use Rattle.posting_order.specs.Timelines.{is_at, entry_at, without, comes_before, comes_after, is_of_key, entry_place, next_place, previous_place, IsNextPlace, IsPreviousPlace, HasNoneAfter, HasNoneBefore, is_until, count_until};
+ghost use Rattle.posting_order.specs.Timelines.{is_at, entry_at, without, comes_before, comes_after, entry_place, next_place, previous_place, IsNextPlace, IsPreviousPlace, HasNoneAfter, HasNoneBefore, is_until, count_until};
 
 use std::alloc::Global;
 use std::marker::Model;

@@ -1,7 +1,11 @@
+//! The history that contracts speak of.
+
 use crate::records::Record;
 use stock_nums::numbers::RecordNo;
 
-/// One event of a book's history. Contracts speak of lists of these; the program makes none.
+/// What was done to a book, whole: a record was kept, with all that it says, or a generation was published. Contracts speak
+/// of lists of these; the program makes none. The word is not "event", which a lock's history and a book's short notes of
+/// its own have: an event of a book names a record, and a deed holds it.
 #[derive(Drop)]
 pub enum Deed {
     /// The record was accepted.

@@ -1,3 +1,5 @@
+//! Why a record is not accepted.
+
 use stock_nums::numbers::{ItemNo, Qty, StoreNo};
 use stock_nums::place::Place;
 

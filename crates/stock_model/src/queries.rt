@@ -1,3 +1,5 @@
+//! What a report asks for.
+
 use stock_nums::code::Code;
 use stock_nums::entry::Row;
 use stock_nums::head::Head;

@@ -1,3 +1,5 @@
+//! What is wrong with a line of input that asks for nothing, and with a stored text that is no record.
+
 /// A field of a request or of a stored record, or what stands for one.
 #[derive(Clone, Copy, Debug, PartialEq, Eq)]
 pub enum FieldName {

@@ -1,3 +1,5 @@
+//! What a book keeps: an item, a warehouse or a voucher, with the desk that posted it.
+
 ghost use Rattle.std.specs.Prelude.{◌≡◌, ◌≤◌, IsTrue, IfOk};
 ghost use Rattle.stock_nums.specs.declared.limits.TheConstants.{MAX_DESK};
 ghost use Rattle.stock_model.specs.Limits.{is_within_limits};

@@ -1,3 +1,5 @@
+//! What a book answers: to a record that is posted, and to a report that is asked for.
+
 use crate::faults::PostFault;
 use crate::read_faults::ReadFault;
 use stock_nums::code::Code;

@@ -1,3 +1,5 @@
+//! What a line of input asks for: every word that a desk can say.
+
 use crate::queries::Query;
 use crate::vouchers::What;
 

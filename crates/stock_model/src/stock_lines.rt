@@ -1,3 +1,5 @@
+//! What the lines of every kind of voucher have in common.
+
 ghost use Rattle.std.specs.Prelude.{◌≡◌, ℕ, List};
 ghost use Rattle.stock_model.specs.Faults.{receipt_item, receipt_store, issue_item, issue_store};
 

@@ -1,3 +1,5 @@
+//! The lines of each kind of voucher.
+
 ghost use Rattle.std.specs.Prelude.{◌≡◌, IsTrue, IfOk};
 ghost use Rattle.stock_nums.specs.Quantities.{IsLineQuantity, is_line_amount};
 

@@ -1,3 +1,5 @@
+//! The kit's reader of JSON, and the faults that it finds.
+
 ghost use Rattle.std.specs.Prelude.{◌≡◌, ◌⊎◌, Ok, Err, IfOk, IfErr};
 ghost use Rattle.serde_json.specs.View.{view};
 ghost use Rattle.stock_model.specs.declared.read_faults.ReadFault.{ReadFault};

@@ -1,3 +1,5 @@
+//! Moments as they stand in replies.
+
 ghost use Rattle.std.specs.Prelude.{◌≡◌, IfOk, string_bytes};
 ghost use Rattle.stock_nums.specs.MomentText.{moment_text};
 

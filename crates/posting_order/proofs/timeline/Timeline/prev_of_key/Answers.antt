@@ -3,9 +3,10 @@ use Rattle.std.proofs.Common.{List, length, take, filter, reverse, ap, ◌∙◌
 use Rattle.std.specs.List.{find}
 use Rattle.std.specs.Option.{option_map}
 use Rattle.stock_nums.specs.declared.entry.Entry.{Entry}
+use Rattle.stock_model.specs.Enough.{is_of_key}
 use Rattle.stock_model.specs.InOrder.{IsInPostingOrder}
 use Rattle.posting_order.specs.State.{TimelineState}
-use Rattle.posting_order.specs.Timelines.{comes_before, is_of_key, entry_place}
+use Rattle.posting_order.specs.Timelines.{comes_before, entry_place}
 use Rattle.posting_order.proofs.Neighbours.{previous_place-front, previous_place-answer}
 use Rattle.posting_order.proofs.timeline.Timeline.prev_of_key.Goals as goal
 
