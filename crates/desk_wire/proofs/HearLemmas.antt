@@ -14,7 +14,7 @@ use Rattle.desk_wire.specs.Waiting.{Waiting}
 use Rattle.desk_wire.specs.Streams.{TakesIn, ReadsMore, whole, LiesIn, IfNext, heard_answer, IsOfStream, IsHopeless, IsHeardAs}
 use Rattle.desk_wire.specs.Rules.{Answers}
 use Rattle.desk_wire.proofs.InboxLemmas.{nothing_new}
-use Rattle.desk_wire.proofs.RuleLemmas.{Answers-append, Answers-unique, whole_is_not_more, whole_within, needed_only_if_hopeless}
+use Rattle.desk_wire.proofs.RuleLemmas.{Answers-append, Answers-unique, whole_within, needed_only_if_hopeless}
 
 pub IfSome-any : {A : Type 0} (o : Option A) {P : A → Type 0} → ((a : A) → P a) → IfSome o P
 IfSome-any None all = tt

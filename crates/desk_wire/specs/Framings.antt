@@ -13,14 +13,14 @@ abbrev pub Parts : List ℕ → List Request → List ℕ → Type 0
 Parts stream [] rest = stream ≡ rest
 Parts stream (request ∷ requests) rest = Answers stream (whole request) × Parts (drop (size request) stream) requests rest
 
--- what was ahead is these whole requests one after another, and then what is ahead now, where it is told
+-- what was ahead is these whole requests one after another, and then what is ahead now, where that is told
 abbrev pub Follows : Option (List ℕ) → List Request → Option (List ℕ) → Type 0
 Follows None requests now = ⊤
 Follows (Some stream) requests None = ⊥
 Follows (Some stream) requests (Some rest) = Parts stream requests rest
 
--- the limit allows the stop, where so many bytes may be taken of so many that are left: the stream ends before the limit, and
--- the limit is reached where there are as many
+-- the limit allows the stop, where so many bytes may be taken of so many that are left: the stream ends
+-- where fewer are left, and the limit is reached where as many are
 abbrev pub AllowsStop : ℕ → ℕ → Stop → Type 0
 AllowsStop spare left (Refused status) = ⊤
 AllowsStop spare left Ended = left < spare

@@ -51,16 +51,17 @@ pub record TakesIn {S : Type 0} (left : S → Option (List ℕ)) (taken : S → 
   pub took : Consumes (left source) (left source') piece
   pub counted : taken source' ≡ taken source + length piece
 
--- one read that was needed, of an inbox and its source: the rules answered More to the bytes that waited, more might be
--- taken, and what was read was put behind them. leaves is what the source says that a read leaves as it was
+-- one read that was needed, of an inbox and its source: the rules answered More to the bytes that waited,
+-- more might be taken, and what was read was put behind them. leaves is what the source says of one read,
+-- so that several don't pass for one
 pub record ReadsMore {S : Type 0} (left : S → Option (List ℕ)) (taken : S → ℕ) (leaves : S → S → Type 0) (before after : Waiting × S) : Type 0 where
   pub needed : Answers before.0.bytes More
   pub allowed : 0 < before.0.spare
   pub takes_in : TakesIn left taken before.0 after.0 before.1 after.1
   pub frame : leaves before.1 after.1
 
--- where no whole request waits, the stop tells whether the limit was reached: no more bytes may be taken after TooMuch, and
--- some more after the end
+-- where no whole request waits, the stop tells whether the limit was reached: no more bytes may be taken
+-- after TooMuch, and some more after the end
 abbrev pub TellsLimit : Heard → Waiting → Type 0
 TellsLimit (Next request) waits = ⊤
 TellsLimit (Last (Refused status)) waits = ⊤

@@ -15,10 +15,11 @@ nothing_waits limit = record { bytes = []; spare = limit }
 abbrev pub after_passing : Waiting → ℕ → Waiting
 after_passing waits count = record { bytes = drop count waits.bytes; spare = waits.spare }
 
--- what is ahead of an inbox whose source has these bytes left, where that is told: the bytes that wait, and then those
+-- what is ahead of an inbox whose source has these bytes left, where that is told: the bytes that wait, and
+-- then those
 abbrev pub ahead : Waiting → Option (List ℕ) → Option (List ℕ)
 ahead waits left = prepend_known waits.bytes left
 
--- the part of it that may be heard: of the source's bytes as many as may be taken
+-- the part of it that may be heard: the bytes that wait, and then as many of the source as may be taken
 abbrev pub in_reach : Waiting → List ℕ → List ℕ
 in_reach waits left = waits.bytes ++ take waits.spare left

@@ -1,3 +1,4 @@
+//! Whether a connection ends, by the Connection fields of a head.
 ghost use Rattle.std.specs.Prelude.{◌≡◌, ◌==◌, false, ◌∷◌, ◌++◌, length, map, reverse, codes, IfSome, IfNone};
 ghost use Rattle.std.specs.List.{All, list_any};
 ghost use Rattle.httparse.specs.Grammar.{is_ows, skip_ows, trim_ows};
@@ -7,7 +8,8 @@ ghost use Rattle.desk_wire.specs.Heads.{is_comma, is_close, lists_close, values_
 use httparse::spans::HeaderSpan;
 use memchr::memchr;
 
-/// Whether a Connection field lists `close`.
+/// Whether a Connection field lists `close`: the fields are places in the front of a buffer. ASCII case and
+/// blanks around the elements don't matter.
 pub fn some_lists_close(front: &[u8], fields: &[HeaderSpan]) -> bool
     requires within { All (IsHeaderWithin (length front.now)) fields.now }
     ensures { result ≡ list_any lists_close (values_of (codes "connection") (map (header_bytes front.now) fields.now)) }

@@ -1,3 +1,4 @@
+//! The fields of a head, by their names.
 ghost use Rattle.std.specs.Prelude.{◌≡◌, ◌+◌, ◌<◌, ◌^◌, [], ◌∷◌, ◌++◌, ℕ, List, length, map};
 ghost use Rattle.std.specs.List.{All};
 ghost use Rattle.httparse.specs.Spans.{IsHeaderWithin, IsWithin, header_bytes, span_bytes};
@@ -9,7 +10,9 @@ use httparse::spans::{HeaderSpan, Span};
 /// The fields of one name: how many there are, and where the value of the first is.
 #[derive(Clone, Copy)]
 pub struct Found {
+    /// How many fields have the name.
     pub count: usize,
+    /// Where the value of the first of them is, or no byte of the front.
     pub first: Span,
 }
 
@@ -29,7 +32,8 @@ impl Found {
     }
 }
 
-/// Finds the fields of a name. ASCII case doesn't matter.
+/// Finds the fields of a name, which are places in the front of a buffer. ASCII case of the name doesn't
+/// matter.
 pub fn find_named(front: &[u8], fields: &[HeaderSpan], name: &[u8]) -> Found
     requires within { All (IsHeaderWithin (length front.now)) fields.now }
     ensures { Finds front.now result (values_of name.now (map (header_bytes front.now) fields.now)) }

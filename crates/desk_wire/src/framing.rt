@@ -20,7 +20,9 @@ use stock_nums::lines::Lines;
 /// The requests of a stream, and why they stop.
 #[derive(Drop)]
 pub struct Framing {
+    /// The requests in the order in which they came, by their lengths.
     pub requests: Lines<Request>,
+    /// Why no request follows the last of them.
     pub stop: Stop,
 }
 
@@ -71,6 +73,7 @@ pub fn frame<S: Source>(
     hear_all(alloc, inbox, source)
 }
 
+// Hears one request after another, and lets each go.
 fn hear_all<S: Source>(
     alloc: Global,
     inbox: &mut Inbox,

@@ -1,4 +1,5 @@
-/// A whole request at the front of the bytes that wait.
+//! What is heard of a stream: its requests, and why they stop.
+/// A whole request at the front of the bytes that wait, by its lengths: it is not copied.
 #[derive(Debug, Clone, Copy, PartialEq, Eq)]
 pub struct Request {
     /// How many bytes the head has.
@@ -16,7 +17,7 @@ pub enum Stop {
     Refused { status: u16 },
     /// The stream ended. What waits is no whole request.
     Ended,
-    /// As many bytes were taken as may be. What waits is no whole request.
+    /// As many bytes were taken as may be, before the end was seen. What waits is no whole request.
     TooMuch,
 }
 

@@ -42,7 +42,12 @@ impl Model for Inbox {
 }
 
 impl Inbox {
-    /// An inbox that takes at most so many bytes in all. Its room is taken now.
+    /// An inbox that takes at most so many bytes in all, of whatever sources.
+    ///
+    /// # Errors
+    ///
+    /// `NoMemory` where its room, of `INBOX_SIZE` bytes, can't be had. It is taken now: no other call takes
+    /// memory.
     pub fn new(alloc: Global, limit: u64) -> Result<Inbox, NoMemory>
         ensures { IfOk result (λ inbox. inbox ≡ nothing_waits limit) }
     {
@@ -54,14 +59,15 @@ impl Inbox {
         })
     }
 
-    /// The bytes that wait.
+    /// The bytes that came and were not passed on, in order. At most `INBOX_SIZE` wait.
     pub fn bytes(&self) -> &[u8]
         ensures { result.now ≡ self.now.bytes }
     {
         &self.buffer.as_slice()[self.start..self.end]
     }
 
-    /// Passes on the first bytes that wait.
+    /// Passes on the first bytes that wait, as those of a request that was heard: they are gone from here. How
+    /// many more may be taken stays as it is.
     pub fn pass(&mut self, count: usize)
         requires { count ≤ length self.old.bytes }
         ensures { self.new ≡ after_passing self.old count }
@@ -69,11 +75,12 @@ impl Inbox {
         self.start += count;
     }
 
-    /// Hears the next request. It reads only while more bytes are needed.
+    /// Hears the next request, which waits then at the front until it is passed on, or why there is none. It
+    /// reads only while more bytes are needed, so that a client that waits for its answer gets it.
     ///
     /// # Errors
     ///
-    /// `Failed` where a read failed: the source counted a fault.
+    /// `Failed` where a read failed: the source counted a fault. What came before waits.
     pub fn hear<S: Source>(&mut self, source: &mut S) -> Result<Heard, Failed>
         ensures takes_in { TakesIn S.left S.taken self.old self.new source.old source.new }
         ensures heard { IfOk result (λ heard. Answers self.new.bytes (heard_answer heard)) }

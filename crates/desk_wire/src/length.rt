@@ -1,3 +1,4 @@
+//! The value of a Content-Length field.
 ghost use Rattle.std.specs.Prelude.{◌≡◌, ◌+◌, min, is_some, IfSome};
 ghost use Rattle.std.specs.Str.Parse.{digits_value};
 ghost use Rattle.desk_wire.specs.Heads.{is_length};

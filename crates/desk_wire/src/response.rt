@@ -1,3 +1,4 @@
+//! The text of a response, byte for byte.
 ghost use Rattle.std.specs.Prelude.{◌≡◌, ◌++◌, OnOk, IfOk};
 ghost use Rattle.desk_wire.specs.Responses.{IsDeskStatus, phrase, status_line, field_line, allow_field, close_field, response_text};
 
@@ -7,8 +8,12 @@ use std::alloc::{AllocError, Global};
 use stock_nums::lines::Lines;
 use stock_nums::memory::NoMemory;
 
-/// The response with this status and this body. Where it closes, it says that the connection ends
-/// after it.
+/// The response with this status, one of those that a desk answers with, and this body, which is JSON. With
+/// `close` it says that the connection ends after it.
+///
+/// # Errors
+///
+/// `NoMemory` where memory was wanting.
 pub fn response_text(
     alloc: Global,
     status: u16,

@@ -1,3 +1,4 @@
-/// The outside world failed a call. The stream that gave it has counted a fault.
+//! The one error of the outside world.
+/// The outside world failed a call. The source, sink or listener that was called has counted a fault.
 #[derive(Debug, Clone, Copy, PartialEq, Eq)]
 pub struct Failed;

@@ -1,5 +1,6 @@
-//! The traits of the outside world: where bytes come from and where they go, in memory and over the
-//! standard streams.
+//! The traits of the outside world: where bytes come from, where they go, and who connects. Each has a
+//! double in memory that fails as planned, and stands over the standard streams or over sockets of this
+//! machine.
 #![tactic(auto)]
 
 mod edge;

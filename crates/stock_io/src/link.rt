@@ -1,3 +1,4 @@
+//! Connections, each a source and a sink in one.
 ghost use Rattle.std.specs.Prelude.{◌≡◌, true, Bool};
 
 use crate::sink::Sink;

@@ -1,3 +1,4 @@
+//! Where connections come from.
 ghost use Rattle.std.specs.Prelude.{◌≡◌, ℕ, ◌+◌, ◌<◌, ◌≤◌, Option, List, [], IfOk, OnOk, OnErr, IfSome, false};
 ghost use Rattle.stock_io.specs.Counts.{Rose, NeverFalls};
 ghost use Rattle.stock_io.specs.Listeners.{HandsOut, HangsUp, IsFresh};
@@ -34,6 +35,7 @@ pub trait Listener {
         ensures hung_up_kept { hung_up self.new ≡ hung_up self.old }
         ensures accepts_kept { accepts self.new ≡ accepts self.old }
         ensures hang_ups_kept { hang_ups self.new ≡ hang_ups self.old }
+        ensures faults_kept { OnOk result (faults self.new ≡ faults self.old) }
         ensures never_falls { NeverFalls (faults self.old) (faults self.new) }
         ensures cause { OnErr result (Rose (faults self.old) (faults self.new)) };
 
@@ -52,6 +54,7 @@ pub trait Listener {
         ensures not_counted { OnErr result (accepts self.new ≡ accepts self.old) }
         ensures hung_up_kept { hung_up self.new ≡ hung_up self.old }
         ensures hang_ups_kept { hang_ups self.new ≡ hang_ups self.old }
+        ensures faults_kept { OnOk result (faults self.new ≡ faults self.old) }
         ensures never_falls { NeverFalls (faults self.old) (faults self.new) }
         ensures cause { OnErr result (Rose (faults self.old) (faults self.new)) };
 

@@ -1,3 +1,4 @@
+//! The double of a connection: what the peer sends is chosen, and what goes to it is kept.
 ghost use Rattle.std.specs.Prelude.{◌≡◌, ◌<◌, ◌↔◌, ◌⊎◌, ◌+◌, ◌-◌, ◌^◌, [], ◌++◌, length, take, min, IfOk, OnErr, IsErr};
 ghost use Rattle.std.specs.Io.{ReadsAtMost, WritesAtMost};
 ghost use Rattle.stock_io.specs.Counts.{NeverFalls};
@@ -33,8 +34,11 @@ impl Model for MemLink {
 
 impl MemLink {
     /// A link whose peer sends these bytes, of which a read takes at most `piece`, and takes as many
-    /// as there is room. The room is taken now: a write takes no memory. The reads and the writes
-    /// whose numbers, each counted from 1, are listed fail.
+    /// as there is room. The reads and the writes whose numbers, each counted from 1, are listed fail.
+    ///
+    /// # Errors
+    ///
+    /// `NoMemory` where the room can't be had. It is taken now: a write takes no memory.
     pub fn new(
         alloc: Global,
         bytes: Lines<u8>,
@@ -53,14 +57,14 @@ impl MemLink {
         })
     }
 
-    /// How many bytes were taken so far.
+    /// How many bytes of the peer were taken so far.
     pub fn taken(&self) -> u64
         ensures { result ≡ self.now.source.supply.taken }
     {
         self.source.taken()
     }
 
-    /// The bytes that were written.
+    /// All the bytes that went to the peer, in order.
     pub fn written(&self) -> &[u8]
         ensures { result.now ≡ self.now.sink.written }
     {
@@ -74,7 +78,7 @@ impl MemLink {
         self.source.faults().saturating_add(self.sink.faults())
     }
 
-    /// Whether the link was ended.
+    /// Whether the link was ended. Nothing else ends it, and it stays so.
     pub fn is_ended(&self) -> bool
         ensures { result ≡ self.now.ended }
     {

@@ -1,3 +1,4 @@
+//! The double of a listener: the peers that come are chosen.
 ghost use Rattle.std.specs.Prelude.{◌≡◌, ◌+◌, ◌<◌, ◌↔◌, ◌⊎◌, [], ◌∷◌, length, map, All, IfOk, OnOk, OnErr, IsErr};
 ghost use Rattle.stock_io.specs.Counts.{NeverFalls};
 ghost use Rattle.stock_io.specs.Memory.{NextFails};
@@ -35,9 +36,12 @@ impl Model for MemListener {
 }
 
 impl MemListener {
-    /// A listener with these peers, of which nothing was used yet. The room for all that are hung up
-    /// is taken now. The calls of `listen` and `accept` whose numbers, counted from 1 over both, stand
-    /// in `failing` fail.
+    /// A listener with these peers, the first of which comes first. Nothing was used of them yet. The
+    /// calls of `listen` and `accept` whose numbers, counted from 1 over both, stand in `failing` fail.
+    ///
+    /// # Errors
+    ///
+    /// `NoMemory` where the room for all that are hung up can't be had. It is taken now.
     pub fn new(
         alloc: Global,
         peers: Vec<MemLink>,
@@ -57,14 +61,14 @@ impl MemListener {
         })
     }
 
-    /// The peers that were hung up, in order.
+    /// The peers that were hung up, first the one that was hung up first.
     pub fn hung_up(&self) -> &[MemLink]
         ensures { result.now ≡ self.now.hung_up }
     {
         self.hung_up.as_slice()
     }
 
-    /// How many calls failed.
+    /// How many calls of `listen` and `accept` failed. The count stays at `u64::MAX`.
     pub fn faults(&self) -> u64
         ensures { result ≡ self.now.plan.faults }
     {

@@ -1,3 +1,4 @@
+//! The double of a sink: what was written can be looked at.
 ghost use Rattle.std.specs.Prelude.{◌≡◌, ◌<◌, ◌↔◌, ◌⊎◌, length, take, IfOk, OnErr, IsErr};
 ghost use Rattle.std.specs.Io.{WritesAtMost};
 ghost use Rattle.stock_io.specs.Counts.{NeverFalls};
@@ -31,8 +32,12 @@ impl Model for MemSink {
 }
 
 impl MemSink {
-    /// A sink with room for so many bytes, which is taken now: a write takes no memory. The writes
-    /// whose numbers, counted from 1, stand in `failing` fail.
+    /// A sink with room for so many bytes in all. The writes whose numbers, counted from 1, stand in
+    /// `failing` fail, and so does a write that finds no room.
+    ///
+    /// # Errors
+    ///
+    /// `NoMemory` where the room can't be had. It is taken now: a write takes no memory.
     pub fn new(alloc: Global, room: usize, failing: Lines<u64>) -> Result<MemSink, NoMemory>
         ensures { IfOk result (λ sink. sink ≡ new_sink room failing) }
     {
@@ -43,14 +48,14 @@ impl MemSink {
         })
     }
 
-    /// The bytes that were written.
+    /// All the bytes that were written, in order.
     pub fn bytes(&self) -> &[u8]
         ensures { result.now ≡ self.now.written }
     {
         self.bytes.as_slice()
     }
 
-    /// How many writes failed.
+    /// How many writes failed, as planned or for want of room. The count stays at `u64::MAX`.
     pub fn faults(&self) -> u64
         ensures { result ≡ self.now.plan.faults }
     {

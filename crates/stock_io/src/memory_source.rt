@@ -1,3 +1,4 @@
+//! The double of a source: the bytes that it gives are chosen.
 ghost use Rattle.std.specs.Prelude.{◌≡◌, ◌<◌, ◌↔◌, [], ◌++◌, length, take, IfOk, OnErr, IsErr};
 ghost use Rattle.std.specs.Io.{ReadsAtMost};
 ghost use Rattle.stock_io.specs.Counts.{NeverFalls};
@@ -38,14 +39,14 @@ impl MemSource {
         }
     }
 
-    /// How many bytes were taken so far.
+    /// How many bytes were taken so far. A read that failed took none.
     pub fn taken(&self) -> u64
         ensures { result ≡ self.now.supply.taken }
     {
         self.source.taken()
     }
 
-    /// How many reads failed.
+    /// How many reads failed, all of them planned. The count stays at `u64::MAX`.
     pub fn faults(&self) -> u64
         ensures { result ≡ self.now.plan.faults }
     {

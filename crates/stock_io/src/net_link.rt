@@ -1,3 +1,4 @@
+//! Connections over sockets of this machine.
 ghost use Rattle.std.specs.Prelude.{◌≡◌, ◌<◌, length, IfOk, OnOk, OnErr};
 ghost use Rattle.std.specs.Io.{ReadsAtMost, WritesAtMost};
 ghost use Rattle.stock_io.specs.Counts.{NeverFalls};
@@ -56,7 +57,7 @@ impl NetLink {
         }
     }
 
-    /// How many bytes were taken so far.
+    /// How many bytes of the peer were taken so far. A read that failed took none.
     pub fn taken(&self) -> u64
         ensures { result ≡ self.now.taken }
     {
@@ -70,7 +71,7 @@ impl NetLink {
         self.faults
     }
 
-    /// Whether the link was ended.
+    /// Whether this side ended the link. That the peer ended it shows at a read, which gives no bytes.
     pub fn is_ended(&self) -> bool
         ensures { result ≡ self.now.ended }
     {

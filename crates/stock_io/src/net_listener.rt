@@ -1,3 +1,4 @@
+//! A port of this machine, where connections over sockets come from.
 ghost use Rattle.std.specs.Prelude.{◌≡◌, ◌<◌, OnOk, OnErr, IfOk};
 ghost use Rattle.stock_io.specs.Counts.{NeverFalls};
 ghost use Rattle.stock_io.specs.Nets.{new_port, new_connection, after_port_fault, after_handing_out, after_taking_back};
@@ -30,7 +31,7 @@ impl<R> Model for NetListener<R> {
 }
 
 impl<R> NetListener<R> {
-    /// A listener that listens to nothing yet.
+    /// A listener that listens to nothing yet: no peer can be accepted before `listen`.
     pub fn new(rt: R) -> NetListener<R>
         ensures { result ≡ new_port }
     {
@@ -43,13 +44,14 @@ impl<R> NetListener<R> {
         }
     }
 
-    /// The port that it listens to, if it does. The system chooses one where port 0 was asked for.
+    /// The port that it listens to, if it does and the system tells. The system chooses one where port 0
+    /// was asked for.
     pub fn port(&self) -> Option<u16> {
         let socket = self.socket.as_ref()?;
         Some(socket.local_addr().ok()?.port())
     }
 
-    /// How many calls failed. The count stays at `u64::MAX`.
+    /// How many calls of `listen` and `accept` failed. The count stays at `u64::MAX`.
     pub fn faults(&self) -> u64
         ensures { result ≡ self.now.faults }
     {

@@ -1,3 +1,4 @@
+//! The faults of the doubles in memory, which are planned by the numbers of calls.
 ghost use Rattle.std.specs.Prelude.{◌≡◌, ◌↔◌, IsTrue, if◌then◌else◌};
 ghost use Rattle.stock_io.specs.Memory.{new_plan, NextFails, after_call, after_failure, after_fault};
 ghost use Rattle.stock_io.specs.Counts.{NeverFalls};
@@ -22,7 +23,7 @@ impl Model for FailurePlan {
 }
 
 impl FailurePlan {
-    /// A plan by the numbers of the calls that fail, counted from 1.
+    /// A plan by the numbers of the calls that fail, counted from 1. No call was made yet.
     pub fn new(failing: Lines<u64>) -> FailurePlan
         ensures { result ≡ new_plan failing }
     {
@@ -56,7 +57,7 @@ impl FailurePlan {
         self.faults = self.faults.saturating_add(1);
     }
 
-    /// How many faults there were.
+    /// How many faults were counted, planned ones and others. The count stays at `u64::MAX`.
     pub fn faults(&self) -> u64
         ensures { result ≡ self.now.faults }
     {

@@ -1,3 +1,4 @@
+//! Standard input as a source, standard output and standard error as sinks.
 ghost use Rattle.std.specs.Prelude.{◌≡◌, ◌<◌, length, IfOk, OnOk, OnErr};
 ghost use Rattle.std.specs.Io.{ReadsAtMost, WritesAtMost};
 ghost use Rattle.stock_io.specs.Counts.{NeverFalls, raised};
@@ -38,7 +39,7 @@ impl<R: Input> StdSource<R> {
         }
     }
 
-    /// How many bytes were taken so far.
+    /// How many bytes were taken so far. A read that failed took none.
     pub fn taken(&self) -> u64
         ensures { result ≡ self.now.taken }
     {
@@ -95,7 +96,7 @@ impl<P> Model for StdSink<P> {
 }
 
 impl<P: Print> StdSink<P> {
-    /// Standard output, as a runtime prints to it.
+    /// Standard output, as a runtime prints to it. Nothing is held back between writes.
     pub fn output(rt: P) -> StdSink<P>
         ensures { result ≡ 0 }
     {
@@ -114,7 +115,7 @@ impl<P: Print> StdSink<P> {
 }
 
 impl StdSink<Stderr> {
-    /// Standard error.
+    /// Standard error, with a count of faults of its own.
     pub fn notes(stream: Stderr) -> StdSink<Stderr>
         ensures { result ≡ 0 }
     {

@@ -1,3 +1,4 @@
+//! A source and a sink that never fail.
 ghost use Rattle.std.specs.Prelude.{◌≡◌, ◌<◌, [], min, ◌++◌, length, take, drop, IfOk};
 ghost use Rattle.std.specs.Io.{ReadsAtMost};
 ghost use Rattle.stock_io.specs.Memory.{new_supply, read_len, after_taking};
@@ -88,7 +89,7 @@ fn copy_front(from: &[u8], to: &mut [u8]) -> usize
 pub struct SureSink;
 
 impl SureSink {
-    /// The sink.
+    /// The sink. It has no state, so that any two are alike.
     pub fn new() -> SureSink {
         SureSink
     }
