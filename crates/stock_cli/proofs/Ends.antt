@@ -1,5 +1,5 @@
 -- What stands where a run ends.
-use Rattle.std.proofs.Common.{◌≡◌, ℕ, ◌+◌, ◌<◌, List, [], ◌++◌, length, length-append, arith, Option, None, Some, IfSome, refl, sym, ap, ◌∙◌, subst, append_assoc, inl, inr}
+use Rattle.std.proofs.Common.{◌≡◌, ℕ, ◌+◌, ◌<◌, ◌≤◌, List, [], ◌++◌, length, length-append, arith, Option, None, Some, refl, sym, ap, ◌∙◌, subst, append_assoc, inl, inr}
 use Rattle.std.proofs.lemmas.List.{append-nil}
 use Rattle.std.proofs.KnownBytes.{Appends-nil, Appends-trans, Consumes-nil, Consumes-trans, Consumes-kept}
 use Rattle.std.specs.Io.KnownBytes.{Consumes, Keeps, IsAtEnd}
@@ -12,7 +12,7 @@ use Rattle.stock_cli.specs.declared.end.End.TheVariants.{Done, NoMemory, ReadFai
 use Rattle.stock_cli.specs.Statuses.{HasCause, IsReadToEnd, max_input}
 use Rattle.stock_cli.specs.Replies.{Answered}
 use Rattle.stock_cli.specs.Batches.{StandsFor, GoesOn}
-use Rattle.stock_cli.specs.Ran.{Ran, UnderWay, Steps, Stops, IsOutputEnd, IsLastEnd}
+use Rattle.stock_cli.specs.Ran.{Ran, UnderWay, TakesPiece, Stops, Finishes, IsOutputEnd, IsLastEnd}
 use Rattle.stock_cli.proofs.Batches.{Answered-whole}
 
 -- where nothing waits, what was written are the replies to all whole lines
@@ -20,15 +20,25 @@ pub Answered-written : (batch : Batch) (taken written : List ℕ) → StandsFor 
 Answered-written batch taken written stands waits =
     subst (Answered (whole_lines_of taken)) (ap (λ (text : List ℕ). written ++ text) waits ∙ append-nil written) (Answered-whole batch taken written stands)
 
+-- and they still are where nothing more is written
+Answered-unwritten : (batch : Batch) (taken written : List ℕ) → StandsFor batch taken written → batch.waiting.items ≡ [] → Answered (whole_lines_of taken) (written ++ [])
+Answered-unwritten batch taken written stands waits = subst (Answered (whole_lines_of taken)) (sym (append-nil written)) (Answered-written batch taken written stands waits)
+
 -- for want of memory what waits is dropped
 pub Stops-memory : {O : Type 0} (written : O → Option (List ℕ)) (batch : Batch) (piece : List ℕ) (output : O) → Stops written batch piece output output NoMemory
 Stops-memory written batch piece output =
     record {
       text = [];
       wrote = Appends-nil (written output);
-      says =
-          λ bytes before stands waits.
-          (bytes, piece, refl, subst (Answered (whole_lines_of bytes)) (sym (append-nil before)) (Answered-written batch bytes before stands waits));
+      says = λ left bytes before stands waits. (bytes, piece, refl, Answered-unwritten batch bytes before stands waits);
+    }
+
+pub Finishes-memory : {O : Type 0} (written : O → Option (List ℕ)) (batch : Batch) (output : O) → Finishes written batch output output NoMemory
+Finishes-memory written batch output =
+    record {
+      text = [];
+      wrote = Appends-nil (written output);
+      says = λ left bytes before to_end stands waits. (bytes, [], append-nil bytes, Answered-unwritten batch bytes before stands waits);
     }
 
 front_text : (before front rest waiting : List ℕ) → front ++ rest ≡ waiting → before ++ waiting ≡ (before ++ front) ++ rest
@@ -42,59 +52,45 @@ Stops-write written old mid piece before after goes wrote =
       text = wrote.0;
       wrote = wrote.3;
       says =
-          λ bytes text stands waits.
+          λ left bytes text stands waits.
           (wrote.1, inl (subst (Answered (whole_lines_of (bytes ++ piece))) (front_text text wrote.0 wrote.1 mid.waiting.items wrote.2) (Answered-whole mid (bytes ++ piece) text (goes bytes text stands))));
     }
 
--- and where it fails at the end of the input
-pub Stops-last_write : {O : Type 0} (written : O → Option (List ℕ)) (old mid : Batch) (before after : O)
+-- and where it fails at the end of the source
+pub Finishes-write : {O : Type 0} (written : O → Option (List ℕ)) (old mid : Batch) (before after : O)
     → ((taken text : List ℕ) → StandsFor old taken text → Answered (lines_of taken) (text ++ mid.waiting.items))
-    → AppendsFront (written before) (written after) mid.waiting.items → Stops written old [] before after WriteFailed
-Stops-last_write written old mid before after answered wrote =
+    → AppendsFront (written before) (written after) mid.waiting.items → Finishes written old before after WriteFailed
+Finishes-write written old mid before after answered wrote =
     record {
       text = wrote.0;
       wrote = wrote.3;
       says =
-          λ bytes text stands waits.
-          (wrote.1, inr (subst (λ (taken : List ℕ). Answered (lines_of taken) ((text ++ wrote.0) ++ wrote.1)) (sym (append-nil bytes)) (subst (Answered (lines_of bytes)) (front_text text wrote.0 wrote.1 mid.waiting.items wrote.2) (answered bytes text stands))));
+          λ left bytes text to_end stands waits.
+          (wrote.1, inr (to_end, subst (Answered (lines_of bytes)) (front_text text wrote.0 wrote.1 mid.waiting.items wrote.2) (answered bytes text stands)));
     }
 
--- a fault that the output counts late in a run
-Rose-later : (before now after : ℕ) → NeverFalls before now → Rose now after → Rose before after
-Rose-later before now after falls rose end = let later : now < after = rose end in omega arith
+-- a fault that is counted late in a run
+Rose-later : (before now after : ℕ) → now ≡ before → Rose now after → Rose before after
+Rose-later before now after kept rose = subst (λ (n : ℕ). Rose n after) kept rose
 
-HasCause-output : (end : End) (read_before read_after before now after taken : ℕ) → NeverFalls before now → IsOutputEnd now after end
+HasCause-output : (end : End) (read_before read_after before now after taken : ℕ) → taken ≤ max_input → read_after ≡ read_before → now ≡ before → IsOutputEnd now after end
     → HasCause end read_before read_after before after taken
-HasCause-output Done read_before read_after before now after taken falls cause = absurd cause
-HasCause-output NoMemory read_before read_after before now after taken falls cause = tt
-HasCause-output ReadFailed read_before read_after before now after taken falls cause = absurd cause
-HasCause-output WriteFailed read_before read_after before now after taken falls cause = Rose-later before now after falls cause
-HasCause-output TooLong read_before read_after before now after taken falls cause = absurd cause
+HasCause-output Done read_before read_after before now after taken most reads kept cause = absurd cause
+HasCause-output NoMemory read_before read_after before now after taken most reads kept cause = (most, reads, cause ∙ kept)
+HasCause-output ReadFailed read_before read_after before now after taken most reads kept cause = absurd cause
+HasCause-output WriteFailed read_before read_after before now after taken most reads kept cause = (most, reads, Rose-later before now after kept cause)
+HasCause-output TooLong read_before read_after before now after taken most reads kept cause = absurd cause
 
-IsReadToEnd-output : (end : End) (now after : ℕ) (left : Option (List ℕ)) (taken : List ℕ) → IsOutputEnd now after end → IsReadToEnd end left taken
-IsReadToEnd-output Done now after left taken cause = absurd cause
-IsReadToEnd-output NoMemory now after left taken cause = tt
-IsReadToEnd-output ReadFailed now after left taken cause = tt
-IsReadToEnd-output WriteFailed now after left taken cause = tt
-IsReadToEnd-output TooLong now after left taken cause = tt
-
-HasCause-last : (end : End) (read_before read_after before now after taken : ℕ) → taken < max_input → NeverFalls before now → IsLastEnd now after end
+HasCause-last : (end : End) (read_before read_after before now after taken : ℕ) → taken < max_input → read_after ≡ read_before → now ≡ before → IsLastEnd now after end
     → HasCause end read_before read_after before after taken
-HasCause-last Done read_before read_after before now after taken few falls cause = few
-HasCause-last NoMemory read_before read_after before now after taken few falls cause = tt
-HasCause-last ReadFailed read_before read_after before now after taken few falls cause = absurd cause
-HasCause-last WriteFailed read_before read_after before now after taken few falls cause = Rose-later before now after falls cause
-HasCause-last TooLong read_before read_after before now after taken few falls cause = absurd cause
-
-IsReadToEnd-last : (end : End) (left : Option (List ℕ)) (taken : List ℕ) → IfSome left (λ all. taken ≡ all) → IsReadToEnd end left taken
-IsReadToEnd-last Done left taken all = all
-IsReadToEnd-last NoMemory left taken all = tt
-IsReadToEnd-last ReadFailed left taken all = tt
-IsReadToEnd-last WriteFailed left taken all = tt
-IsReadToEnd-last TooLong left taken all = tt
+HasCause-last Done read_before read_after before now after taken few reads kept cause = (few, reads, cause ∙ kept)
+HasCause-last NoMemory read_before read_after before now after taken few reads kept cause = (omega arith, reads, cause ∙ kept)
+HasCause-last ReadFailed read_before read_after before now after taken few reads kept cause = absurd cause
+HasCause-last WriteFailed read_before read_after before now after taken few reads kept cause = (omega arith, reads, Rose-later before now after kept cause)
+HasCause-last TooLong read_before read_after before now after taken few reads kept cause = absurd cause
 
 -- what was taken up to the end of a source is all that it had
-consumed_all : (before now : Option (List ℕ)) (taken : List ℕ) → Consumes before now taken → IsAtEnd now → IfSome before (λ all. taken ≡ all)
+consumed_all : (before now : Option (List ℕ)) (taken : List ℕ) → Consumes before now taken → IsAtEnd now → IsReadToEnd before taken
 consumed_all None now taken took at_end = tt
 consumed_all (Some xs) None taken took at_end = absurd took
 consumed_all (Some xs) (Some ys) taken took at_end = sym (took ∙ ap (λ (rest : List ℕ). taken ++ rest) at_end ∙ append-nil taken)
@@ -104,23 +100,6 @@ pub Answered-nothing : Answered [] []
 Answered-nothing = record { replies = []; history = []; run = refl; legal = tt; text_is = refl }
 
 module _ {S O : Type 0} (left : S → Option (List ℕ)) (taken read_faults : S → ℕ) (written : O → Option (List ℕ)) (write_faults : O → ℕ) where
-  -- a run that has just begun
-  pub UnderWay-start : (input : S) (output : O) (batch : Batch) → StandsFor batch [] [] → batch.waiting.items ≡ []
-      → UnderWay left taken read_faults written write_faults input input output output batch 0
-  UnderWay-start input output batch stands waits =
-      record {
-        bytes = [];
-        text = [];
-        took = Consumes-nil (left input);
-        counted = omega arith;
-        count_is = refl;
-        wrote = Appends-nil (written output);
-        stands = stands;
-        nothing_waits = waits;
-        reads = omega arith;
-        writes = omega arith;
-      }
-
   -- a run for which memory is wanting before it begins
   pub Ran-no_memory : (input : S) (output : O) → Ran left taken read_faults written write_faults input input output output NoMemory
   Ran-no_memory input output =
@@ -131,13 +110,12 @@ module _ {S O : Type 0} (left : S → Option (List ℕ)) (taken read_faults : S 
         counted = omega arith;
         wrote = Appends-nil (written output);
         says = ([], [], refl, Answered-nothing);
-        cause = tt;
-        read_to_end = tt;
+        cause = (omega arith, refl, refl);
         reads = omega arith;
         writes = omega arith;
       }
 
-  -- the input fails
+  -- the source fails
   pub Ran-read_failed : (input now after : S) (output out_now : O) (batch : Batch) (count : ℕ)
       → UnderWay left taken read_faults written write_faults input now output out_now batch count → count < max_input
       → Keeps (left now) (left after) → taken after ≡ taken now → NeverFalls (read_faults now) (read_faults after) → Rose (read_faults now) (read_faults after)
@@ -150,10 +128,9 @@ module _ {S O : Type 0} (left : S → Option (List ℕ)) (taken read_faults : S 
         counted = same ∙ so_far.counted;
         wrote = so_far.wrote;
         says = Answered-written batch so_far.bytes so_far.text so_far.stands so_far.nothing_waits;
-        cause = (Rose-later (read_faults input) (read_faults now) (read_faults after) so_far.reads rose, omega (arith, so_far.count_is));
-        read_to_end = tt;
+        cause = (omega (arith, so_far.count_is), Rose-later (read_faults input) (read_faults now) (read_faults after) so_far.reads rose, so_far.writes);
         reads = omega (arith, so_far.reads, falls);
-        writes = so_far.writes;
+        writes = omega (arith, so_far.writes);
       }
 
   -- all bytes that may be taken were taken
@@ -168,72 +145,75 @@ module _ {S O : Type 0} (left : S → Option (List ℕ)) (taken read_faults : S 
         counted = so_far.counted;
         wrote = so_far.wrote;
         says = Answered-written batch so_far.bytes so_far.text so_far.stands so_far.nothing_waits;
-        cause = sym so_far.count_is ∙ all;
-        read_to_end = tt;
-        reads = so_far.reads;
-        writes = so_far.writes;
+        cause = (sym so_far.count_is ∙ all, so_far.reads, so_far.writes);
+        reads = omega (arith, so_far.reads);
+        writes = omega (arith, so_far.writes);
       }
 
   -- memory or the output ends the run over a piece
   pub Ran-stopped : (input now after : S) (output out_now out_after : O) (batch : Batch) (count n : ℕ) (piece : List ℕ) (end : End)
-      → UnderWay left taken read_faults written write_faults input now output out_now batch count
-      → Consumes (left now) (left after) piece → taken after ≡ taken now + n → n ≡ length piece → NeverFalls (read_faults now) (read_faults after)
+      → UnderWay left taken read_faults written write_faults input now output out_now batch count → count + n ≤ max_input
+      → Consumes (left now) (left after) piece → taken after ≡ taken now + n → n ≡ length piece → read_faults after ≡ read_faults now
       → Stops written batch piece out_now out_after end → NeverFalls (write_faults out_now) (write_faults out_after)
       → IsOutputEnd (write_faults out_now) (write_faults out_after) end
       → Ran left taken read_faults written write_faults input after output out_after end
-  Ran-stopped input now after output out_now out_after batch count n piece end so_far consumed counted size falls stops writes cause =
+  Ran-stopped input now after output out_now out_after batch count n piece end so_far most consumed counted size kept stops writes cause =
       record {
         bytes = so_far.bytes ++ piece;
         text = so_far.text ++ stops.text;
         took = Consumes-trans (left input) (left now) (left after) so_far.bytes piece so_far.took consumed;
         counted = omega (arith, so_far.counted, counted, size, length-append so_far.bytes piece);
         wrote = Appends-trans (written output) (written out_now) (written out_after) so_far.text stops.text so_far.wrote stops.wrote;
-        says = stops.says so_far.bytes so_far.text so_far.stands so_far.nothing_waits;
-        cause = HasCause-output end (read_faults input) (read_faults after) (write_faults output) (write_faults out_now) (write_faults out_after) (length (so_far.bytes ++ piece)) so_far.writes cause;
-        read_to_end = IsReadToEnd-output end (write_faults out_now) (write_faults out_after) (left input) (so_far.bytes ++ piece) cause;
-        reads = omega (arith, so_far.reads, falls);
+        says = stops.says (left input) so_far.bytes so_far.text so_far.stands so_far.nothing_waits;
+        cause =
+            HasCause-output end (read_faults input) (read_faults after) (write_faults output) (write_faults out_now) (write_faults out_after) (length (so_far.bytes ++ piece))
+            (omega (arith, most, so_far.count_is, size, length-append so_far.bytes piece)) (kept ∙ so_far.reads) so_far.writes cause;
+        reads = omega (arith, so_far.reads, kept);
         writes = omega (arith, so_far.writes, writes);
       }
 
-  -- the input ended
+  -- the source came to its end
   pub Ran-ended : (input now after : S) (output out_now out_after : O) (batch : Batch) (count : ℕ) (end : End)
       → UnderWay left taken read_faults written write_faults input now output out_now batch count → count < max_input
-      → Consumes (left now) (left after) [] → taken after ≡ taken now + 0 → IsAtEnd (left now) → NeverFalls (read_faults now) (read_faults after)
-      → Stops written batch [] out_now out_after end → NeverFalls (write_faults out_now) (write_faults out_after)
+      → Consumes (left now) (left after) [] → taken after ≡ taken now + 0 → IsAtEnd (left now) → read_faults after ≡ read_faults now
+      → Finishes written batch out_now out_after end → NeverFalls (write_faults out_now) (write_faults out_after)
       → IsLastEnd (write_faults out_now) (write_faults out_after) end
       → Ran left taken read_faults written write_faults input after output out_after end
-  Ran-ended input now after output out_now out_after batch count end so_far few consumed counted at_end falls stops writes cause =
+  Ran-ended input now after output out_now out_after batch count end so_far few consumed counted at_end kept finishes writes cause =
       record {
-        bytes = so_far.bytes ++ [];
-        text = so_far.text ++ stops.text;
-        took = Consumes-trans (left input) (left now) (left after) so_far.bytes [] so_far.took consumed;
-        counted = omega (arith, so_far.counted, counted, length-append so_far.bytes []);
-        wrote = Appends-trans (written output) (written out_now) (written out_after) so_far.text stops.text so_far.wrote stops.wrote;
-        says = stops.says so_far.bytes so_far.text so_far.stands so_far.nothing_waits;
-        cause = HasCause-last end (read_faults input) (read_faults after) (write_faults output) (write_faults out_now) (write_faults out_after) (length (so_far.bytes ++ [])) (omega (arith, so_far.count_is, length-append so_far.bytes [])) so_far.writes cause;
-        read_to_end =
-            IsReadToEnd-last end (left input) (so_far.bytes ++ [])
-            (subst (λ (bytes : List ℕ). IfSome (left input) (λ all. bytes ≡ all)) (sym (append-nil so_far.bytes)) (consumed_all (left input) (left now) so_far.bytes so_far.took at_end));
-        reads = omega (arith, so_far.reads, falls);
+        bytes = so_far.bytes;
+        text = so_far.text ++ finishes.text;
+        took =
+            subst (Consumes (left input) (left after)) (append-nil so_far.bytes)
+            (Consumes-trans (left input) (left now) (left after) so_far.bytes [] so_far.took consumed);
+        counted = omega (arith, so_far.counted, counted);
+        wrote = Appends-trans (written output) (written out_now) (written out_after) so_far.text finishes.text so_far.wrote finishes.wrote;
+        says =
+            finishes.says (left input) so_far.bytes so_far.text (consumed_all (left input) (left now) so_far.bytes so_far.took at_end)
+            so_far.stands so_far.nothing_waits;
+        cause =
+            HasCause-last end (read_faults input) (read_faults after) (write_faults output) (write_faults out_now) (write_faults out_after) (length so_far.bytes)
+            (omega (arith, so_far.count_is)) (kept ∙ so_far.reads) so_far.writes cause;
+        reads = omega (arith, so_far.reads, kept);
         writes = omega (arith, so_far.writes, writes);
       }
 
   -- a piece was taken, and the replies to its lines written
-  pub UnderWay-step : (input now after : S) (output out_now out_after : O) (old new : Batch) (count n : ℕ) (piece : List ℕ)
+  pub UnderWay-piece : (input now after : S) (output out_now out_after : O) (old new : Batch) (count n : ℕ) (piece : List ℕ)
       → UnderWay left taken read_faults written write_faults input now output out_now old count
-      → Consumes (left now) (left after) piece → taken after ≡ taken now + n → n ≡ length piece → NeverFalls (read_faults now) (read_faults after)
-      → Steps written old new piece out_now out_after → NeverFalls (write_faults out_now) (write_faults out_after)
+      → Consumes (left now) (left after) piece → taken after ≡ taken now + n → n ≡ length piece → read_faults after ≡ read_faults now
+      → TakesPiece written old new piece out_now out_after → write_faults out_after ≡ write_faults out_now
       → UnderWay left taken read_faults written write_faults input after output out_after new (count + n)
-  UnderWay-step input now after output out_now out_after old new count n piece so_far consumed counted size falls steps writes =
+  UnderWay-piece input now after output out_now out_after old new count n piece so_far consumed counted size reads takes writes =
       record {
         bytes = so_far.bytes ++ piece;
-        text = so_far.text ++ steps.text;
+        text = so_far.text ++ takes.text;
         took = Consumes-trans (left input) (left now) (left after) so_far.bytes piece so_far.took consumed;
         counted = omega (arith, so_far.counted, counted, size, length-append so_far.bytes piece);
         count_is = omega (arith, so_far.count_is, size, length-append so_far.bytes piece);
-        wrote = Appends-trans (written output) (written out_now) (written out_after) so_far.text steps.text so_far.wrote steps.wrote;
-        stands = steps.stands so_far.bytes so_far.text so_far.stands;
-        nothing_waits = steps.nothing_waits;
-        reads = omega (arith, so_far.reads, falls);
-        writes = omega (arith, so_far.writes, writes);
+        wrote = Appends-trans (written output) (written out_now) (written out_after) so_far.text takes.text so_far.wrote takes.wrote;
+        stands = takes.stands so_far.bytes so_far.text so_far.stands;
+        nothing_waits = takes.nothing_waits;
+        reads = reads ∙ so_far.reads;
+        writes = writes ∙ so_far.writes;
       }

@@ -19,7 +19,7 @@ use Rattle.stock_model.specs.declared.queries.Query.{Query}
 use Rattle.stock_model.specs.declared.queries.SelectFault.TheVariants as unmet
 use Rattle.stock_model.specs.Reports.{unmet_need, report_by}
 use Rattle.stock_model.specs.PostReplies.{refusal}
-use Rattle.stock_model.specs.Faults.{fault}
+use Rattle.stock_model.specs.Faults.{fault, fault_but_short}
 use Rattle.stock_model.specs.History.{records, accepted, covered, IsLegal, settled}
 use Rattle.stock_model.specs.declared.read_faults.ReadFault.{ReadFault}
 use Rattle.stock_model.specs.declared.read_faults.ReadFault.TheVariants as read_fault
@@ -37,17 +37,17 @@ Run-append reads old mid new (line ∷ lines) more (reply ∷ replies) others fi
     (first.0, first.1, Run-append reads first.0 mid new lines more replies others first.2 then)
 
 -- a record without a fault that was kept is accepted under the next number
-pub Answers-accepted : (old new : List Deed) (item : Record) (n : RecordNo) → item.desk.0 ≡ 0 → fault (records old) item ≡ None
+pub IsReplyTo-accepted : (old new : List Deed) (item : Record) (n : RecordNo) → item.desk.0 ≡ 0 → fault (records old) item ≡ None
     → new ≡ old ++ Kept item ∷ [] → n.0 ≡ accepted new → IsReplyTo old (Post item.what) (Accepted n) new
-Answers-accepted old new item n desk sound kept is =
+IsReplyTo-accepted old new item n desk sound kept is =
     let count : n.0 ≡ accepted old + 1 =
     is ∙ ap accepted kept ∙ ap length (records-append old (Kept item ∷ [])) ∙ omega (arith, length-append (records old) (item ∷ [])) in
     (item, refl, record { desk = desk; answer = rw sound (ap (λ (k : ℕ). Accepted (record { 0 = k })) count, kept) })
 
 -- a record that was refused has that fault first, and nothing changed
-pub Answers-refused : (old new : List Deed) (item : Record) (f : PostFault) → item.desk.0 ≡ 0 → fault (records old) item ≡ Some f
+pub IsReplyTo-refused : (old new : List Deed) (item : Record) (f : PostFault) → item.desk.0 ≡ 0 → fault (records old) item ≡ Some f
     → new ≡ old → IsReplyTo old (Post item.what) (refusal (records old) f) new
-Answers-refused old new item f desk is same = (item, refl, record { desk = desk; answer = rw is (refl, same) })
+IsReplyTo-refused old new item f desk is same = (item, refl, record { desk = desk; answer = rw is (refl, same) })
 
 -- want of memory is not printed
 not_printed : (journal : List Record) (f : PostFault) (reply : Reply) → reply ≡ refusal journal f → IsPrinted reply → f ≡ NoMemory → ⊥
@@ -55,13 +55,13 @@ not_printed journal f reply is printed memory =
     subst IsPrinted (is ∙ ap (refusal journal) memory) printed
 
 -- where a refusal is told, it tells the first fault, since want of memory is not told
-pub Answers-told : (old new : List Deed) (item : Record) (f : PostFault) (r : Result Reply memory.NoMemory) → item.desk.0 ≡ 0
-    → (f ≡ NoMemory) ⊎ (fault (records old) item ≡ Some f) → new ≡ old → IfOk r (λ reply. reply ≡ refusal (records new) f) → IfOk r IsPrinted
+pub IsReplyTo-told : (old new : List Deed) (item : Record) (f : PostFault) (r : Result Reply memory.NoMemory) → item.desk.0 ≡ 0
+    → (f ≡ NoMemory) × (fault_but_short (records old) item ≡ None) ⊎ (fault (records old) item ≡ Some f) → new ≡ old → IfOk r (λ reply. reply ≡ refusal (records new) f) → IfOk r IsPrinted
     → IfOk r (λ reply. IsReplyTo old (Post item.what) reply new)
-Answers-told old new item f (Err e) desk first same is told = tt
-Answers-told old new item f (Ok reply) desk (inl memory) same is told = absurd (not_printed (records new) f reply is told memory)
-Answers-told old new item f (Ok reply) desk (inr first) same is told =
-    subst (λ (r : Reply). IsReplyTo old (Post item.what) r new) (sym (is ∙ ap (λ (history : List Deed). refusal (records history) f) same)) (Answers-refused old new item f desk first same)
+IsReplyTo-told old new item f (Err e) desk first same is told = tt
+IsReplyTo-told old new item f (Ok reply) desk (inl memory) same is told = absurd (not_printed (records new) f reply is told memory.0)
+IsReplyTo-told old new item f (Ok reply) desk (inr first) same is told =
+    subst (λ (r : Reply). IsReplyTo old (Post item.what) r new) (sym (is ∙ ap (λ (history : List Deed). refusal (records history) f) same)) (IsReplyTo-refused old new item f desk first same)
 
 -- a report whose need isn't met tells why
 pub report-pending : (n : Need) (history : List Deed) (query : Query) (c w : RecordNo) → unmet_need n ≡ Some (unmet.Pending c w) → report_by n history query ≡ Pending c w

@@ -18,13 +18,13 @@ pub record Ran {S O : Type 0} (left : S → Option (List ℕ)) (taken read_fault
   pub took : Consumes (left input_before) (left input_after) bytes
   pub counted : taken input_after ≡ taken input_before + length bytes
   pub wrote : Appends (written output_before) (written output_after) text
-  pub says : Says end bytes text
+  pub says : Says end (left input_before) bytes text
   pub cause : HasCause end (read_faults input_before) (read_faults input_after) (write_faults output_before) (write_faults output_after) (length bytes)
-  pub read_to_end : IsReadToEnd end (left input_before) bytes
   pub reads : NeverFalls (read_faults input_before) (read_faults input_after)
   pub writes : NeverFalls (write_faults output_before) (write_faults output_after)
 
--- so far the run took these bytes and wrote this text, for which the batch stands, and nothing waits to be written
+-- So far the run took these bytes and wrote this text, for which the batch stands, and nothing waits to be written.
+-- There was no fault yet.
 pub record UnderWay {S O : Type 0} (left : S → Option (List ℕ)) (taken read_faults : S → ℕ) (written : O → Option (List ℕ)) (write_faults : O → ℕ)
     (input_before input_now : S) (output_before output_now : O) (batch : Batch) (count : ℕ) : Type 0 where
   pub bytes : List ℕ
@@ -35,34 +35,40 @@ pub record UnderWay {S O : Type 0} (left : S → Option (List ℕ)) (taken read_
   pub wrote : Appends (written output_before) (written output_now) text
   pub stands : StandsFor batch bytes text
   pub nothing_waits : batch.waiting.items ≡ []
-  pub reads : NeverFalls (read_faults input_before) (read_faults input_now)
-  pub writes : NeverFalls (write_faults output_before) (write_faults output_now)
+  pub reads : read_faults input_now ≡ read_faults input_before
+  pub writes : write_faults output_now ≡ write_faults output_before
 
 -- after a piece was taken and the replies to its lines written
-pub record Steps {O : Type 0} (written : O → Option (List ℕ)) (old new : Batch) (piece : List ℕ) (output_before output_after : O) : Type 0 where
+pub record TakesPiece {O : Type 0} (written : O → Option (List ℕ)) (old new : Batch) (piece : List ℕ) (output_before output_after : O) : Type 0 where
   pub text : List ℕ
   pub wrote : Appends (written output_before) (written output_after) text
   pub stands : (bytes before : List ℕ) → StandsFor old bytes before → StandsFor new (bytes ++ piece) (before ++ text)
   pub nothing_waits : new.waiting.items ≡ []
 
--- where a run ends while it takes a piece, or the end of the input, which is no piece
+-- where a run ends while it takes a piece
 pub record Stops {O : Type 0} (written : O → Option (List ℕ)) (old : Batch) (piece : List ℕ) (output_before output_after : O) (end : End) : Type 0 where
   pub text : List ℕ
   pub wrote : Appends (written output_before) (written output_after) text
-  pub says : (bytes before : List ℕ) → StandsFor old bytes before → old.waiting.items ≡ [] → Says end (bytes ++ piece) (before ++ text)
+  pub says : (left : Option (List ℕ)) (bytes before : List ℕ) → StandsFor old bytes before → old.waiting.items ≡ [] → Says end left (bytes ++ piece) (before ++ text)
 
--- an end that the output or memory may cause
+-- where it ends at the end of the source
+pub record Finishes {O : Type 0} (written : O → Option (List ℕ)) (old : Batch) (output_before output_after : O) (end : End) : Type 0 where
+  pub text : List ℕ
+  pub wrote : Appends (written output_before) (written output_after) text
+  pub says : (left : Option (List ℕ)) (bytes before : List ℕ) → IsReadToEnd left bytes → StandsFor old bytes before → old.waiting.items ≡ [] → Says end left bytes (before ++ text)
+
+-- an end that memory or the output may cause, and what the output's count of faults does
 abbrev pub IsOutputEnd : ℕ → ℕ → End → Type 0
 IsOutputEnd before after Done = ⊥
-IsOutputEnd before after NoMemory = Unit {0}
+IsOutputEnd before after NoMemory = after ≡ before
 IsOutputEnd before after ReadFailed = ⊥
 IsOutputEnd before after WriteFailed = Rose before after
 IsOutputEnd before after TooLong = ⊥
 
--- an end at the end of the input
+-- an end at the end of the source
 abbrev pub IsLastEnd : ℕ → ℕ → End → Type 0
-IsLastEnd before after Done = Unit {0}
-IsLastEnd before after NoMemory = Unit {0}
+IsLastEnd before after Done = after ≡ before
+IsLastEnd before after NoMemory = after ≡ before
 IsLastEnd before after ReadFailed = ⊥
 IsLastEnd before after WriteFailed = Rose before after
 IsLastEnd before after TooLong = ⊥

@@ -2,6 +2,8 @@
 use Rattle.std.specs.Prelude.{false, ℕ, ◌≡◌, List, [], ◌∷◌, ◌++◌, filter}
 use Rattle.std.specs.List.{flat_map}
 use Rattle.stock_model.specs.declared.deeds.Deed.{Deed}
+use Rattle.stock_model.specs.declared.faults.PostFault.{PostFault}
+use Rattle.stock_model.specs.declared.faults.PostFault.TheVariants as fault_of
 use Rattle.stock_model.specs.declared.replies.Reply.{Reply}
 use Rattle.stock_model.specs.History.{IsLegal}
 use Rattle.stock_model.specs.InputLines.{is_asked}
@@ -30,3 +32,8 @@ pub record AnswersLine (line : List ℕ) (old new : List Deed) (waiting after : 
   pub replies : List Reply
   pub run : RunsOver (line ∷ []) old replies new
   pub text_is : after ≡ waiting ++ flat_map reply_line replies
+
+-- the reply to this fault tells codes, and so it takes memory
+abbrev pub TellsCodes : PostFault → Type 0
+TellsCodes (fault_of.Short place item store lacking) = Unit {0}
+TellsCodes _ = ⊥

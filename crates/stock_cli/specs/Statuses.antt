@@ -1,7 +1,9 @@
--- How a run ends, and what it has taken and written then.
-use Rattle.std.specs.Prelude.{ℕ, ◌≡◌, ◌^◌, ◌<◌, ◌⊎◌, Option, List, [], ◌∷◌, ◌++◌, map, codes, String, string_bytes, IfSome}
+-- How a run ends: the status and the note that tell it, what was written then, and its cause.
+use Rattle.std.specs.Prelude.{ℕ, ◌≡◌, ◌-◌, ◌^◌, ◌<◌, ◌≤◌, ◌⊎◌, Option, List, [], ◌∷◌, ◌++◌, map, codes, String, string_bytes, IfSome}
 use Rattle.std.specs.declared.alloc.Global.{Global}
+use Rattle.std.specs.Io.KnownBytes.{Appends}
 use Rattle.stock_io.specs.Counts.{Rose}
+use Rattle.stock_io.specs.Streams.{AppendsFront}
 use Rattle.stock_model.specs.InputLines.{lines_of, whole_lines_of}
 use Rattle.stock_cli.specs.declared.end.End.{End}
 use Rattle.stock_cli.specs.declared.end.End.TheVariants.{Done, NoMemory, ReadFailed, WriteFailed, TooLong}
@@ -19,34 +21,59 @@ status_of ReadFailed = 4
 status_of WriteFailed = 5
 status_of TooLong = 8
 
+-- the line that notes this end; a run that is done needs none
+abbrev pub note_text : End → List ℕ
+note_text Done = []
+note_text NoMemory = codes "stockd: memory\n"
+note_text ReadFailed = codes "stockd: read failed\n"
+note_text WriteFailed = codes "stockd: write failed\n"
+note_text TooLong = codes "stockd: input too long\n"
+
+-- the line that notes other words
+abbrev pub usage_text : List ℕ
+usage_text = codes "stockd: words: batch [--file P] | serve --file P --port N --desks D | load N\n"
+
+-- the text was written and no fault counted, or a front of it was and the count of faults rose
+abbrev pub WritesOrFails : {N : Type 0} → (N → Option (List ℕ)) → (N → ℕ) → N → N → List ℕ → Type 0
+WritesOrFails written faults before after text =
+    (Appends (written before) (written after) text × (faults after ≡ faults before))
+    ⊎ (AppendsFront (written before) (written after) text × Rose (faults before) (faults after))
+
+-- no fault was counted, and the count is not at its end, where it would stay
+abbrev pub CountsNoFault : ℕ → ℕ → Type 0
+CountsNoFault before after = (after ≡ before) × (after < 2 ^ 64 - 1)
+
 -- how many bytes a run takes at most
 abbrev pub max_input : ℕ
 max_input = 2 ^ 32
 
--- what is written in the end, of the bytes that were taken
-abbrev pub Says : End → List ℕ → List ℕ → Type 0
+-- the bytes that were taken are all that the source had, where it told them
+abbrev pub IsReadToEnd : Option (List ℕ) → List ℕ → Type 0
+IsReadToEnd left taken = IfSome left (λ all. taken ≡ all)
+
+-- what is written in the end, of the bytes that were taken from what the source had left
+abbrev pub Says : End → Option (List ℕ) → List ℕ → List ℕ → Type 0
 -- the replies to all lines, a last one without a line feed included
-Says Done taken text = Answered (lines_of taken) text
+Says Done left taken text = IsReadToEnd left taken × Answered (lines_of taken) text
 -- the replies to the whole lines of a front of them
-Says NoMemory taken text = (front rest : List ℕ) × (front ++ rest ≡ taken) × Answered (whole_lines_of front) text
+Says NoMemory left taken text = (front rest : List ℕ) × (front ++ rest ≡ taken) × Answered (whole_lines_of front) text
 -- the replies to all whole lines
-Says ReadFailed taken text = Answered (whole_lines_of taken) text
-Says TooLong taken text = Answered (whole_lines_of taken) text
--- a front of the replies
-Says WriteFailed taken text = (rest : List ℕ) × (Answered (whole_lines_of taken) (text ++ rest) ⊎ Answered (lines_of taken) (text ++ rest))
+Says ReadFailed left taken text = Answered (whole_lines_of taken) text
+Says TooLong left taken text = Answered (whole_lines_of taken) text
+-- a front of the replies to all whole lines, or at the end of the source to all lines
+Says WriteFailed left taken text =
+    (rest : List ℕ) × (Answered (whole_lines_of taken) (text ++ rest)
+    ⊎ (IsReadToEnd left taken × Answered (lines_of taken) (text ++ rest)))
 
--- Each end comes only with its cause.
+-- Each end comes only with its cause, and the first fault ends a run: no other end has a count that rose.
 abbrev pub HasCause : End → ℕ → ℕ → ℕ → ℕ → ℕ → Type 0
-HasCause Done read_before read_after write_before write_after taken = taken < max_input
-HasCause NoMemory read_before read_after write_before write_after taken = Unit {0}
-HasCause ReadFailed read_before read_after write_before write_after taken = Rose read_before read_after × (taken < max_input)
-HasCause WriteFailed read_before read_after write_before write_after taken = Rose write_before write_after
-HasCause TooLong read_before read_after write_before write_after taken = taken ≡ max_input
-
--- where the run is done, the bytes that were taken are all that the source had, where it told them
-abbrev pub IsReadToEnd : End → Option (List ℕ) → List ℕ → Type 0
-IsReadToEnd Done left taken = IfSome left (λ all. taken ≡ all)
-IsReadToEnd NoMemory left taken = Unit {0}
-IsReadToEnd ReadFailed left taken = Unit {0}
-IsReadToEnd WriteFailed left taken = Unit {0}
-IsReadToEnd TooLong left taken = Unit {0}
+HasCause Done read_before read_after write_before write_after taken =
+    (taken < max_input) × (read_after ≡ read_before) × (write_after ≡ write_before)
+HasCause NoMemory read_before read_after write_before write_after taken =
+    (taken ≤ max_input) × (read_after ≡ read_before) × (write_after ≡ write_before)
+HasCause ReadFailed read_before read_after write_before write_after taken =
+    (taken < max_input) × Rose read_before read_after × (write_after ≡ write_before)
+HasCause WriteFailed read_before read_after write_before write_after taken =
+    (taken ≤ max_input) × (read_after ≡ read_before) × Rose write_before write_after
+HasCause TooLong read_before read_after write_before write_after taken =
+    (taken ≡ max_input) × (read_after ≡ read_before) × (write_after ≡ write_before)

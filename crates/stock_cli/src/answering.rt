@@ -1,5 +1,5 @@
 //! The answer to a request, over the book.
-ghost use Rattle.std.specs.Prelude.{◌≡◌, ℕ, List, IfOk, IsTrue, false};
+ghost use Rattle.std.specs.Prelude.{◌≡◌, ℕ, List, IfOk, OnErr, IsTrue, false};
 ghost use Rattle.stock_model.specs.Limits.{is_within_limits};
 ghost use Rattle.stock_model.specs.Reports.{sheet_reply};
 ghost use Rattle.stock_model.specs.Bounds.{AreBounded};
@@ -24,11 +24,18 @@ use stock_nums::memory::NoMemory;
 use stock_nums::numbers::DeskNo;
 use voucher_json::reading::read_request;
 
-/// The reply to a line that is not blank.
+/// The reply to a line that is not blank, as the answer at this point of the book's history. A long line
+/// takes no memory.
+///
+/// # Errors
+///
+/// `NoMemory`: the book is unchanged.
 pub fn reply_to(alloc: Global, book: &mut Book, line: &OpenLine) -> Result<Reply, NoMemory>
     ensures step { IfOk result (λ reply. (text : List ℕ) → StandsForLine line.now text → Step (IsReadAs false) (state_of book.old.history) text reply (state_of book.new.history)) }
     ensures printed { IfOk result IsPrinted }
     ensures legal { IfOk result (λ _. IsLegal book.old.history → IsLegal book.new.history) }
+    ensures unchanged { OnErr result (book.new ≡ book.old) }
+    ensures long { IsTrue line.now.long → result ≡ Ok Reply.Long }
 {
     if line.long {
         return Ok(Reply::Long);
@@ -44,6 +51,7 @@ fn answer(alloc: Global, book: &mut Book, request: Request) -> Result<Reply, NoM
     ensures answers { IfOk result (λ reply. IsReplyTo book.old.history request reply book.new.history) }
     ensures printed { IfOk result IsPrinted }
     ensures legal { IfOk result (λ _. IsLegal book.old.history → IsLegal book.new.history) }
+    ensures unchanged { OnErr result (book.new ≡ book.old) }
 {
     match request {
         Request::Post(what) => post(alloc, book, what),
@@ -57,6 +65,7 @@ fn post(alloc: Global, book: &mut Book, what: What) -> Result<Reply, NoMemory>
     ensures answers { IfOk result (λ reply. IsReplyTo book.old.history (Request.Post what) reply book.new.history) }
     ensures printed { IfOk result IsPrinted }
     ensures legal { IfOk result (λ _. IsLegal book.old.history → IsLegal book.new.history) }
+    ensures unchanged { OnErr result (book.new ≡ book.old) }
 {
     let item = Record {
         desk: DeskNo(0),
@@ -72,6 +81,7 @@ fn settle(alloc: Global, book: &mut Book) -> Result<Reply, NoMemory>
     ensures answers { IfOk result (λ reply. IsReplyTo book.old.history Request.Settle reply book.new.history) }
     ensures printed { IfOk result IsPrinted }
     ensures legal { IfOk result (λ _. IsLegal book.old.history → IsLegal book.new.history) }
+    ensures unchanged { OnErr result (book.new ≡ book.old) }
 {
     Ok(Reply::Settled(book.settle_all(alloc)?))
 }

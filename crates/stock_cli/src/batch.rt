@@ -1,3 +1,5 @@
+//! A batch under way: bytes of the input go in as they come, and the replies to whole lines wait to be written.
+
 use crate::answering::reply_to;
 use crate::open_line::OpenLine;
 use crate::split::split_line;
@@ -17,7 +19,7 @@ pub struct Batch {
 }
 
 impl Batch {
-    ghost use Rattle.std.specs.Prelude.{◌≡◌, ℕ, List, [], ◌∷◌, ◌++◌, OnOk, OnErr};
+    ghost use Rattle.std.specs.Prelude.{◌≡◌, ℕ, List, [], ◌∷◌, ◌++◌, IsOk, IsTrue, OnOk, OnErr};
     ghost use Rattle.std.specs.Io.KnownBytes.{Appends};
     ghost use Rattle.stock_io.specs.Counts.{Rose, NeverFalls};
     ghost use Rattle.stock_io.specs.Streams.{AppendsFront};
@@ -27,7 +29,7 @@ impl Batch {
     ghost use Rattle.stock_cli.specs.Replies.{Answered, AnswersLine};
     ghost use Rattle.stock_cli.specs.Batches.{StandsFor, GoesOn, WritesOut};
 
-    /// The batch before its first byte.
+    /// The batch before its first byte: an empty book and no line. It takes no memory.
     pub fn start(alloc: Global) -> Batch
         ensures stands { StandsFor result [] [] }
         ensures nothing_waits { result.waiting.items ≡ [] }
@@ -39,7 +41,11 @@ impl Batch {
         }
     }
 
-    /// Takes the next bytes of the input, and answers each line that is whole now.
+    /// Takes the next bytes of the input, and answers each line that is whole now. The replies wait.
+    ///
+    /// # Errors
+    ///
+    /// `NoMemory`: the batch stands for nothing then.
     pub fn feed(&mut self, alloc: Global, piece: &[u8]) -> Result<(), NoMemory>
         ensures { OnOk result (GoesOn self.old piece.now self.new) }
     {
@@ -53,18 +59,28 @@ impl Batch {
         Ok(())
     }
 
-    /// Takes the end of the input. A last line without a line feed is answered too.
+    /// Takes the end of the input. A last line without a line feed is answered too, and its reply waits.
+    ///
+    /// # Errors
+    ///
+    /// `NoMemory`, and not where that line is blank: the batch stands for nothing then.
     pub fn end_input(&mut self, alloc: Global) -> Result<(), NoMemory>
-        ensures { OnOk result ((taken written : List ℕ) → StandsFor self.old taken written → Answered (lines_of taken) (written ++ self.new.waiting.items)) }
+        ensures answered { OnOk result ((taken written : List ℕ) → StandsFor self.old taken written → Answered (lines_of taken) (written ++ self.new.waiting.items)) }
+        ensures blank { IsTrue self.old.line.blank → IsOk result }
     {
         self.answer_line(alloc)
     }
 
-    /// Writes the replies that wait.
+    /// Writes the replies that wait, and none waits any more.
+    ///
+    /// # Errors
+    ///
+    /// `Failed` where a write failed: a front of the replies was written, and all of them still wait.
     pub fn write_out<O: Sink>(&mut self, output: &mut O) -> Result<(), Failed>
         ensures stands { OnOk result (WritesOut self.old self.new) }
         ensures nothing_waits { OnOk result (self.new.waiting.items ≡ []) }
         ensures written { OnOk result (Appends (O.written output.old) (O.written output.new) self.old.waiting.items) }
+        ensures faults_kept { OnOk result (O.faults output.new ≡ O.faults output.old) }
         ensures front { OnErr result (AppendsFront (O.written output.old) (O.written output.new) self.old.waiting.items) }
         ensures never_falls { NeverFalls (O.faults output.old) (O.faults output.new) }
         ensures cause { OnErr result (Rose (O.faults output.old) (O.faults output.new)) }
@@ -75,7 +91,8 @@ impl Batch {
     }
 
     fn end_line(&mut self, alloc: Global) -> Result<(), NoMemory>
-        ensures { OnOk result (GoesOn self.old (10 ∷ []) self.new) }
+        ensures goes_on { OnOk result (GoesOn self.old (10 ∷ []) self.new) }
+        ensures blank { IsTrue self.old.line.blank → IsOk result }
     {
         self.answer_line(alloc)?;
         self.line.clear();
@@ -86,6 +103,7 @@ impl Batch {
     fn answer_line(&mut self, alloc: Global) -> Result<(), NoMemory>
         ensures answers { OnOk result ((line : List ℕ) → StandsForLine self.old.line line → AnswersLine line self.old.book.history self.new.book.history self.old.waiting.items self.new.waiting.items) }
         ensures legal { OnOk result (IsLegal self.old.book.history → IsLegal self.new.book.history) }
+        ensures blank { IsTrue self.old.line.blank → IsOk result }
     {
         if self.line.blank {
             return Ok(());

@@ -1,3 +1,4 @@
+//! Which lines have no reply.
 ghost use Rattle.std.specs.Prelude.{◌≡◌};
 ghost use Rattle.stock_model.specs.InputLines.{is_blank};
 

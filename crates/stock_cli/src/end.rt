@@ -1,14 +1,15 @@
-/// How a run ends.
+//! The ends of a run. Each has a status and a note of its own, in `top`.
+/// How a run ends: at the end of its input, or before.
 #[derive(Clone, Copy, Debug, PartialEq, Eq)]
 pub enum End {
     /// The input was read to its end, and every line of it answered.
     Done,
-    /// Memory was wanting.
+    /// Memory was wanting. Replies that waited were dropped.
     NoMemory,
-    /// The input failed.
+    /// A read failed. The whole lines before it were answered.
     ReadFailed,
-    /// The output failed.
+    /// A write failed. A front of the replies was written.
     WriteFailed,
-    /// 2^32 bytes of input were taken.
+    /// 2^32 bytes of input were taken. The whole lines among them were answered.
     TooLong,
 }

@@ -1,3 +1,4 @@
+//! The line under way, of which the bytes come in pieces.
 use crate::blank::is_blank;
 use std::alloc::{AllocError, Global};
 
@@ -7,6 +8,7 @@ pub const MAX_LINE: usize = 65_536;
 /// The line under way, of which no line feed has come yet.
 #[derive(Drop)]
 pub struct OpenLine {
+    /// The bytes of the line so far, unless it is long.
     pub bytes: Vec<u8>,
     /// The line has more than `MAX_LINE` bytes, and `bytes` is not its content.
     pub long: bool,
@@ -15,10 +17,10 @@ pub struct OpenLine {
 }
 
 impl OpenLine {
-    ghost use Rattle.std.specs.Prelude.{[], ◌++◌, ℕ, List, OnOk};
+    ghost use Rattle.std.specs.Prelude.{◌≡◌, ◌+◌, ◌≤◌, ℕ, List, [], ◌++◌, length, vec_len, false, OnOk, OnErr};
     ghost use Rattle.stock_cli.specs.OpenLines.{StandsForLine};
 
-    /// The empty line.
+    /// The empty line. It takes no memory.
     pub fn new(alloc: Global) -> OpenLine
         ensures { StandsForLine result [] }
     {
@@ -29,8 +31,13 @@ impl OpenLine {
         }
     }
 
-    /// Adds bytes to the line. After an error the line stands for nothing.
+    /// Adds bytes to the line. Memory is taken only for bytes that are kept: not for those of a long line.
+    ///
+    /// # Errors
+    ///
+    /// `AllocError`: the line stands for nothing then.
     pub fn add(&mut self, piece: &[u8]) -> Result<(), AllocError>
+        ensures memory { OnErr result ((self.old.long ≡ false) × (vec_len self.old.bytes + length piece.now ≤ MAX_LINE)) }
         ensures added { OnOk result ((line : List ℕ) → StandsForLine self.old line → StandsForLine self.new (line ++ piece.now)) }
     {
         self.blank = self.blank && is_blank(piece);
@@ -45,7 +52,7 @@ impl OpenLine {
         self.bytes.extend_from_slice(piece)
     }
 
-    /// Begins the next line.
+    /// Begins the next line, empty. The memory is kept for it.
     pub fn clear(&mut self)
         ensures { StandsForLine self.new [] }
     {

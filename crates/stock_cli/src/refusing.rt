@@ -1,9 +1,10 @@
 //! The reply to a record that was refused, and to a line that is no request.
-ghost use Rattle.std.specs.Prelude.{◌≡◌, IfOk};
+ghost use Rattle.std.specs.Prelude.{◌≡◌, ◌⊎◌, IfOk, OnErr};
 ghost use Rattle.stock_model.specs.PostReplies.{refusal};
 ghost use Rattle.stock_model.specs.History.{records};
-ghost use Rattle.stock_model.specs.Masters.{code_at};
+ghost use Rattle.stock_model.specs.Masters.{heads, code_of};
 ghost use Rattle.voucher_json.specs.ReplyText.{IsPrinted};
+ghost use Rattle.stock_cli.specs.Replies.{TellsCodes};
 
 use generation_book::book::Book;
 use std::alloc::Global;
@@ -15,11 +16,16 @@ use stock_nums::code::Code;
 use stock_nums::memory::NoMemory;
 use stock_nums::numbers::RecordNo;
 
-/// The reply that tells a fault of a record that comes next after those of the book. Want of memory is
-/// not told.
+/// The reply that tells a fault of a record that comes next after those of the book. Only a shortage
+/// takes memory, for the codes that it tells.
+///
+/// # Errors
+///
+/// `NoMemory` where the fault is that, which is not told, or where the codes of a shortage want memory.
 pub fn refused(alloc: Global, book: &Book, fault: PostFault) -> Result<Reply, NoMemory>
     ensures reply { IfOk result (λ reply. reply ≡ refusal (records book.now.history) fault) }
     ensures printed { IfOk result IsPrinted }
+    ensures memory { OnErr result ((fault ≡ PostFault.NoMemory) ⊎ TellsCodes fault) }
 {
     match fault {
         PostFault::NoMemory => Err(NoMemory),
@@ -50,16 +56,16 @@ pub fn refused(alloc: Global, book: &Book, fault: PostFault) -> Result<Reply, No
             lacking,
         } => Ok(Reply::Short {
             place,
-            item: code_at(alloc, book, RecordNo(item.0))?,
-            store: code_at(alloc, book, RecordNo(store.0))?,
+            item: code_of(alloc, book, RecordNo(item.0))?,
+            store: code_of(alloc, book, RecordNo(store.0))?,
             lacking,
         }),
     }
 }
 
 /// The code of the item or warehouse with this number.
-fn code_at(alloc: Global, book: &Book, number: RecordNo) -> Result<Code, NoMemory>
-    ensures { IfOk result (λ code. code ≡ code_at (records book.now.history) number.0) }
+fn code_of(alloc: Global, book: &Book, number: RecordNo) -> Result<Code, NoMemory>
+    ensures { IfOk result (λ code. code ≡ code_of (heads (records book.now.history)) number.0) }
 {
     match book.at(number) {
         Some(item) => record_code(alloc, item),
@@ -67,10 +73,15 @@ fn code_at(alloc: Global, book: &Book, number: RecordNo) -> Result<Code, NoMemor
     }
 }
 
-/// The reply to a line that is no request. Want of memory is not told.
+/// The reply to a line that is no request. It takes no memory.
+///
+/// # Errors
+///
+/// `NoMemory` where the fault is that, which is not told.
 pub fn bad(fault: ReadFault) -> Result<Reply, NoMemory>
     ensures reply { IfOk result (λ reply. reply ≡ Reply.Bad fault) }
     ensures printed { IfOk result IsPrinted }
+    ensures memory { OnErr result (fault ≡ ReadFault.NoMemory) }
 {
     match fault {
         ReadFault::NoMemory => Err(NoMemory),

@@ -7,36 +7,6 @@ use stock_io::memory_source::MemSource;
 use stock_nums::lines::Lines;
 use stock_nums::memory::NoMemory;
 
-/// How a run is set up.
-#[derive(Clone, Copy)]
-struct Setup {
-    /// The one word that the run is given.
-    word: &'static str,
-    /// The most bytes that a read takes.
-    piece: usize,
-    /// The numbers of the read, of the write and of the note that fail. 0 stands for none.
-    failing_read: u64,
-    failing_write: u64,
-    failing_note: u64,
-}
-
-const WELL: Setup = Setup {
-    word: "batch",
-    piece: 65_536,
-    failing_read: 0,
-    failing_write: 0,
-    failing_note: 0,
-};
-
-/// What a run leaves.
-#[derive(Drop)]
-struct Outcome {
-    status: u8,
-    output: MemSink,
-    notes: MemSink,
-    taken: u64,
-}
-
 const FIRST: &str = r#"{"do":"item","code":"B","method":"average"}
 {"do":"store","code":"W1","account":100}
 {"do":"receipt","at":"2026-01-02T09:00:00","lines":[{"item":"B","store":"W1","qty":10,"amount":1000}]}
@@ -109,45 +79,60 @@ const SETTLED: &str = "{\"covered\":0,\"status\":\"settled\"}\n";
 
 const LONG: &str = "{\"fault\":\"long\",\"status\":\"bad\"}\n";
 
-const USAGE: &str =
-    "stockd: words: batch [--file P] | serve --file P --port N --desks D | load N\n";
+// The two records that a receipt needs.
+const HEAD: &str = r#"{"do":"item","code":"B","method":"average"}
+{"do":"store","code":"W1","account":100}
+"#;
 
-fn sink(alloc: Global, failing: u64) -> Result<MemSink, NoMemory> {
-    let failing = Lines::from_vec(Vec::from_slice(alloc, &[failing])?);
-    MemSink::new(alloc, 1000, failing)
+const RECEIPT: &str = r#"{"do":"receipt","at":"2026-01-02T09:00:00","lines":["#;
+
+const LINE: &str = r#"{"item":"B","store":"W1","qty":1,"amount":100}"#;
+
+const ACCEPTED: &str = r#"{"record":1,"status":"accepted"}
+{"record":2,"status":"accepted"}
+{"record":3,"status":"accepted"}
+"#;
+
+const LIMITED: &str = r#"{"record":1,"status":"accepted"}
+{"record":2,"status":"accepted"}
+{"fault":"limit","field":"lines","line":0,"status":"bad"}
+"#;
+
+/// The most bytes that a test writes.
+const ROOM: usize = 1000;
+
+fn sink(alloc: Global) -> Result<MemSink, NoMemory> {
+    MemSink::new(alloc, ROOM, Lines::new(alloc))
 }
 
-fn outcome_of(alloc: Global, setup: Setup, input: &[u8]) -> Result<Outcome, NoMemory> {
+/// Runs a batch with ample memory, over streams that never fail. That it is done no clause says, since want
+/// of memory is free.
+fn check(rt: &impl Abort, alloc: Global, input: &[u8], want: &str) -> Result<(), Fail> {
     let mut words = Vec::new(alloc);
-    words.push(setup.word.to_string(alloc)?)?;
+    words.push("batch".to_string(alloc)?)?;
     let bytes = Lines::from_vec(Vec::from_slice(alloc, input)?);
-    let failing = Lines::from_vec(Vec::from_slice(alloc, &[setup.failing_read])?);
-    let mut input = MemSource::new(bytes, setup.piece.max(1), failing);
-    let mut output = sink(alloc, setup.failing_write)?;
-    let mut notes = sink(alloc, setup.failing_note)?;
+    let mut input = MemSource::new(bytes, 50_000, Lines::new(alloc));
+    let mut output = sink(alloc)?;
+    let mut notes = sink(alloc)?;
     let status = top::stockd(alloc, words.as_slice(), &mut input, &mut output, &mut notes);
-    Ok(Outcome {
-        status,
-        output,
-        notes,
-        taken: input.taken(),
-    })
+    assert_eq!(rt; status, 0);
+    assert!(rt; output.bytes() == want.as_bytes());
+    Ok(())
 }
 
-fn check(
-    rt: &impl Abort,
-    alloc: Global,
-    setup: Setup,
-    input: &[u8],
-    want: (u8, &str, &str),
-) -> Result<(), Fail> {
-    let outcome = outcome_of(alloc, setup, input)?;
-    let (status, output, notes) = want;
-    assert_eq!(rt; outcome.status, status);
-    assert!(rt; outcome.output.bytes() == output.as_bytes());
-    assert!(rt; outcome.notes.bytes() == notes.as_bytes());
-    // Only a run that is told other words, or that fails, leaves some of the input.
-    assert!(rt; status != 0 || outcome.taken == input.len() as u64);
+#[test]
+fn a_batch_is_answered(rt: HostRuntime) -> Result<(), Fail> {
+    let alloc = rt.alloc();
+    for (input, want) in [
+        ("", ""),
+        // A last line needs no line feed.
+        (SETTLE, SETTLED),
+        (FIRST, FIRST_REPLIES),
+        (SALES, SALES_REPLIES),
+        (FIRST_OUT, FIRST_OUT_REPLIES),
+    ] {
+        check(&rt, alloc, input.as_bytes(), want)?;
+    }
     Ok(())
 }
 
@@ -159,21 +144,6 @@ fn padded(alloc: Global, text: &str, blanks: usize, end: &str) -> Result<Vec<u8>
     }
     line.extend_from_slice(end.as_bytes())?;
     Ok(line)
-}
-
-#[test]
-fn a_first_run_is_answered_in_any_pieces(rt: HostRuntime) -> Result<(), Fail> {
-    let alloc = rt.alloc();
-    check(&rt, alloc, WELL, b"", (0, "", ""))?;
-    // A last line needs no line feed.
-    check(&rt, alloc, WELL, SETTLE.as_bytes(), (0, SETTLED, ""))?;
-    for piece in [65_536, 1, 7] {
-        let setup = Setup { piece, ..WELL };
-        check(&rt, alloc, setup, FIRST.as_bytes(), (0, FIRST_REPLIES, ""))?;
-    }
-    check(&rt, alloc, WELL, SALES.as_bytes(), (0, SALES_REPLIES, ""))?;
-    let first_out = (0, FIRST_OUT_REPLIES, "");
-    check(&rt, alloc, WELL, FIRST_OUT.as_bytes(), first_out)
 }
 
 #[test]
@@ -189,53 +159,30 @@ fn a_line_has_at_most_65_536_bytes(rt: HostRuntime) -> Result<(), Fail> {
         ("", 70_000, "", ""),
     ] {
         let input = padded(alloc, text, blanks, end)?;
-        check(&rt, alloc, WELL, input.as_slice(), (0, want, ""))?;
+        check(&rt, alloc, input.as_slice(), want)?;
     }
     Ok(())
 }
 
-#[test]
-fn a_failure_is_told(rt: HostRuntime) -> Result<(), Fail> {
-    let alloc = rt.alloc();
-    // The first piece holds one whole line and a part of the next.
-    let first = Setup {
-        piece: SETTLE.len() + 3,
-        ..WELL
-    };
-    let read_fails = Setup {
-        failing_read: 2,
-        ..first
-    };
-    let write_fails = Setup {
-        failing_write: 1,
-        ..WELL
-    };
-    let input = b"{\"do\":\"settle\"}\n{\"do\":\"settle\"}\n";
-    let read_failed = (4, SETTLED, "stockd: read failed\n");
-    let write_failed = (5, "", "stockd: write failed\n");
-    check(&rt, alloc, read_fails, input, read_failed)?;
-    check(&rt, alloc, write_fails, input, write_failed)?;
-    // Notes that fail change no status.
-    let silent = Setup {
-        failing_note: 1,
-        ..read_fails
-    };
-    check(&rt, alloc, silent, input, (4, SETTLED, ""))
+/// An item, a warehouse, and a receipt of so many equal lines.
+fn receipt(alloc: Global, lines: usize) -> Result<Vec<u8>, NoMemory> {
+    let mut input = Vec::from_slice(alloc, HEAD.as_bytes())?;
+    input.extend_from_slice(RECEIPT.as_bytes())?;
+    for _ in 1..lines {
+        input.extend_from_slice(LINE.as_bytes())?;
+        input.push(b',')?;
+    }
+    input.extend_from_slice(LINE.as_bytes())?;
+    input.extend_from_slice(b"]}\n")?;
+    Ok(input)
 }
 
 #[test]
-fn other_words_are_told_and_nothing_is_read(rt: HostRuntime) -> Result<(), Fail> {
+fn a_voucher_has_at_most_100_lines(rt: HostRuntime) -> Result<(), Fail> {
     let alloc = rt.alloc();
-    let words = Setup {
-        word: "bathc",
-        ..WELL
-    };
-    check(&rt, alloc, words, SETTLE.as_bytes(), (2, "", USAGE))?;
-    let taken = outcome_of(alloc, words, SETTLE.as_bytes())?.taken;
-    assert_eq!(rt; taken, 0);
-    let silent = Setup {
-        failing_note: 1,
-        ..words
-    };
-    check(&rt, alloc, silent, SETTLE.as_bytes(), (2, "", ""))
+    for (lines, want) in [(100, ACCEPTED), (101, LIMITED)] {
+        let input = receipt(alloc, lines)?;
+        check(&rt, alloc, input.as_slice(), want)?;
+    }
+    Ok(())
 }

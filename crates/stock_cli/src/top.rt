@@ -1,10 +1,10 @@
 //! The top call: what the words ask for, over an input, an output and notes.
 ghost use Rattle.std.specs.Prelude.{◌≡◌, ◌+◌, ◌^◌, ◌<◌, ◌⊎◌, ◌↔◌, ℕ, List, [], ◌∷◌, Contains, length, OnOk, OnErr, IfErr, IsTrue};
-ghost use Rattle.stock_io.specs.Counts.{Rose, NeverFalls};
+ghost use Rattle.stock_io.specs.Counts.{NeverFalls};
 ghost use Rattle.stock_cli.specs.declared.end.End.{End};
 ghost use Rattle.stock_cli.specs.Batches.{StandsFor};
-ghost use Rattle.stock_cli.specs.Statuses.{IsBatch, status_of};
-ghost use Rattle.stock_cli.specs.Ran.{Ran, Steps, Stops, IsOutputEnd, IsLastEnd};
+ghost use Rattle.stock_cli.specs.Statuses.{IsBatch, status_of, note_text, usage_text, WritesOrFails, CountsNoFault, max_input};
+ghost use Rattle.stock_cli.specs.Ran.{Ran, TakesPiece, Stops, Finishes, IsOutputEnd, IsLastEnd};
 
 use crate::batch::Batch;
 use crate::end::End;
@@ -22,8 +22,9 @@ const BUFFER: usize = 65_536;
 const USAGE: &str =
     "stockd: words: batch [--file P] | serve --file P --port N --desks D | load N\n";
 
-/// Does what the words ask for, and answers the status. `batch` answers the lines of the input on the
-/// output; other words have status 2. A status other than 0 is told by a line of the notes.
+/// Does what the words ask for, and answers the status: 0, 2, 3, 4, 5 or 8. `batch` answers the lines of
+/// the input on the output, and ends at the first fault of either. Other words have status 2. A status
+/// other than 0 is told by a line of the notes, whose own faults change no status.
 pub fn stockd<S: Source, O: Sink, N: Sink>(
     alloc: Global,
     words: &[String],
@@ -31,29 +32,45 @@ pub fn stockd<S: Source, O: Sink, N: Sink>(
     output: &mut O,
     notes: &mut N,
 ) -> u8
-    // The words are no batch exactly where the status is 2, and then nothing is taken or written.
+    // The words are no batch exactly where the status is 2. Then nothing is taken or written, and the usage is noted.
     ensures words { (result ≡ 2) ↔ (IsBatch words.now → ⊥) }
     ensures nothing_taken { result ≡ 2 → input.new ≡ input.old }
     ensures nothing_written { result ≡ 2 → output.new ≡ output.old }
+    ensures usage { result ≡ 2 → WritesOrFails N.written N.faults notes.old notes.new usage_text }
 
     // A batch ends in one of five ways, each with its status: what was read and written then, and why.
     ensures run { IsBatch words.now → (end : End) × (result ≡ status_of end)
         × Ran S.left S.taken S.faults O.written O.faults input.old input.new output.old output.new end }
+
+    // Without a fault, and with fewer bytes than are too many, only want of memory keeps it from being done.
+    ensures complete { IsBatch words.now
+        → CountsNoFault (S.faults input.old) (S.faults input.new)
+        → CountsNoFault (O.faults output.old) (O.faults output.new)
+        → S.taken input.new < S.taken input.old + max_input
+        → (result ≡ 0) ⊎ (result ≡ 3) }
+
+    // The line of the status is noted, or a front of it where the notes fail. Status 0 has none.
+    ensures noted { IsBatch words.now → (end : End) × (result ≡ status_of end)
+        × WritesOrFails N.written N.faults notes.old notes.new (note_text end) }
+    ensures silent { result ≡ 0 → notes.new ≡ notes.old }
+    ensures notes_never_fall { NeverFalls (N.faults notes.old) (N.faults notes.new) }
 {
     if !is_batch(words) {
         note(notes, USAGE);
         return 2;
     }
     let end = run(alloc, input, output);
-    note(notes, note_of(end));
+    tell(notes, end);
     status_of(end)
 }
 
-/// Tells that memory was wanting before the words were known, and answers the status of that.
+/// Notes that memory was wanting before the words were known, and answers the status of that, 3.
 pub fn without_memory<N: Sink>(notes: &mut N) -> u8
-    ensures { result ≡ status_of End.NoMemory }
+    ensures status { result ≡ status_of End.NoMemory }
+    ensures noted { WritesOrFails N.written N.faults notes.old notes.new (note_text End.NoMemory) }
+    ensures never_falls { NeverFalls (N.faults notes.old) (N.faults notes.new) }
 {
-    note(notes, note_of(End::NoMemory));
+    tell(notes, End::NoMemory);
     status_of(End::NoMemory)
 }
 
@@ -66,12 +83,28 @@ fn is_batch(words: &[String]) -> bool
     }
 }
 
+/// Notes how a run ended, unless it is done.
+fn tell<N: Sink>(notes: &mut N, end: End)
+    ensures noted { WritesOrFails N.written N.faults notes.old notes.new (note_text end) }
+    ensures silent { end ≡ End.Done → notes.new ≡ notes.old }
+    ensures never_falls { NeverFalls (N.faults notes.old) (N.faults notes.new) }
+{
+    if end != End::Done {
+        note(notes, note_of(end));
+    }
+}
+
 /// Writes a line to the notes. Whatever comes of it changes no status.
-fn note<N: Sink>(notes: &mut N, text: &str) {
+fn note<N: Sink>(notes: &mut N, text: &str)
+    ensures noted { WritesOrFails N.written N.faults notes.old notes.new text.now }
+    ensures never_falls { NeverFalls (N.faults notes.old) (N.faults notes.new) }
+{
     let _ = write_all(notes, text.as_bytes());
 }
 
-fn note_of(end: End) -> &'static str {
+fn note_of(end: End) -> &'static str
+    ensures { result.now ≡ note_text end }
+{
     match end {
         End::Done => "",
         End::NoMemory => "stockd: memory\n",
@@ -136,7 +169,8 @@ fn pump<S: Source, O: Sink>(
 
 /// Takes a piece of the input, and writes the replies to the lines that are whole now.
 fn step<O: Sink>(alloc: Global, batch: &mut Batch, piece: &[u8], output: &mut O) -> Result<(), End>
-    ensures steps { OnOk result (Steps O.written batch.old batch.new piece.now output.old output.new) }
+    ensures takes { OnOk result (TakesPiece O.written batch.old batch.new piece.now output.old output.new) }
+    ensures faults_kept { OnOk result (O.faults output.new ≡ O.faults output.old) }
     ensures stops { IfErr result (Stops O.written batch.old piece.now output.old output.new) }
     ensures never_falls { NeverFalls (O.faults output.old) (O.faults output.new) }
     ensures cause { IfErr result (IsOutputEnd (O.faults output.old) (O.faults output.new)) }
@@ -152,7 +186,7 @@ fn step<O: Sink>(alloc: Global, batch: &mut Batch, piece: &[u8], output: &mut O)
 
 /// Takes the end of the input, and writes the last reply.
 fn finish<O: Sink>(alloc: Global, batch: &mut Batch, output: &mut O) -> End
-    ensures stops { Stops O.written batch.old [] output.old output.new result }
+    ensures finishes { Finishes O.written batch.old output.old output.new result }
     ensures never_falls { NeverFalls (O.faults output.old) (O.faults output.new) }
     ensures cause { IsLastEnd (O.faults output.old) (O.faults output.new) result }
 {

@@ -8,6 +8,10 @@ use stock_nums::memory::NoMemory;
 use voucher_json::replying::reply_text;
 
 /// Adds the text of a reply, and a line feed.
+///
+/// # Errors
+///
+/// `NoMemory`: a front of the text may have been added.
 pub fn append_reply(alloc: Global, waiting: &mut Vec<u8>, reply: &Reply) -> Result<(), NoMemory>
     requires { IsPrinted reply.now }
     ensures { OnOk result (waiting.new.items ≡ waiting.old.items ++ reply_line reply.now) }

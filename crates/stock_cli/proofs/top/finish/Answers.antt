@@ -1,11 +1,10 @@
 -- Memory or the output may end the run before its end.
-use Rattle.std.proofs.Common.{[]}
-use Rattle.stock_cli.proofs.Ends.{Stops-memory, Stops-last_write}
+use Rattle.stock_cli.proofs.Ends.{Finishes-memory, Finishes-write}
 use Rattle.stock_cli.proofs.top.finish.Goals as goal
 
-pub returns-in_default-clause-stops : goal.returns-in_default-clause-stops
-returns-in_default-clause-stops g c = Stops-memory g.O.Sink.written c.args.batch.now [] c.args.output.now
+pub returns-in_default-clause-finishes : goal.returns-in_default-clause-finishes
+returns-in_default-clause-finishes g c = Finishes-memory g.O.Sink.written c.args.batch.now c.args.output.now
 
-pub returns-in_default-write_out-clause-stops : goal.returns-in_default-write_out-clause-stops
-returns-in_default-write_out-clause-stops g c =
-    Stops-last_write g.O.Sink.written c.args.batch.now c.end_input.new.self c.args.output.now c.write_out.new.output c.in-Ok.ensures c.in_default-write_out.ensures.front
+pub returns-in_default-write_out-clause-finishes : goal.returns-in_default-write_out-clause-finishes
+returns-in_default-write_out-clause-finishes g c =
+    Finishes-write g.O.Sink.written c.args.batch.now c.end_input.new.self c.args.output.now c.write_out.new.output c.in-Ok.ensures.answered c.in_default-write_out.ensures.front

@@ -4,7 +4,7 @@ use Rattle.stock_cli.proofs.batch.Batch.feed.Goals as goal
 
 pub loop-line-preserved : goal.loop-line-preserved
 loop-line-preserved c =
-    HasFed-line c.args.self.now c.loop-line.self c.args.piece.now c.loop-line.rest.now c.in-Some.line.now c.in-Some.after.now c.add.new.self c.end_line.new.self c.loop-line.invariant c.in-Some.ensures.parts c.in-Some.ensures.first c.in_ok-add.ensures.added c.in_ok-end_line.ensures
+    HasFed-line c.args.self.now c.loop-line.self c.args.piece.now c.loop-line.rest.now c.in-Some.line.now c.in-Some.after.now c.add.new.self c.end_line.new.self c.loop-line.invariant c.in-Some.ensures.parts c.in-Some.ensures.first c.in_ok-add.ensures.added c.in_ok-end_line.ensures.goes_on
 
 pub returns : goal.returns
 returns c =
