@@ -144,6 +144,7 @@ impl Book {
     pub fn settle_all(&mut self, alloc: Global) -> Result<RecordNo, NoMemory>
         ensures settled { OnOk result (self.new.history ≡ history.settled self.old.history) }
         ensures covered { IfOk result (λ n. n.0 ≡ history.accepted self.old.history) }
+        ensures memory { OnErr result (history.covered self.old.history < history.accepted self.old.history) }
         ensures unchanged { OnErr result (self.new ≡ self.old) }
         ensures legal { OnOk result (history.IsLegal self.new.history) }
     {
@@ -179,7 +180,8 @@ impl Book {
         ensures ready { OnOk result (need_at self.now.history query.now ≡ Need.Ready) }
         ensures selected { IfOk result (λ chosen. chosen ≡ selected self.now.history query.now) }
         ensures bounded { IfOk result (λ chosen. AreBounded chosen.rows) }
-        ensures fault { IfErr result (λ f. (f ≡ SelectFault.NoMemory) ⊎ (unmet_need (need_at self.now.history query.now) ≡ Some f)) }
+        ensures fault { IfErr result (λ f. (f ≡ SelectFault.NoMemory) × (need_at self.now.history query.now ≡ Need.Ready)
+            ⊎ (unmet_need (need_at self.now.history query.now) ≡ Some f)) }
     {
         match self.test(query) {
             Need::Ready => self.generation(alloc, query),

@@ -1,8 +1,6 @@
 -- The journal's faults go before the want of room.
-use Rattle.std.proofs.Common.{◌≡◌, List, Some, None, refl, sym, ap, ◌∙◌}
-use Rattle.std.specs.Option.{option_or}
-use Rattle.stock_model.specs.declared.records.Record.{Record}
-use Rattle.stock_model.specs.Faults.{voucher_fault, full}
+use Rattle.std.proofs.Common.{◌≡◌, Some, None, refl, sym, ap, ◌∙◌}
+use Rattle.stock_model.specs.Faults.{voucher_fault}
 use Rattle.generation_book.specs.State.{BookState}
 use Rattle.generation_book.specs.Book.{deeds}
 use Rattle.generation_book.proofs.Books.{history-records}

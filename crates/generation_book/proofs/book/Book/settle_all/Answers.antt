@@ -1,5 +1,5 @@
 -- Everything is covered already, or all records are published.
-use Rattle.std.proofs.Common.{[], ◌∷◌, ◌++◌, ◌≡◌, sym, ap, ◌∙◌, subst, arith, List}
+use Rattle.std.proofs.Common.{[], ◌∷◌, ◌++◌, ◌≡◌, sym, ap, ◌∙◌, subst, arith, List, Result, Ok, Err, OnErr}
 use Rattle.stock_nums.specs.declared.entry.Entry.{Entry}
 use Rattle.stock_model.specs.Bounds.{AreBounded}
 use Rattle.stock_model.specs.Formulas.{HaveOneFormula}
@@ -11,6 +11,25 @@ use Rattle.generation_book.specs.declared.events.Event.{Event}
 use Rattle.generation_book.specs.declared.events.Event.TheVariants.{Published}
 use Rattle.generation_book.proofs.Books.{history-accepted, history-covered, settled-same, settled-more, IsBook-published, deeds-published}
 use Rattle.generation_book.proofs.book.Book.settle_all.Goals as goal
+
+-- what holds, holds where there is an error
+on_err : {X E : Type 0} {P : Type 0} (r : Result X E) → P → OnErr r P
+on_err (Ok x) p = tt
+on_err (Err e) p = p
+
+pub returns-in_err-rows-clause-memory : goal.returns-in_err-rows-clause-memory
+returns-in_err-rows-clause-memory c =
+    let told : deeds c.self.inside.events.items c.self.inside.journal ≡ c.args.self.now.history = ap (λ (b : BookState). b.history) c.self.view_is in
+    let all = history-accepted _ _ _ _ _ c.args.self.now.history c.self.invariant told in
+    let covers = history-covered _ _ _ _ _ c.args.self.now.history c.self.invariant told in
+    on_err c.from_residual.result (omega (arith, all, covers, c.count.ensures.count))
+
+pub returns-in_err-reserve-clause-memory : goal.returns-in_err-reserve-clause-memory
+returns-in_err-reserve-clause-memory c =
+    let told : deeds c.self.inside.events.items c.self.inside.journal ≡ c.args.self.now.history = ap (λ (b : BookState). b.history) c.self.view_is in
+    let all = history-accepted _ _ _ _ _ c.args.self.now.history c.self.invariant told in
+    let covers = history-covered _ _ _ _ _ c.args.self.now.history c.self.invariant told in
+    on_err c.from_residual-in_err-reserve.result (omega (arith, all, covers, c.count.ensures.count))
 
 pub returns-then-self-accepted-clause-settled : goal.returns-then-self-accepted-clause-settled
 returns-then-self-accepted-clause-settled c =
