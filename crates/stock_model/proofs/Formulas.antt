@@ -1,5 +1,5 @@
 -- Each item of a journal has one cost formula: that of the record that made it.
-use Rattle.std.proofs.Common.{◌≡◌, ℕ, ◌+◌, ◌<◌, ◌≤◌, Bool, true, false, cond, List, [], ◌∷◌, ◌++◌, length, Option, Some, None, option_and_then, refl, sym, ap, ◌∙◌, subst, arith, append_assoc, nat_eq, inl, inr}
+use Rattle.std.proofs.Common.{◌≡◌, ℕ, ◌+◌, ◌<◌, ◌≤◌, Bool, true, false, cond, List, [], ◌∷◌, ◌++◌, length, Option, Some, None, refl, sym, ap, ◌∙◌, subst, arith, append_assoc, nat_eq, inl, inr}
 use Rattle.std.specs.List.{All, find, filter_map, enumerate_from, cons_option}
 use Rattle.std.specs.Option.{option_map}
 use Rattle.std.proofs.lemmas.Bool.{cases_lt}
@@ -9,25 +9,22 @@ use Rattle.stock_nums.specs.Places.{is_before}
 use Rattle.stock_nums.specs.declared.cause.Method.{Method}
 use Rattle.stock_nums.specs.declared.cause.Method.TheVariants.{Average}
 use Rattle.stock_nums.specs.declared.entry.Entry.{Entry}
-use Rattle.stock_nums.specs.declared.numbers.AccountNo.{AccountNo}
 use Rattle.stock_nums.specs.declared.numbers.ItemNo.{ItemNo}
-use Rattle.stock_nums.specs.declared.numbers.StoreNo.{StoreNo}
 use Rattle.stock_model.specs.declared.records.Record.{Record}
 use Rattle.stock_model.specs.declared.vouchers.What.{What}
 use Rattle.stock_model.specs.declared.vouchers.What.TheVariants.{Item, Store, Receipt, Issue}
-use Rattle.stock_model.specs.Entries.{received, received_line, issued, issued_line, movements, entries, entries_after, all_entries}
+use Rattle.stock_model.specs.Entries.{movements, entries, entries_after, all_entries}
 use Rattle.stock_model.specs.Formulas.{HasFormula, HaveOneFormula}
 use Rattle.stock_nums.specs.Heads.{ItemHead, has_item_code, item_found}
-use Rattle.stock_model.specs.Masters.{item_made, item_numbered, item_with, store_with}
+use Rattle.stock_model.specs.Masters.{item_made, item_numbered, item_with}
 use Rattle.stock_model.specs.PostingOrder.{put, put_all, posting_line}
+use Rattle.stock_model.proofs.LineEntries.{movements-each}
 use Rattle.stock_model.proofs.Pairwise.{Each, Each-append}
 
 -- the formula of the item that the record makes, if it makes one
 abbrev method_made : What → Method
 method_made (Item code method) = method
-method_made (Store code account) = Average
-method_made (Receipt at lines) = Average
-method_made (Issue at purpose lines) = Average
+method_made _ = Average
 
 -- the formula of the item with this number, where the first of the records has the number k
 abbrev formula_from : ℕ → List Record → ℕ → Method
@@ -107,36 +104,9 @@ item_with-formula journal more code item is =
     ] in
     step (find (has_item_code code) (filter_map item_numbered (enumerate_from 1 journal))) refl is
 
--- what is made where an item and a warehouse were found
-made : (item : Option (ItemNo × Method)) (store : Option (StoreNo × AccountNo)) (make : ItemNo × Method → StoreNo × AccountNo → Entry) (P : Entry → Type 0) (e : Entry)
-    → option_and_then (λ i. option_map (make i) store) item ≡ Some e → ((i : ItemNo × Method) (s : StoreNo × AccountNo) → item ≡ Some i → P (make i s)) → P e
-made None store make P e is all = cc
-made (Some i) None make P e is all = cc
-made (Some i) (Some s) make P e is all = let same : make i s ≡ e = cc in subst P same (all i s refl)
-
--- what each of the lines makes
-lines-Each : {X : Type 0} (P : Entry → Type 0) (by : ℕ × X → Option Entry) (k : ℕ) (lines : List X) → ((line : ℕ × X) (e : Entry) → by line ≡ Some e → P e) → Each P (filter_map by (enumerate_from k lines))
-lines-Each P by k [] all = tt
-lines-Each P by k (line ∷ lines) all =
-    let rest = lines-Each P by (k + 1) lines all in
-    let step : (o : Option Entry) → by (k, line) ≡ o → Each P (cons_option o (filter_map by (enumerate_from (k + 1) lines))) =
-    λ o. elim o as (λ v. by (k, line) ≡ v → Each P (cons_option v (filter_map by (enumerate_from (k + 1) lines)))) [
-      | None ↦ λ is. rest
-      | Some e ↦ λ is. (all (k, line) e is, rest)
-    ] in
-    step (by (k, line)) refl
-
 movements-formula : (journal more : List Record) (n : ℕ) (what : What) → Each (HasFormula (formula_from 1 (journal ++ more))) (movements journal n what)
-movements-formula journal more n (Item code method) = tt
-movements-formula journal more n (Store code account) = tt
-movements-formula journal more n (Receipt at lines) =
-    let has = HasFormula (formula_from 1 (journal ++ more)) in
-    lines-Each has (received_line journal n at) 1 lines
-    (λ line e is. made (item_with journal line.1.item) (store_with journal line.1.store) (received n at line) has e is (λ i s named. item_with-formula journal more line.1.item i named))
-movements-formula journal more n (Issue at purpose lines) =
-    let has = HasFormula (formula_from 1 (journal ++ more)) in
-    lines-Each has (issued_line journal n at purpose) 1 lines
-    (λ line e is. made (item_with journal line.1.item) (store_with journal line.1.store) (issued n at purpose line) has e is (λ i s named. item_with-formula journal more line.1.item i named))
+movements-formula journal more n what =
+    movements-each journal n what (HasFormula (formula_from 1 (journal ++ more))) (λ at number line item named move store. item_with-formula journal more line.item item named)
 
 entries_after-formula : (journal rest : List Record) → Each (HasFormula (formula_from 1 (journal ++ rest))) (entries_after journal rest)
 entries_after-formula journal [] = tt

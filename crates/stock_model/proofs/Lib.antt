@@ -1,11 +1,13 @@
 pub mod Bounds
 pub mod Growth
+pub mod SeenLines
+pub mod Numbered
+pub mod LineEntries
 pub mod Pairwise
 pub mod Distinct
 pub mod PostingLine
 pub mod Histories
 pub mod Enough
-pub mod VoucherLines
 pub mod FirstOut
 pub mod Formulas
 pub mod Valuation

@@ -1,75 +1,52 @@
 -- The movements of a record: one for one item and one warehouse each.
-use Rattle.std.specs.Prelude.{ℕ, ◌+◌, ◌-◌, Bool, true, false, List, [], ◌∷◌, ◌++◌, length, take, Option, option_and_then, refl}
+use Rattle.std.specs.Prelude.{ℕ, ◌+◌, ◌-◌, List, [], ◌∷◌, ◌++◌, length, take, Option}
 use Rattle.std.specs.Option.{option_map, option_to_list}
-use Rattle.std.specs.List.{filter_map, enumerate_from, flat_map}
+use Rattle.std.specs.List.{filter_map, enumerate_from, flat_map, zip}
 use Rattle.stock_nums.specs.declared.moment.Moment.{Moment}
 use Rattle.stock_nums.specs.declared.numbers.ItemNo.{ItemNo}
 use Rattle.stock_nums.specs.declared.numbers.StoreNo.{StoreNo}
 use Rattle.stock_nums.specs.declared.numbers.AccountNo.{AccountNo}
 use Rattle.stock_nums.specs.declared.cause.Method.{Method}
-use Rattle.stock_nums.specs.declared.cause.Cause.TheVariants as cause
-use Rattle.stock_nums.specs.declared.place.Side.TheVariants.{Leaves, Enters}
 use Rattle.stock_nums.specs.declared.entry.Entry.{Entry}
 use Rattle.stock_model.specs.declared.vouchers.What.{What}
-use Rattle.stock_model.specs.declared.vouchers.What.TheVariants.{Item, Store, Receipt, Issue}
-use Rattle.stock_model.specs.declared.vouchers.ReceiptLine.{ReceiptLine}
-use Rattle.stock_model.specs.declared.vouchers.IssueLine.{IssueLine}
-use Rattle.stock_model.specs.declared.vouchers.Purpose.{Purpose}
-use Rattle.stock_model.specs.declared.vouchers.Purpose.TheVariants.{Sold, Used}
 use Rattle.stock_model.specs.declared.records.Record.{Record}
+use Rattle.stock_model.specs.declared.seen.Move.{Move}
 use Rattle.stock_model.specs.Masters.{item_with, store_with, record_at}
+use Rattle.stock_model.specs.VoucherLines.{VoucherLine, lines_of, moves_of, moment_of}
 
--- what enters by a line of the receipt with this number and moment, its item and warehouse found
-abbrev pub received : ℕ → Moment → ℕ × ReceiptLine → ItemNo × Method → StoreNo × AccountNo → Entry
-received n at line item store =
+-- a move of the line with this number of the voucher with this number and moment, its item and warehouse found
+abbrev pub moved : ℕ → Moment → ℕ → VoucherLine → ItemNo × Method → Move → StoreNo × AccountNo → Entry
+moved n at number line item move store =
     record {
-      place = record { moment = at; voucher = record { 0 = n }; line = line.0; side = Enters };
+      place = record { moment = at; voucher = record { 0 = n }; line = number; side = move.side };
       item = item.0;
       store = store.0;
-      qty = line.1.qty;
+      qty = line.qty;
       method = item.1;
-      cause = cause.Receipt line.1.amount;
-      quantity = line.1.quantity;
-      amounts = line.1.price;
-      sides = refl;
+      cause = move.cause;
+      quantity = line.quantity;
+      amounts = move.amounts;
+      sides = move.sides;
     }
 
--- what enters by a line, where its item and its warehouse are those of the journal
-abbrev pub received_line : List Record → ℕ → Moment → ℕ × ReceiptLine → Option Entry
-received_line journal n at line =
-    option_and_then (λ item. option_map (received n at line item) (store_with journal line.1.store)) (item_with journal line.1.item)
+-- the movement of a move into or out of the warehouse with this code, where there is one
+abbrev pub move_made : List Record → ℕ → Moment → ℕ → VoucherLine → ItemNo × Method → Move × List ℕ → Option Entry
+move_made journal n at number line item (move, code) = option_map (moved n at number line item move) (store_with journal code)
 
--- the goods were sold
-abbrev pub is_sold : Purpose → Bool
-is_sold Sold = true
-is_sold Used = false
+-- the movements of a line whose item is found: its moves, each with one of the warehouses that it names
+abbrev pub moves_made : List Record → ℕ → Moment → What → ℕ → VoucherLine → ItemNo × Method → List Entry
+moves_made journal n at what number line item = filter_map (move_made journal n at number line item) (zip (moves_of what line) line.stores)
 
--- what leaves by a line of the issue with this number and moment, its item and warehouse found
-abbrev pub issued : ℕ → Moment → Purpose → ℕ × IssueLine → ItemNo × Method → StoreNo × AccountNo → Entry
-issued n at purpose line item store =
-    record {
-      place = record { moment = at; voucher = record { 0 = n }; line = line.0; side = Leaves };
-      item = item.0;
-      store = store.0;
-      qty = line.1.qty;
-      method = item.1;
-      cause = cause.Issue (is_sold purpose);
-      quantity = line.1.quantity;
-      amounts = refl;
-      sides = refl;
-    }
+abbrev pub line_made : List Record → ℕ → Moment → What → ℕ × VoucherLine → List Entry
+line_made journal n at what (number, line) = flat_map (moves_made journal n at what number line) (option_to_list (item_with journal line.item))
 
--- what leaves by a line, where its item and its warehouse are those of the journal
-abbrev pub issued_line : List Record → ℕ → Moment → Purpose → ℕ × IssueLine → Option Entry
-issued_line journal n at purpose line =
-    option_and_then (λ item. option_map (issued n at purpose line item) (store_with journal line.1.store)) (item_with journal line.1.item)
+-- the movements of all lines of a voucher with this moment
+abbrev pub lines_made : List Record → ℕ → What → Moment → List Entry
+lines_made journal n what at = flat_map (line_made journal n at what) (enumerate_from 1 (lines_of what))
 
--- the movements of what the record with this number says. An item and a warehouse make none
+-- the movements of what the record with this number says: none where it has no moment
 abbrev pub movements : List Record → ℕ → What → List Entry
-movements journal n (Item code method) = []
-movements journal n (Store code account) = []
-movements journal n (Receipt at lines) = filter_map (received_line journal n at) (enumerate_from 1 lines)
-movements journal n (Issue at purpose lines) = filter_map (issued_line journal n at purpose) (enumerate_from 1 lines)
+movements journal n what = flat_map (lines_made journal n what) (option_to_list (moment_of what))
 
 -- the movements of a record, read as the next one of the journal
 abbrev pub entries : List Record → Record → List Entry

@@ -1,18 +1,20 @@
 -- Why a record is refused: the first fault in the one order of faults, with its data.
-use Rattle.std.specs.Prelude.{ℕ, ◌+◌, Bool, ◌||◌, List, [], ◌∷◌, ◌++◌, length, map, nat_lt, nat_le, if◌then◌else◌, Option, Some, None, is_some, is_none}
+use Rattle.std.specs.Prelude.{ℕ, ◌+◌, Bool, ◌||◌, List, [], ◌∷◌, ◌++◌, length, nat_lt, nat_le, if◌then◌else◌, Option, Some, None, is_some, is_none}
 use Rattle.std.specs.Option.{option_map, option_or}
+use Rattle.std.specs.List.{list_any}
 use Rattle.stock_nums.specs.Accounts.{is_store_account}
 use Rattle.stock_nums.specs.Codes.{is_code}
 use Rattle.stock_nums.specs.declared.limits.TheConstants.{MAX_RECORDS, MAX_ENTRIES}
 use Rattle.stock_model.specs.declared.faults.PostFault.{PostFault}
 use Rattle.stock_model.specs.declared.faults.PostFault.TheVariants.{CodeTaken, CodeShape, AccountRange, UnknownItem, UnknownStore, Full, Short}
+use Rattle.stock_model.specs.declared.line_faults.LineTest.{LineTest}
+use Rattle.stock_model.specs.declared.line_faults.LineTest.TheVariants.{LacksItem, LacksStore}
 use Rattle.stock_model.specs.declared.vouchers.What.{What}
-use Rattle.stock_model.specs.declared.vouchers.What.TheVariants.{Item, Store, Receipt, Issue}
-use Rattle.stock_model.specs.declared.vouchers.ReceiptLine.{ReceiptLine}
-use Rattle.stock_model.specs.declared.vouchers.IssueLine.{IssueLine}
+use Rattle.stock_model.specs.declared.vouchers.What.TheVariants.{Item, Store}
 use Rattle.stock_model.specs.declared.shortages.Shortage.{Shortage}
 use Rattle.stock_model.specs.declared.records.Record.{Record}
 use Rattle.stock_model.specs.Masters.{item_with, store_with}
+use Rattle.stock_model.specs.VoucherLines.{VoucherLine, lines_of}
 use Rattle.stock_model.specs.Entries.{entries, all_entries}
 use Rattle.stock_model.specs.PostingOrder.{posting_line}
 use Rattle.stock_model.specs.Enough.{shortage}
@@ -22,66 +24,46 @@ abbrev pub first_line : {X : Type 0} → (X → Bool) → ℕ → List X → Opt
 first_line test n [] = None
 first_line test n (x ∷ xs) = if test x then Some n else first_line test (n + 1) xs
 
-abbrev pub receipt_item : ReceiptLine → List ℕ
-receipt_item line = line.item
+-- the line names an item that there is not
+abbrev pub lacks_item : List Record → VoucherLine → Bool
+lacks_item journal line = is_none (item_with journal line.item)
 
-abbrev pub receipt_store : ReceiptLine → List ℕ
-receipt_store line = line.store
+abbrev pub is_unknown_store : List Record → List ℕ → Bool
+is_unknown_store journal code = is_none (store_with journal code)
 
-abbrev pub issue_item : IssueLine → List ℕ
-issue_item line = line.item
+-- the line names a warehouse that there is not
+abbrev pub lacks_store : List Record → VoucherLine → Bool
+lacks_store journal line = list_any (is_unknown_store journal) line.stores
 
-abbrev pub issue_store : IssueLine → List ℕ
-issue_store line = line.store
-
--- the item that each line names
-abbrev pub item_codes : What → List (List ℕ)
-item_codes (Item code method) = []
-item_codes (Store code account) = []
-item_codes (Receipt at lines) = map receipt_item lines
-item_codes (Issue at purpose lines) = map issue_item lines
-
--- the warehouse that each line names
-abbrev pub store_codes : What → List (List ℕ)
-store_codes (Item code method) = []
-store_codes (Store code account) = []
-store_codes (Receipt at lines) = map receipt_store lines
-store_codes (Issue at purpose lines) = map issue_store lines
-
-abbrev pub lacks_item : List Record → List ℕ → Bool
-lacks_item journal code = is_none (item_with journal code)
-
-abbrev pub lacks_store : List Record → List ℕ → Bool
-lacks_store journal code = is_none (store_with journal code)
+-- the line has what is tested
+abbrev pub line_test : LineTest → List Record → VoucherLine → Bool
+line_test LacksItem journal line = lacks_item journal line
+line_test LacksStore journal line = lacks_store journal line
 
 -- a new item has the code of an item, or a new warehouse that of a warehouse
 abbrev pub code_taken : List Record → What → Option PostFault
 code_taken journal (Item code method) = if is_some (item_with journal code) then Some CodeTaken else None
 code_taken journal (Store code account) = if is_some (store_with journal code) then Some CodeTaken else None
-code_taken journal (Receipt at lines) = None
-code_taken journal (Issue at purpose lines) = None
+code_taken journal _ = None
 
 -- the new code is not of the stated shape
 abbrev pub code_shape : What → Option PostFault
 code_shape (Item code method) = if is_code code then None else Some CodeShape
 code_shape (Store code account) = if is_code code then None else Some CodeShape
-code_shape (Receipt at lines) = None
-code_shape (Issue at purpose lines) = None
+code_shape _ = None
 
 -- the new warehouse's account is not from 100 to 9999
 abbrev pub account_range : What → Option PostFault
-account_range (Item code method) = None
 account_range (Store code account) = if is_store_account account.0 then None else Some AccountRange
-account_range (Receipt at lines) = None
-account_range (Issue at purpose lines) = None
+account_range _ = None
 
 -- a line names an item that there is not
 abbrev pub unknown_item : List Record → What → Option PostFault
-unknown_item journal what = option_map UnknownItem (first_line (lacks_item journal) 1 (item_codes what))
+unknown_item journal what = option_map UnknownItem (first_line (lacks_item journal) 1 (lines_of what))
 
 -- a line names a warehouse that there is not
 abbrev pub unknown_store : List Record → What → Option PostFault
-unknown_store journal what = option_map UnknownStore (first_line (lacks_store journal) 1 (store_codes what))
+unknown_store journal what = option_map UnknownStore (first_line (lacks_store journal) 1 (lines_of what))
 
 -- the faults of what the record says, whatever room there is
 abbrev pub voucher_fault : List Record → What → Option PostFault

@@ -1,5 +1,7 @@
 pub mod Limits
 pub mod Masters
+pub mod VoucherLines
+pub mod LineViews
 pub mod Entries
 pub mod PostingOrder
 pub mod Sums

@@ -9,29 +9,24 @@ use Rattle.stock_nums.specs.declared.numbers.ItemNo.{ItemNo}
 use Rattle.stock_nums.specs.declared.numbers.StoreNo.{StoreNo}
 use Rattle.stock_nums.specs.Heads.{ItemHead, StoreHead, item_in, store_in}
 use Rattle.stock_model.specs.declared.vouchers.What.{What}
-use Rattle.stock_model.specs.declared.vouchers.What.TheVariants.{Item, Store, Receipt, Issue}
+use Rattle.stock_model.specs.declared.vouchers.What.TheVariants.{Item, Store}
 use Rattle.stock_model.specs.declared.records.Record.{Record}
 
 -- the item that the record with this number makes, if it makes one
 abbrev pub item_made : ℕ → What → Option ItemHead
 item_made n (Item code method) = Some (record { number = n; code = code; method = method })
-item_made n (Store code account) = None
-item_made n (Receipt at lines) = None
-item_made n (Issue at purpose lines) = None
+item_made n _ = None
 
 -- the warehouse that the record with this number makes, if it makes one
 abbrev pub store_made : ℕ → What → Option StoreHead
-store_made n (Item code method) = None
 store_made n (Store code account) = Some (record { number = n; code = code; account = account.0 })
-store_made n (Receipt at lines) = None
-store_made n (Issue at purpose lines) = None
+store_made n _ = None
 
 -- the head of what the record with this number makes, if it makes an item or a warehouse
 abbrev pub head_made : ℕ → What → Option Head
 head_made n (Item code method) = Some (record { number = record { 0 = n }; code = code; account = None })
 head_made n (Store code account) = Some (record { number = record { 0 = n }; code = code; account = Some account })
-head_made n (Receipt at lines) = None
-head_made n (Issue at purpose lines) = None
+head_made n _ = None
 
 abbrev pub item_numbered : ℕ × Record → Option ItemHead
 item_numbered p = item_made p.0 p.1.what
@@ -81,8 +76,7 @@ code_of heads n = unwrap_or (option_map head_code (find (has_number n) heads)) [
 abbrev pub code_made : What → List ℕ
 code_made (Item code method) = code
 code_made (Store code account) = code
-code_made (Receipt at lines) = []
-code_made (Issue at purpose lines) = []
+code_made _ = []
 
 abbrev pub record_code : Record → List ℕ
 record_code item = code_made item.what

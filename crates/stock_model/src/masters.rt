@@ -80,12 +80,7 @@ fn head_made(alloc: Global, number: u32, what: &What) -> Result<Option<Head>, No
             code: code.copy(alloc)?,
             account: Some(*account),
         })),
-        What::Receipt { at: _, lines: _ } => Ok(None),
-        What::Issue {
-            at: _,
-            purpose: _,
-            lines: _,
-        } => Ok(None),
+        _ => Ok(None),
     }
 }
 
@@ -113,11 +108,6 @@ pub fn record_code(alloc: Global, item: &Record) -> Result<Code, NoMemory>
     match &item.what {
         What::Item { code, method: _ } => code.copy(alloc),
         What::Store { code, account: _ } => code.copy(alloc),
-        What::Receipt { at: _, lines: _ } => Code::of(alloc, ""),
-        What::Issue {
-            at: _,
-            purpose: _,
-            lines: _,
-        } => Code::of(alloc, ""),
+        _ => Code::of(alloc, ""),
     }
 }

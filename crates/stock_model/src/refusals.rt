@@ -1,14 +1,15 @@
 //! Why a record is refused, whatever room there is.
-ghost use Rattle.std.specs.Prelude.{◌≡◌, ◌≤◌, length, map, if◌then◌else◌, Some, None};
+ghost use Rattle.std.specs.Prelude.{◌≡◌, ◌≤◌, length, if◌then◌else◌, Some, None};
+ghost use Rattle.std.specs.Option.{option_or};
 ghost use Rattle.stock_nums.specs.Accounts.{is_store_account};
 ghost use Rattle.stock_nums.specs.Codes.{is_code};
-ghost use Rattle.std.specs.Option.{option_map, option_or};
-ghost use Rattle.stock_model.specs.Faults.{first_line, lacks_item, lacks_store, voucher_fault};
+ghost use Rattle.stock_model.specs.Faults.{unknown_item, unknown_store, voucher_fault};
+ghost use Rattle.stock_model.specs.VoucherLines.{lines_of};
 
 use crate::faults::PostFault;
+use crate::line_faults::{LineTest, first_line};
 use crate::names::Names;
 use crate::records::Record;
-use crate::stock_lines::StockLine;
 use crate::vouchers::What;
 use stock_nums::code::Code;
 use stock_nums::limits::MAX_LINES;
@@ -25,12 +26,7 @@ pub fn voucher_fault<N: Names>(names: &N, item: &Record) -> Option<PostFault>
         What::Store { code, account } => {
             store_fault(names.store_with(code).is_some(), code, *account)
         }
-        What::Receipt { at: _, lines } => unknown_name(names, lines.as_slice()),
-        What::Issue {
-            at: _,
-            purpose: _,
-            lines,
-        } => unknown_name(names, lines.as_slice()),
+        what => unknown_name(names, what),
     }
 }
 
@@ -61,39 +57,15 @@ fn store_fault(taken: bool, code: &Code, account: AccountNo) -> Option<PostFault
 }
 
 // The first unknown item that the lines name, or else the first unknown warehouse.
-fn unknown_name<N: Names, T: StockLine>(names: &N, lines: &[T]) -> Option<PostFault>
-    requires { length lines.now ≤ MAX_LINES }
-    ensures { result ≡ option_or (option_map PostFault.UnknownItem (first_line (lacks_item (N.journal names.now)) 1 (map T.item_code lines.now))) (option_map PostFault.UnknownStore (first_line (lacks_store (N.journal names.now)) 1 (map T.store_code lines.now))) }
+fn unknown_name<N: Names>(names: &N, what: &What) -> Option<PostFault>
+    requires { length (lines_of what.now) ≤ MAX_LINES }
+    ensures { result ≡ option_or (unknown_item (N.journal names.now) what.now) (unknown_store (N.journal names.now) what.now) }
 {
-    if let Some(line) = unknown_item(names, lines) {
+    if let Some(line) = first_line(LineTest::LacksItem, names, what) {
         return Some(PostFault::UnknownItem { line });
     }
-    if let Some(line) = unknown_store(names, lines) {
+    if let Some(line) = first_line(LineTest::LacksStore, names, what) {
         return Some(PostFault::UnknownStore { line });
-    }
-    None
-}
-
-fn unknown_item<N: Names, T: StockLine>(names: &N, lines: &[T]) -> Option<u32>
-    requires { length lines.now ≤ MAX_LINES }
-    ensures { result ≡ first_line (lacks_item (N.journal names.now)) 1 (map T.item_code lines.now) }
-{
-    for (i, line) in lines.iter().enumerate() {
-        if names.item_with(line.item()).is_none() {
-            return Some(i as u32 + 1);
-        }
-    }
-    None
-}
-
-fn unknown_store<N: Names, T: StockLine>(names: &N, lines: &[T]) -> Option<u32>
-    requires { length lines.now ≤ MAX_LINES }
-    ensures { result ≡ first_line (lacks_store (N.journal names.now)) 1 (map T.store_code lines.now) }
-{
-    for (i, line) in lines.iter().enumerate() {
-        if names.store_with(line.store()).is_none() {
-            return Some(i as u32 + 1);
-        }
     }
     None
 }

@@ -69,11 +69,15 @@ pub enum What {
     },
 }
 
-impl ReceiptLine {
+/// A line of which an equal one can be made.
+pub trait CopyLine: Drop {
     /// An equal line.
-    pub fn copy(&self, alloc: Global) -> Result<ReceiptLine, NoMemory>
-        ensures { IfOk result (λ copy. copy ≡ self.now) }
-    {
+    fn copy(&self, alloc: Global) -> Result<Self, NoMemory>
+        ensures { IfOk result (λ copy. copy ≡ self.now) };
+}
+
+impl CopyLine for ReceiptLine {
+    fn copy(&self, alloc: Global) -> Result<ReceiptLine, NoMemory> {
         Ok(ReceiptLine {
             item: self.item.copy(alloc)?,
             store: self.store.copy(alloc)?,
@@ -83,11 +87,8 @@ impl ReceiptLine {
     }
 }
 
-impl IssueLine {
-    /// An equal line.
-    pub fn copy(&self, alloc: Global) -> Result<IssueLine, NoMemory>
-        ensures { IfOk result (λ copy. copy ≡ self.now) }
-    {
+impl CopyLine for IssueLine {
+    fn copy(&self, alloc: Global) -> Result<IssueLine, NoMemory> {
         Ok(IssueLine {
             item: self.item.copy(alloc)?,
             store: self.store.copy(alloc)?,
@@ -112,28 +113,19 @@ impl What {
             }),
             What::Receipt { at, lines } => Ok(What::Receipt {
                 at: *at,
-                lines: copy_receipt_lines(alloc, lines.as_slice())?,
+                lines: copy_lines(alloc, lines.as_slice())?,
             }),
             What::Issue { at, purpose, lines } => Ok(What::Issue {
                 at: *at,
                 purpose: *purpose,
-                lines: copy_issue_lines(alloc, lines.as_slice())?,
+                lines: copy_lines(alloc, lines.as_slice())?,
             }),
         }
     }
 }
 
-fn copy_receipt_lines(alloc: Global, lines: &[ReceiptLine]) -> Result<Lines<ReceiptLine>, NoMemory>
-    ensures { IfOk result (λ copy. copy ≡ lines.now) }
-{
-    let mut copy = Lines::new(alloc);
-    for line in lines {
-        copy.push(line.copy(alloc)?)?;
-    }
-    Ok(copy)
-}
-
-fn copy_issue_lines(alloc: Global, lines: &[IssueLine]) -> Result<Lines<IssueLine>, NoMemory>
+// Equal lines.
+fn copy_lines<T: CopyLine>(alloc: Global, lines: &[T]) -> Result<Lines<T>, NoMemory>
     ensures { IfOk result (λ copy. copy ≡ lines.now) }
 {
     let mut copy = Lines::new(alloc);

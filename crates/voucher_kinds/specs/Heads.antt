@@ -5,7 +5,7 @@ use Rattle.item_master.specs.declared.faults.MasterFault.{MasterFault}
 use Rattle.item_master.specs.Faults.{item_fault, store_fault}
 use Rattle.item_master.specs.State.{MasterState}
 use Rattle.stock_model.specs.declared.vouchers.What.{What}
-use Rattle.stock_model.specs.declared.vouchers.What.TheVariants.{Item, Store, Receipt, Issue}
+use Rattle.stock_model.specs.declared.vouchers.What.TheVariants.{Item, Store}
 use Rattle.stock_model.specs.Masters.{item_made, store_made}
 use Rattle.voucher_kinds.specs.declared.heads.Made.{Made}
 use Rattle.voucher_kinds.specs.declared.heads.Made.TheVariants as made
@@ -14,8 +14,7 @@ use Rattle.voucher_kinds.specs.declared.heads.Made.TheVariants as made
 abbrev pub made_by : What → Made
 made_by (Item code method) = made.Item
 made_by (Store code account) = made.Store
-made_by (Receipt at lines) = made.Movements
-made_by (Issue at purpose lines) = made.Movements
+made_by _ = made.Movements
 
 -- the master with the item or the warehouse that the record with this number makes, if it makes one
 abbrev pub with_made : MasterState → ℕ → What → MasterState
@@ -35,5 +34,4 @@ without_last master made.Movements = master
 abbrev pub made_fault : MasterState → What → Option MasterFault
 made_fault master (Item code method) = item_fault master.items code
 made_fault master (Store code account) = store_fault master.stores code account.0
-made_fault master (Receipt at lines) = None
-made_fault master (Issue at purpose lines) = None
+made_fault master _ = None

@@ -25,12 +25,7 @@ pub(crate) fn made_by(what: &What) -> Made
             code: _,
             account: _,
         } => Made::Store,
-        What::Receipt { at: _, lines: _ } => Made::Movements,
-        What::Issue {
-            at: _,
-            purpose: _,
-            lines: _,
-        } => Made::Movements,
+        _ => Made::Movements,
     }
 }
 
@@ -49,12 +44,7 @@ pub(crate) fn add_made(
     match what {
         What::Item { code, method } => master.add_item(number, code, *method),
         What::Store { code, account } => master.add_store(number, code, *account),
-        What::Receipt { at: _, lines: _ } => Ok(()),
-        What::Issue {
-            at: _,
-            purpose: _,
-            lines: _,
-        } => Ok(()),
+        _ => Ok(()),
     }
 }
 

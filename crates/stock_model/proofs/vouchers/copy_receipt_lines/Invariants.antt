@@ -1,6 +1,0 @@
--- The lines copied and those left are all lines.
-use Rattle.std.proofs.Common.{◌≡◌, ◌++◌, drop}
-use Rattle.stock_model.proofs.vouchers.copy_receipt_lines.Given as goal
-
-abbrev pub invariant-loop-line : goal.invariant-loop-line
-invariant-loop-line l = l.copy ++ drop l.line-index l.lines ≡ l.lines
