@@ -388,7 +388,7 @@ fn knows_the_deepest_and_the_longest(rt: HostRuntime) -> Result<(), Fail> {
     }
     // The most lines that a voucher has, in the most bytes that a line of input has.
     let mut most = issue_of(alloc, 99, "{\"item\":\"B\",\"store\":\"W1\",\"qty\":1}")?;
-    while most.len() < 65_536 {
+    for _ in most.len()..65_536 {
         most.push(' ')?;
     }
     let found = read(alloc, most.as_bytes(), false)?;
