@@ -4,3 +4,5 @@ pub mod MomentSpelling
 pub mod MomentWriting
 pub mod PartLemmas
 pub mod PlaceOrder
+pub mod LineQuantities
+pub mod SharesLemmas

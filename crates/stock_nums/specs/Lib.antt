@@ -9,3 +9,6 @@ pub mod MomentText
 pub mod Part
 pub mod Places
 pub mod Quantities
+pub mod LineSums
+pub mod Shares
+pub mod Targets

@@ -1,5 +1,6 @@
 -- Posting order: by date, second, record, line, and what leaves before what enters.
 use Rattle.std.specs.Prelude.{ℕ, Bool, ◌&&◌, ◌||◌, ◌==◌, nat_lt}
+use Rattle.stock_nums.specs.declared.moment.Moment.{Moment}
 use Rattle.stock_nums.specs.declared.place.Place.{Place}
 use Rattle.stock_nums.specs.declared.place.Side.{Side}
 use Rattle.stock_nums.specs.declared.place.Side.TheVariants.{Leaves, Enters}
@@ -7,6 +8,10 @@ use Rattle.stock_nums.specs.declared.place.Side.TheVariants.{Leaves, Enters}
 -- a comes first, or they tie and rest decides
 abbrev pub first_by : ℕ → ℕ → Bool → Bool
 first_by a b rest = nat_lt a b || ((a == b) && rest)
+
+-- the first moment is after the second
+abbrev pub is_later : Moment → Moment → Bool
+is_later a b = first_by b.date a.date (nat_lt b.second a.second)
 
 abbrev pub side_rank : Side → ℕ
 side_rank Leaves = 0

@@ -8,6 +8,7 @@ pub mod first_in;
 pub mod half_up;
 pub mod head;
 pub mod limits;
+pub mod line_sums;
 pub mod lines;
 pub mod memory;
 pub mod moment;
