@@ -12,14 +12,17 @@ use Rattle.stock_nums.specs.declared.entry.Entry.{Entry}
 use Rattle.stock_nums.specs.declared.numbers.ItemNo.{ItemNo}
 use Rattle.stock_model.specs.declared.records.Record.{Record}
 use Rattle.stock_model.specs.declared.vouchers.What.{What}
-use Rattle.stock_model.specs.declared.vouchers.What.TheVariants.{Item, Store, Receipt, Issue}
+use Rattle.stock_model.specs.declared.vouchers.What.TheVariants.{Item, Store, Receipt, Issue, Transfer, CustomerReturn, SupplierReturn, Landed}
 use Rattle.stock_model.specs.Entries.{movements, entries, entries_after, all_entries}
 use Rattle.stock_model.specs.Formulas.{HasFormula, HaveOneFormula}
 use Rattle.stock_nums.specs.Heads.{ItemHead, has_item_code, item_found}
 use Rattle.stock_model.specs.Masters.{item_made, item_numbered, item_with}
 use Rattle.stock_model.specs.PostingOrder.{put, put_all, posting_line}
-use Rattle.stock_model.proofs.LineEntries.{movements-each}
-use Rattle.stock_model.proofs.Pairwise.{Each, Each-append}
+use Rattle.stock_model.specs.TargetLines.{coded_item}
+use Rattle.stock_model.specs.VoucherLines.{Subject, Coded, OfTarget, moves_of}
+use Rattle.stock_model.proofs.Growth.{all_entries-after}
+use Rattle.stock_model.proofs.LineEntries.{HoldsOf, movements-each}
+use Rattle.stock_model.proofs.Pairwise.{Each, Each-all, Each-append}
 
 -- the formula of the item that the record makes, if it makes one
 abbrev method_made : What → Method
@@ -76,6 +79,10 @@ found-IsItemOf k code (r ∷ rs) head is =
       | Store made account ↦ λ says. onward
       | Receipt at lines ↦ λ says. onward
       | Issue at purpose lines ↦ λ says. onward
+      | Transfer at lines ↦ λ says. onward
+      | CustomerReturn at lines ↦ λ says. onward
+      | SupplierReturn at lines ↦ λ says. onward
+      | Landed charge basis targets ↦ λ says. onward
     ] in
     step r.what refl is
 
@@ -104,9 +111,16 @@ item_with-formula journal more code item is =
     ] in
     step (find (has_item_code code) (filter_map item_numbered (enumerate_from 1 journal))) refl is
 
+-- the item of a line by its code
+coded_item-formula : (journal more : List Record) (subject : Subject) (item : ItemNo × Method) → coded_item journal subject ≡ Some item → item.1 ≡ formula_from 1 (journal ++ more) item.0.0
+coded_item-formula journal more (Coded code) item is = item_with-formula journal more code item is
+coded_item-formula journal more (OfTarget named) item is = cc
+
 movements-formula : (journal more : List Record) (n : ℕ) (what : What) → Each (HasFormula (formula_from 1 (journal ++ more))) (movements journal n what)
 movements-formula journal more n what =
-    movements-each journal n what (HasFormula (formula_from 1 (journal ++ more))) (λ at number line item named move store. item_with-formula journal more line.item item named)
+    let has = HasFormula (formula_from 1 (journal ++ more)) in
+    movements-each journal n what has
+    (λ at timed i line is found found_is item named. Each-all (HoldsOf n at (1 + i) line item has) (λ move store. coded_item-formula journal more found.item item named) (moves_of what line found))
 
 entries_after-formula : (journal rest : List Record) → Each (HasFormula (formula_from 1 (journal ++ rest))) (entries_after journal rest)
 entries_after-formula journal [] = tt
@@ -123,19 +137,19 @@ put-Each P (f ∷ fs) e all own =
       | false ↦ (all.0, put-Each P fs e all.1 own)
     ]
 
-put_all-Each : (P : Entry → Type 0) (line es : List Entry) → Each P line → Each P es → Each P (put_all line es)
+pub put_all-Each : (P : Entry → Type 0) (line es : List Entry) → Each P line → Each P es → Each P (put_all line es)
 put_all-Each P line [] all more = all
 put_all-Each P line (e ∷ es) all more = put_all-Each P (put line e) es (put-Each P line e all more.0) more.1
 
-All-from_Each : (P : Entry → Type 0) (es : List Entry) → Each P es → All P es
+pub All-from_Each : (P : Entry → Type 0) (es : List Entry) → Each P es → All P es
 All-from_Each P [] all = All-nil P
 All-from_Each P (e ∷ es) all = All-cons P e es all.0 (All-from_Each P es all.1)
 
 -- the movements of a journal have one formula for each item
 pub posting_line-formula : (journal : List Record) → HaveOneFormula (posting_line journal)
-unfolding posting_line all_entries
+unfolding posting_line
 posting_line-formula journal = (
   formula_from 1 journal,
   All-from_Each (HasFormula (formula_from 1 journal)) (put_all [] (all_entries journal))
-      (put_all-Each (HasFormula (formula_from 1 journal)) [] (all_entries journal) tt (entries_after-formula [] journal)),
+      (put_all-Each (HasFormula (formula_from 1 journal)) [] (all_entries journal) tt (rw all_entries-after (entries_after-formula [] journal))),
 )

@@ -1,11 +1,11 @@
 -- What one more record, or fewer of them, does to the movements, the posting line and the rows of a journal.
-use Rattle.std.proofs.Common.{◌≡◌, ℕ, zero, suc, ◌+◌, ◌≤◌, true, false, cond, List, [], ◌∷◌, ◌++◌, length, take, sym, ap, ◌∙◌, append_assoc, arith, length-append}
+use Rattle.std.proofs.Common.{◌≡◌, ℕ, zero, suc, ◌+◌, ◌≤◌, true, false, cond, List, [], ◌∷◌, ◌++◌, length, take, filter, refl, sym, ap, ◌∙◌, append_assoc, arith, length-append}
 use Rattle.std.proofs.lemmas.List.{append-nil}
 use Rattle.std.proofs.lemmas.List.Sums.{fold-append}
 use Rattle.stock_nums.specs.Places.{is_before}
 use Rattle.stock_nums.specs.declared.entry.Entry.{Entry}
 use Rattle.stock_model.specs.declared.records.Record.{Record}
-use Rattle.stock_model.specs.Entries.{entries, entries_after, all_entries}
+use Rattle.stock_model.specs.Entries.{entries, entries_after, is_live_entry, all_entries}
 use Rattle.stock_model.specs.PostingOrder.{put, put_all, posting_line}
 
 -- one more record at the end adds its movements at the end
@@ -17,10 +17,20 @@ entries_after-snoc journal (r ∷ rs) item =
     (entries_after-snoc (journal ++ r ∷ []) rs item ∙ ap (λ (J : List Record). entries_after (journal ++ r ∷ []) rs ++ entries J item) (append_assoc journal (r ∷ []) rs))
     ∙ sym (append_assoc (entries journal r) (entries_after (journal ++ r ∷ []) rs) (entries (journal ++ r ∷ rs) item))
 
+-- every record is in force
+live-all : (journal : List Record) (es : List Entry) → filter (is_live_entry journal) es ≡ es
+live-all journal [] = refl
+live-all journal (e ∷ es) = ap (λ (rest : List Entry). e ∷ rest) (live-all journal es)
+
+pub all_entries-after : (journal : List Record) → all_entries journal ≡ entries_after [] journal
+unfolding all_entries
+all_entries-after journal = live-all journal (entries_after [] journal)
+
 -- the movements of a journal with one more record
 pub all_entries-snoc : (journal : List Record) (item : Record) → all_entries (journal ++ item ∷ []) ≡ all_entries journal ++ entries journal item
-unfolding all_entries
-all_entries-snoc journal item = entries_after-snoc [] journal item
+all_entries-snoc journal item =
+    all_entries-after (journal ++ item ∷ []) ∙ entries_after-snoc [] journal item
+    ∙ ap (λ (es : List Entry). es ++ entries journal item) (sym (all_entries-after journal))
 
 -- the posting line of a journal with one more record
 pub posting_line-snoc : (journal : List Record) (item : Record) → posting_line (journal ++ item ∷ []) ≡ put_all (posting_line journal) (entries journal item)
@@ -37,8 +47,8 @@ length-entries_after-take journal (r ∷ rs) (suc n) =
 
 -- the first records of a journal have no more movements than all
 pub length-all_entries-take : (journal : List Record) (n : ℕ) → length (all_entries (take n journal)) ≤ length (all_entries journal)
-unfolding all_entries
-length-all_entries-take journal n = length-entries_after-take [] journal n
+length-all_entries-take journal n =
+    rw (all_entries-after (take n journal), all_entries-after journal) (length-entries_after-take [] journal n)
 
 -- one more movement makes the line one longer
 pub length-put : (line : List Entry) (e : Entry) → length (put line e) ≡ length line + 1

@@ -7,7 +7,7 @@ use Rattle.std.proofs.lemmas.Bool.Decides.{nat_tests}
 use Rattle.stock_nums.specs.declared.head.Head.{Head}
 use Rattle.stock_model.specs.declared.records.Record.{Record}
 use Rattle.stock_model.specs.declared.vouchers.What.{What}
-use Rattle.stock_model.specs.declared.vouchers.What.TheVariants.{Item, Store, Receipt, Issue}
+use Rattle.stock_model.specs.declared.vouchers.What.TheVariants.{Item, Store, Receipt, Issue, Transfer, CustomerReturn, SupplierReturn, Landed}
 use Rattle.stock_model.specs.Masters.{heads, head_made, head_numbered, has_number, head_code, code_of, code_made, record_code, record_at}
 
 -- the heads of records that are numbered from k on
@@ -29,6 +29,10 @@ passed k n (Item code method) rest h = ap (λ (b : Bool). cond b (Some (record {
 passed k n (Store code account) rest h = ap (λ (b : Bool). cond b (Some (record { number = record { 0 = k }; code = code; account = Some account })) (find (has_number n) rest)) h
 passed k n (Receipt at lines) rest h = refl
 passed k n (Issue at purpose lines) rest h = refl
+passed k n (Transfer at lines) rest h = refl
+passed k n (CustomerReturn at lines) rest h = refl
+passed k n (SupplierReturn at lines) rest h = refl
+passed k n (Landed charge basis targets) rest h = refl
 
 -- no head has a lower number
 none_below : (k n : ℕ) (records : List Record) → n < k → find (has_number n) (heads_from k records) ≡ None
@@ -44,6 +48,10 @@ code_of-first n (Store code account) rest none =
     ap (λ (b : Bool). unwrap_or (option_map head_code (cond b (Some (record { number = record { 0 = n }; code = code; account = Some account })) (find (has_number n) rest))) []) (same n)
 code_of-first n (Receipt at lines) rest none = ap (λ (found : Option Head). unwrap_or (option_map head_code found) []) none
 code_of-first n (Issue at purpose lines) rest none = ap (λ (found : Option Head). unwrap_or (option_map head_code found) []) none
+code_of-first n (Transfer at lines) rest none = ap (λ (found : Option Head). unwrap_or (option_map head_code found) []) none
+code_of-first n (CustomerReturn at lines) rest none = ap (λ (found : Option Head). unwrap_or (option_map head_code found) []) none
+code_of-first n (SupplierReturn at lines) rest none = ap (λ (found : Option Head). unwrap_or (option_map head_code found) []) none
+code_of-first n (Landed charge basis targets) rest none = ap (λ (found : Option Head). unwrap_or (option_map head_code found) []) none
 
 -- of the heads of records numbered from k on, the one with the number of the d-th has its code
 code_of-from : (d k n : ℕ) (records : List Record) → n ≡ d + k → code_of (heads_from k records) n ≡ option_map_or record_code (slice_get records d) []

@@ -1,6 +1,7 @@
 -- Lists in which every two elements are related, by recursion on the list.
-use Rattle.std.proofs.Common.{◌≡◌, ℕ, zero, suc, ◌<◌, List, [], ◌∷◌, ◌++◌, length, get_or, ◌⊎◌, inl, inr, refl, sym, subst, ◌∙◌, arith}
+use Rattle.std.proofs.Common.{◌≡◌, ℕ, zero, suc, ◌<◌, List, [], ◌∷◌, ◌++◌, length, get_or, map, Some, ◌⊎◌, inl, inr, refl, sym, subst, ◌∙◌, arith}
 use Rattle.std.specs.List.{AllPairs, Contains}
+use Rattle.std.specs.Prelude.{slice_get}
 
 -- x is related to each of the list
 abbrev pub Precedes : {X : Type 0} → (X → X → Type 0) → X → List X → Type 0
@@ -120,3 +121,25 @@ pub Across-from_Each : {X : Type 0} (R : X → X → Type 0) (P Q : X → Type 0
 Across-from_Each R P Q f [] ys h k = tt
 Across-from_Each R P Q f (x ∷ xs) ys h k =
     (Precedes-from_Each R Q x (λ y q. f x y h.0 q) ys k, Across-from_Each R P Q f xs ys h.1 k)
+
+-- what holds of all holds of each
+pub Each-all : {X : Type 0} (P : X → Type 0) → ((x : X) → P x) → (xs : List X) → Each P xs
+Each-all P all [] = tt
+Each-all P all (x ∷ xs) = (all x, Each-all P all xs)
+
+-- those that x is related to
+pub Each-from_Precedes : {X : Type 0} (R : X → X → Type 0) (x : X) (ys : List X) → Precedes R x ys → Each (R x) ys
+Each-from_Precedes R x [] h = tt
+Each-from_Precedes R x (y ∷ ys) h = (h.0, Each-from_Precedes R x ys h.1)
+
+-- the element at an index has it
+pub Each-at : {X : Type 0} (P : X → Type 0) (xs : List X) (i : ℕ) (x : X) → Each P xs → slice_get xs i ≡ Some x → P x
+Each-at P [] zero x all is = cc
+Each-at P [] (suc i) x all is = cc
+Each-at P (y ∷ xs) zero x all is = let same : y ≡ x = cc in subst P same all.0
+Each-at P (y ∷ xs) (suc i) x all is = Each-at P xs i x all.1 is
+
+-- what is made of each
+pub Each-map : {X Y : Type 0} (P : Y → Type 0) (f : X → Y) → ((x : X) → P (f x)) → (xs : List X) → Each P (map f xs)
+Each-map P f all [] = tt
+Each-map P f all (x ∷ xs) = (all x, Each-map P f all xs)

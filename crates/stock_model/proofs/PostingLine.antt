@@ -30,7 +30,7 @@ IsBefore-turned a b differ not_before =
       | inl h ↦ absurd (false≢true (sym not_before ∙ h))
       | inr h ↦ elim h [
         | inl k ↦ k
-        | inr same ↦ absurd (differ (ap (λ (p : Place). p.voucher.0) same) (ap (λ (p : Place). p.line) same))
+        | inr same ↦ absurd (differ (ap (λ (p : Place). p.voucher.0) same) (ap (λ (p : Place). p.line) same) (ap (λ (p : Place). p.side) same))
       ]
     ]
 
@@ -64,7 +64,7 @@ put-Pairwise (f ∷ fs) e h d =
 put-Across : (es line : List Entry) (e : Entry) → Across Differ es line → Precedes Differ e es → Across Differ es (put line e)
 put-Across [] line e a h = tt
 put-Across (f ∷ fs) line e a h = (
-  put-Precedes Differ f line e a.0 (λ same_voucher same_line. h.0 (sym same_voucher) (sym same_line)),
+  put-Precedes Differ f line e a.0 (λ same_voucher same_line same_side. h.0 (sym same_voucher) (sym same_line) (sym same_side)),
   put-Across fs line e a.1 h.1,
 )
 

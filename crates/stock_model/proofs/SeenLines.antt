@@ -7,7 +7,7 @@ use Rattle.stock_nums.specs.declared.numbers.Minor.{Minor}
 use Rattle.stock_nums.specs.declared.numbers.Qty.{Qty}
 use Rattle.stock_nums.specs.declared.place.Side.{Side}
 use Rattle.stock_model.specs.declared.seen.Move.{Move}
-use Rattle.stock_model.specs.VoucherLines.{VoucherLine}
+use Rattle.stock_model.specs.VoucherLines.{Subject, VoucherLine}
 use denote.Struct.Props.{props}
 
 IsLineQuantity-prop : (qty : ℕ) → IsProp (IsLineQuantity qty)
@@ -17,12 +17,12 @@ is_line_amount-prop : (amount : ℤ) → IsProp (IsTrue (is_line_amount amount))
 is_line_amount-prop amount = hlevel props
 
 -- a line from its parts
-abbrev line_of : List ℕ → List (List ℕ) → (qty : Qty) → (amount : Minor) → IsLineQuantity qty.0 → IsTrue (is_line_amount amount.0) → VoucherLine
+abbrev line_of : Subject → List (List ℕ) → (qty : Qty) → (amount : Minor) → IsLineQuantity qty.0 → IsTrue (is_line_amount amount.0) → VoucherLine
 line_of item stores qty amount quantity price =
     record { item = item; stores = stores; qty = qty; amount = amount; quantity = quantity; price = price }
 
 -- how the ranges of its numbers are known makes no difference
-pub line-same : (item : List ℕ) (stores : List (List ℕ)) (qty : Qty) (amount : Minor) (q r : IsLineQuantity qty.0) (p s : IsTrue (is_line_amount amount.0))
+pub line-same : (item : Subject) (stores : List (List ℕ)) (qty : Qty) (amount : Minor) (q r : IsLineQuantity qty.0) (p s : IsTrue (is_line_amount amount.0))
     → line_of item stores qty amount q p ≡ line_of item stores qty amount r s
 line-same item stores qty amount q r p s =
     ap (λ (x : IsLineQuantity qty.0). line_of item stores qty amount x p) (IsLineQuantity-prop qty.0 q r)

@@ -1,23 +1,24 @@
 -- The movements up to a moment are the first ones of the posting line, and bounded as all are.
-use Rattle.std.proofs.Common.{◌≡◌, ℕ, zero, suc, ◌+◌, ◌≤◌, Bool, true, false, cond, Option, Some, None, List, [], ◌∷◌, ◌++◌, take, map, filter, fold, inl, inr, refl, sym, ap, ◌∙◌, subst, append_assoc, arith}
+use Rattle.std.proofs.Common.{◌≡◌, ℕ, zero, suc, ◌+◌, ◌≤◌, Bool, true, false, cond, Option, Some, None, List, [], ◌∷◌, take, map, filter, inl, inr, refl, sym, ap, ◌∙◌, subst, arith}
 use Rattle.std.specs.List.{list_all}
 use Rattle.std.proofs.lemmas.Bool.{cases_lt}
 use Rattle.std.proofs.lemmas.Bool.Decides.{nat_tests}
-use Rattle.std.proofs.lemmas.List.{append-nil, length-take, take-take, take_all, map-append}
+use Rattle.std.proofs.lemmas.List.{length-take, take-take, take_all}
 use Rattle.stock_nums.specs.declared.entry.Entry.{Entry}
 use Rattle.stock_nums.specs.declared.entry.Row.{Row}
 use Rattle.stock_nums.specs.declared.moment.Moment.{Moment}
 use Rattle.stock_model.specs.declared.records.Record.{Record}
-use Rattle.stock_model.specs.Reports.{is_later, is_until}
+use Rattle.stock_nums.specs.Places.{is_later}
+use Rattle.stock_model.specs.Reports.{is_until}
 use Rattle.stock_nums.specs.declared.limits.TheConstants.{MAX_VALUE}
 use Rattle.stock_model.specs.Bounds.{has_value_in_range, AreBounded}
 use Rattle.stock_model.specs.InOrder.{IsBefore}
 use Rattle.stock_model.specs.PostingOrder.{posting_line}
-use Rattle.stock_model.specs.Replay.{valued, value_next, rows_of, replay}
-use Rattle.stock_model.specs.Sums.{value_in, value_out}
+use Rattle.stock_model.specs.Replay.{rows_of, replay}
+use Rattle.stock_model.specs.Sums.{row_entry, value_in, value_out}
 use Rattle.stock_model.proofs.Pairwise.{Precedes, Pairwise, Pairwise-from_AllPairs}
 use Rattle.stock_model.proofs.PostingLine.{IsInPostingOrder-posting_line}
-use Rattle.stock_model.proofs.Valuation.{row_entry}
+use Rattle.stock_model.proofs.Valuation.{map-value_all}
 
 -- a test of all holds of the first ones
 list_all-take : {X : Type 0} (p : X → Bool) (k : ℕ) (xs : List X) → list_all p xs ≡ true → list_all p (take k xs) ≡ true
@@ -83,19 +84,11 @@ not_until (Some until) a b before fails =
     let after = is_later-IsBefore a.entry b.entry until before later in
     grind arith
 
--- the rows of a line have its movements
-map-value_all : (rows : List Row) (es : List Entry) → map row_entry (fold value_next rows es) ≡ map row_entry rows ++ es
-map-value_all rows [] = sym (append-nil (map row_entry rows))
-map-value_all rows (e ∷ es) =
-    map-value_all (value_next rows e) es
-    ∙ ap (λ (front : List Entry). front ++ es) (map-append row_entry rows (valued rows e ∷ []))
-    ∙ append_assoc (map row_entry rows) (e ∷ []) es
-
 -- the rows of a replay up to a moment are bounded where all are
 pub AreBounded-until : (journal : List Record) (until : Option Moment) → AreBounded (replay journal) → AreBounded (filter (is_until until) (replay journal))
 unfolding replay
 AreBounded-until journal until bounded =
     let line = posting_line journal in
-    let order = subst (λ (es : List Entry). Pairwise IsBefore es) (sym (map-value_all [] line)) (Pairwise-from_AllPairs IsBefore line (IsInPostingOrder-posting_line journal)) in
-    let front = filter-front (is_until until) (rows_of line) (Pairwise-map row_entry IsBefore (FailsOn (is_until until)) (not_until until) (rows_of line) order) in
-    subst AreBounded (sym front.1) (AreBounded-take (rows_of line) front.0 bounded)
+    let order = subst (λ (es : List Entry). Pairwise IsBefore es) (sym (map-value_all journal [] line)) (Pairwise-from_AllPairs IsBefore line (IsInPostingOrder-posting_line journal)) in
+    let front = filter-front (is_until until) (rows_of journal line) (Pairwise-map row_entry IsBefore (FailsOn (is_until until)) (not_until until) (rows_of journal line) order) in
+    subst AreBounded (sym front.1) (AreBounded-take (rows_of journal line) front.0 bounded)

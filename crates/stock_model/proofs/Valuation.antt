@@ -1,40 +1,46 @@
--- No more value leaves a warehouse than entered it, and no value is large.
-use Rattle.std.proofs.Common.{◌≡◌, ℕ, zero, suc, add-one, ◌+◌, ◌-◌, ◌*◌, ◌<◌, ◌≤◌, ℤ, pos, Bool, true, false, cond, ◌&&◌, not, List, [], ◌∷◌, ◌++◌, length, take, drop, get_or, map, filter, sum_by, fold, inl, inr, refl, sym, ap, ◌∙◌, subst, arith, length-append, append_assoc, unsigned_abs, int_le}
+-- A legal line is valued without taking more value than there is, and no value is large.
+use Rattle.std.proofs.Common.{◌≡◌, ℕ, zero, suc, ◌+◌, ◌<◌, ◌≤◌, ℤ, pos, ◌+ℤ◌, Bool, true, false, cond, ◌&&◌, not, List, [], ◌∷◌, ◌++◌, length, take, drop, map, filter, sum_by, fold, inl, inr, refl, sym, ap, ◌∙◌, subst, arith, length-append, append_assoc, unsigned_abs, int_le}
 use Rattle.std.specs.List.{list_all, All}
-use Rattle.std.proofs.Math.Seq.{drop-cons}
 use Rattle.std.proofs.lemmas.Bool.{false≢true, cases_lt}
 use Rattle.std.proofs.lemmas.Bool.Decides.{nat_tests}
 use Rattle.std.proofs.lemmas.Int.{ints}
-use Rattle.std.proofs.lemmas.List.{take-append-le, take_all, map-append}
+use Rattle.std.proofs.lemmas.List.{append-nil, length-take, take-take, take-append-drop, take-append-le, take_all, map-append}
 use Rattle.std.proofs.lemmas.List.Folds.{list_all-append}
-use Rattle.std.proofs.lemmas.List.Elements.{filter-append, All-nil, All-cons, All-head, All-tail, All-append}
-use Rattle.std.proofs.lemmas.List.Sums.{sum_by-append, sum_by-cons}
+use Rattle.std.proofs.lemmas.List.Elements.{All-nil, All-cons, All-head, All-tail, All-append}
+use Rattle.std.proofs.lemmas.List.Sums.{sum_by-cons, fold-append}
 use Rattle.stock_nums.proofs.HalfUp.{half_up-all, half_up-le}
 use Rattle.stock_nums.specs.FirstIn.{next_cost}
 use Rattle.stock_nums.specs.HalfUp.{half_up}
 use Rattle.stock_nums.specs.Causes.{has_amounts_in_range, has_side, is_entering}
 use Rattle.stock_nums.specs.Quantities.{is_line_amount}
+use Rattle.stock_nums.specs.Targets.{is_same_target}
 use Rattle.stock_nums.specs.declared.cause.Cause.{Cause}
-use Rattle.stock_nums.specs.declared.cause.Cause.TheVariants.{Receipt, Issue}
+use Rattle.stock_nums.specs.declared.cause.Cause.TheVariants.{Receipt, Issue, TransferLeaves, TransferEnters, CustomerReturn, SupplierReturn}
 use Rattle.stock_nums.specs.declared.cause.Method.{Method}
 use Rattle.stock_nums.specs.declared.cause.Method.TheVariants.{Fifo, Average}
+use Rattle.stock_nums.specs.declared.cause.Target.{Target}
 use Rattle.stock_nums.specs.declared.entry.Entry.{Entry}
 use Rattle.stock_nums.specs.declared.entry.Key.{Key}
 use Rattle.stock_nums.specs.declared.entry.Row.{Row}
-use Rattle.stock_nums.specs.declared.place.Side.{Side}
-use Rattle.stock_nums.specs.declared.place.Side.TheVariants.{Leaves, Enters}
 use Rattle.stock_nums.specs.declared.limits.TheConstants.{MAX_VALUE, MAX_ENTRIES}
+use Rattle.stock_model.specs.declared.records.Record.{Record}
 use Rattle.stock_model.specs.Bounds.{has_value_in_range, AreBounded}
+use Rattle.stock_model.specs.Conservation.{charges, received}
 use Rattle.stock_model.specs.Enough.{entry_key, enters_under, leaves_under, entry_units, entered, departed, IsEnough}
-use Rattle.stock_model.specs.Formulas.{HasFormula, HaveOneFormula}
+use Rattle.stock_model.specs.Formulas.{HasFormula}
+use Rattle.stock_model.specs.LandedCost.{added}
 use Rattle.stock_model.specs.Replay.{valued, value_next, rows_of}
-use Rattle.stock_model.specs.Sums.{is_of, enters_at, leaves_at, units_of, value_of, quantity_in, quantity_out, value_in, value_out, stock_units, stock_value}
-use Rattle.stock_model.specs.Values.{average_cost, fifo_cost, cost_by, value_by, HasUnits}
+use Rattle.stock_model.specs.Sums.{row_entry, is_of, enters_at, leaves_at, units_of, value_of, quantity_in, quantity_out, value_in, value_out, stock_units, stock_value}
+use Rattle.stock_model.specs.Values.{average_cost, fifo_cost, cost_by, own_line, line_cost, value_by, HasUnits, HasUnitsLeftBy, HasUnitsLeft}
 use Rattle.stock_model.proofs.Enough.{is_same_key-true, entered-own, departed-own}
 use Rattle.stock_model.proofs.FirstOut.{IsFirstOut-nil, IsFirstOutAt, IsFirstOutAt-next, LeavesFirst, next_cost-le}
-
-abbrev pub row_entry : Row → Entry
-row_entry row = row.entry
+use Rattle.stock_model.proofs.Linked.{is_same_target-true, IsNoneLeaving, IsLinkedBy, IsLinked, AreLinkedAfter, AreLinkedAfter-at}
+use Rattle.stock_model.proofs.Pairwise.{Each}
+use Rattle.stock_model.proofs.TestedSums.{both-first, both-second, counted, tested-none_of, tested-snoc}
+use Rattle.stock_model.proofs.Conserved.{Conserved, Conserved-nil, line_cost-next, value_out-le_in}
+use Rattle.stock_model.proofs.Conserving.{side-is, IsWorthBy, Conserved-next}
+use Rattle.stock_model.proofs.Totals.{stock_value-le, value_of-le_received}
+use Rattle.stock_model.proofs.Received.{Received, Received-nil, Received-next, IsPricedBy, received-le, purchases-le, amount-added}
 
 -- the sums of units over rows are those over their movements
 quantity_in-entered : (rows : List Row) (key : Key) → quantity_in rows key ≡ entered (map row_entry rows) key
@@ -76,67 +82,6 @@ HasUnits-enough rows e rest enough leaves =
     let in_ : entered (past ++ e ∷ []) key ≡ entered past key + 0 = entered-own past e ∙ ap (λ (b : Bool). entered past key + cond b e.qty.0 0) enters in
     omega (arith, covered, out, in_, quantity_in-entered rows key, quantity_out-departed rows key)
 
--- what is received enters, and what is issued leaves
-receipt-enters : (side : Side) (amount : ℤ) → has_side (Receipt (record { 0 = amount })) side ≡ true → is_entering side ≡ true
-receipt-enters Leaves amount h = h
-receipt-enters Enters amount h = refl
-
-issue-leaves : (side : Side) (sold : Bool) → has_side (Issue sold) side ≡ true → is_entering side ≡ false
-issue-leaves Leaves sold h = refl
-issue-leaves Enters sold h = absurd (false≢true h)
-
--- a sum over the rows that pass a test, with one more row
-pub sum_where-snoc : (f : Row → ℕ) (p : Row → Bool) (rows : List Row) (row : Row) → sum_by f (filter p (rows ++ row ∷ [])) ≡ sum_by f (filter p rows) + cond (p row) (f row) 0
-sum_where-snoc f p rows row =
-    let one : (b : Bool) → sum_by f (cond b (row ∷ []) []) ≡ cond b (f row) 0 = λ b. elim b as (λ v. sum_by f (cond v (row ∷ []) []) ≡ cond v (f row) 0) [ true ↦ omega arith | false ↦ refl ] in
-    let last : sum_by f (filter p (row ∷ [])) ≡ cond (p row) (f row) 0 = one (p row) in
-    omega (arith, ap (sum_by f) (filter-append p rows (row ∷ [])), sum_by-append f (filter p rows) (filter p (row ∷ [])), last)
-
--- the value of a row, where it passes the test
-abbrev value_where : Bool → Row → ℕ
-value_where b row = cond b (value_of row) 0
-
-sum_filtered-snoc : (p : Row → Bool) (rows : List Row) (row : Row) → sum_by value_of (filter p (rows ++ row ∷ [])) ≡ sum_by value_of (filter p rows) + value_where (p row) row
-sum_filtered-snoc p rows row = sum_where-snoc value_of p rows row
-
--- under a key no more value left than entered, and what entered is at most so much
-pub record Stock (rows : List Row) (most : ℕ) (key : Key) : Type 0 where
-  pub covered : value_out rows key ≤ value_in rows key
-  pub below : value_in rows key ≤ most
-
--- a row that enters with at most the value of a line
-Stock-entered : (rows : List Row) (row : Row) (most : ℕ) (key : Key) → Stock rows most key → is_entering row.entry.place.side ≡ true → value_of row ≤ 1_000_000_000_000
-    → Stock (rows ++ row ∷ []) (most + 1_000_000_000_000) key
-Stock-entered rows row most key stock enters small =
-    let in_ : value_in (rows ++ row ∷ []) key ≡ value_in rows key + value_where (is_of key row && true) row =
-    sum_filtered-snoc (enters_at key) rows row ∙ ap (λ (b : Bool). value_in rows key + value_where (is_of key row && b) row) enters in
-    let out : value_out (rows ++ row ∷ []) key ≡ value_out rows key + value_where (is_of key row && false) row =
-    sum_filtered-snoc (leaves_at key) rows row ∙ ap (λ (b : Bool). value_out rows key + value_where (is_of key row && not b) row) enters in
-    let none : value_where (is_of key row && false) row ≡ 0 = elim (is_of key row) as (λ b. value_where (b && false) row ≡ 0) [ true ↦ refl | false ↦ refl ] in
-    let some : value_where (is_of key row && true) row ≤ 1_000_000_000_000 = elim (is_of key row) as (λ b. value_where (b && true) row ≤ 1_000_000_000_000) [ true ↦ small | false ↦ omega arith ] in
-    record { covered = omega (arith, in_, out, none, stock.covered); below = omega (arith, in_, some, stock.below) }
-
--- a row that leaves with at most the value of the stock under its own key
-Stock-left : (rows : List Row) (row : Row) (most : ℕ) (key : Key) → Stock rows most key → is_entering row.entry.place.side ≡ false
-    → value_of row ≤ stock_value rows (entry_key row.entry) → Stock (rows ++ row ∷ []) (most + 1_000_000_000_000) key
-Stock-left rows row most key stock leaves small =
-    let in_ : value_in (rows ++ row ∷ []) key ≡ value_in rows key + value_where (is_of key row && false) row =
-    sum_filtered-snoc (enters_at key) rows row ∙ ap (λ (b : Bool). value_in rows key + value_where (is_of key row && b) row) leaves in
-    let out : value_out (rows ++ row ∷ []) key ≡ value_out rows key + value_where (is_of key row && true) row =
-    sum_filtered-snoc (leaves_at key) rows row ∙ ap (λ (b : Bool). value_out rows key + value_where (is_of key row && not b) row) leaves in
-    let none : value_where (is_of key row && false) row ≡ 0 = elim (is_of key row) as (λ b. value_where (b && false) row ≡ 0) [ true ↦ refl | false ↦ refl ] in
-    let some : value_where (is_of key row && true) row ≤ value_in rows key - value_out rows key =
-    let step : (b : Bool) → is_of key row ≡ b → value_where (b && true) row ≤ value_in rows key - value_out rows key =
-    λ b. elim b as (λ v. is_of key row ≡ v → value_where (v && true) row ≤ value_in rows key - value_out rows key) [
-      | true ↦ λ is. subst (λ (k : Key). value_of row ≤ value_in rows k - value_out rows k) (is_same_key-true (entry_key row.entry) key is) small
-      | false ↦ λ is. omega arith
-    ] in
-    step (is_of key row) refl in
-    record { covered = omega (arith, in_, out, none, some, stock.covered); below = omega (arith, in_, none, stock.below) }
-
-amount-le : (amount : ℤ) → is_line_amount amount ≡ true → unsigned_abs amount ≤ 1_000_000_000_000
-amount-le amount h = grind (arith, ints, nat_tests)
-
 -- what the units of a movement cost is at most what the stock is worth
 average_cost-le : (rows : List Row) (e : Entry) → e.qty.0 ≤ stock_units rows (entry_key e) → average_cost rows e ≤ stock_value rows (entry_key e)
 average_cost-le rows e held = half_up-le (stock_value rows (entry_key e)) e.qty.0 (stock_units rows (entry_key e)) (omega (arith, e.quantity.0, held)) held
@@ -151,55 +96,10 @@ pub cost_by-le : (rows : List Row) (e : Entry) (method : Method) → IsOutBy met
 cost_by-le rows e Fifo out held = next_cost-le (filter (enters_at (entry_key e)) rows) (filter (leaves_at (entry_key e)) rows) e.qty.0 out
 cost_by-le rows e Average out held = average_cost-le rows e held
 
--- a row of this value, by the cause of its movement
-Stock-by : (rows : List Row) (row : Row) (cause : Cause) (most : ℕ) (key : Key) → Stock rows most key → row.worth.value.0 ≡ value_by rows row.entry cause
-    → has_amounts_in_range cause ≡ true → has_side cause row.entry.place.side ≡ true → HasUnits rows row.entry → IsOutBy row.entry.method rows (entry_key row.entry)
-    → Stock (rows ++ row ∷ []) (most + 1_000_000_000_000) key
-Stock-by rows row (Receipt amount) most key stock value amounts sides held out =
-    Stock-entered rows row most key stock (receipt-enters row.entry.place.side amount.0 sides)
-    (subst (λ (v : ℤ). unsigned_abs v ≤ 1_000_000_000_000) (sym value) (amount-le amount.0 amounts))
-Stock-by rows row (Issue sold) most key stock value amounts sides held out =
-    let leaves = issue-leaves row.entry.place.side sold sides in
-    Stock-left rows row most key stock leaves
-    (subst (λ (v : ℤ). unsigned_abs v ≤ stock_value rows (entry_key row.entry)) (sym value) (cost_by-le rows row.entry row.entry.method out (held (ap not leaves))))
-
-amount-in_range : (amount : ℤ) → is_line_amount amount ≡ true → (int_le (pos 0) amount && int_le amount (pos MAX_VALUE)) ≡ true
-amount-in_range amount h = grind (arith, ints, nat_tests)
-
-cost-in_range : (cost : ℕ) → cost ≤ MAX_VALUE → (int_le (pos 0) (pos cost) && int_le (pos cost) (pos MAX_VALUE)) ≡ true
-cost-in_range cost h = grind (arith, ints, nat_tests)
-
--- a movement's value is in range where the stock's is
-value_by-in_range : (rows : List Row) (row : Row) (cause : Cause) → row.worth.value.0 ≡ value_by rows row.entry cause → has_amounts_in_range cause ≡ true
-    → has_side cause row.entry.place.side ≡ true → HasUnits rows row.entry → IsOutBy row.entry.method rows (entry_key row.entry)
-    → stock_value rows (entry_key row.entry) ≤ MAX_VALUE → has_value_in_range row ≡ true
-value_by-in_range rows row (Receipt amount) value amounts sides held out small = rw value (amount-in_range amount.0 amounts)
-value_by-in_range rows row (Issue sold) value amounts sides held out small =
-    let cost = cost_by-le rows row.entry row.entry.method out (held (ap not (issue-leaves row.entry.place.side sold sides))) in
-    rw value (cost-in_range (cost_by row.entry.method rows row.entry) (omega (arith, cost, small)))
-
-Stock-nil : (n : ℕ) (key : Key) → Stock (take n []) 0 key
-Stock-nil zero key = record { covered = omega arith; below = omega arith }
-Stock-nil (suc n) key = record { covered = omega arith; below = omega arith }
-
 -- an item's formula decides what is known of its units
 abbrev pub IsCostedAt : Method → List Row → Key → Type 0
 IsCostedAt Fifo rows key = IsFirstOutAt rows key
 IsCostedAt Average rows key = quantity_in rows key ≡ quantity_out rows key → value_in rows key ≡ value_out rows key
-
--- at every prefix, and for each item and warehouse, no more value left than entered, and units left by their formula
-pub record Kept (formula : ℕ → Method) (rows : List Row) : Type 0 where
-  pub stock : (n : ℕ) (key : Key) → Stock (take n rows) (length rows * 1_000_000_000_000) key
-  pub in_range : length rows ≤ MAX_ENTRIES → list_all has_value_in_range rows ≡ true
-  pub formulas : All (λ row. HasFormula formula row.entry) rows
-  pub held : (key : Key) → quantity_out rows key ≤ quantity_in rows key
-  pub costed : (key : Key) → IsCostedAt (formula key.item.0) rows key
-
-Stock-weaker : (rows : List Row) (less more : ℕ) (key : Key) → less ≤ more → Stock rows less key → Stock rows more key
-Stock-weaker rows less more key le stock = record { covered = stock.covered; below = omega (arith, stock.below, le) }
-
-pub Kept-whole : (formula : ℕ → Method) (rows : List Row) (key : Key) → Kept formula rows → Stock rows (length rows * 1_000_000_000_000) key
-Kept-whole formula rows key kept = subst (λ (all : List Row). Stock all (length rows * 1_000_000_000_000) key) (take_all (length rows) rows (omega arith)) (kept.stock (length rows) key)
 
 both : {a b : Bool} → a ≡ true → b ≡ true → (a && b) ≡ true
 both {a} {b} h k = grind arith
@@ -208,35 +108,22 @@ IsOutBy-costed : (method : Method) (rows : List Row) (key : Key) → IsCostedAt 
 IsOutBy-costed Fifo rows key costed = costed
 IsOutBy-costed Average rows key costed = tt
 
--- what is known of the units of a movement's own key
-Kept-own : (formula : ℕ → Method) (rows : List Row) (e : Entry) → Kept formula rows → HasFormula formula e → IsOutBy e.method rows (entry_key e)
-Kept-own formula rows e kept has =
-    IsOutBy-costed e.method rows (entry_key e) (subst (λ (m : Method). IsCostedAt m rows (entry_key e)) (sym has) (kept.costed (entry_key e)))
-
 -- the units that entered or left, with one more row
 quantity_in-next : (rows : List Row) (row : Row) (key : Key) → quantity_in (rows ++ row ∷ []) key ≡ quantity_in rows key + cond (enters_at key row) (units_of row) 0
-quantity_in-next rows row key = sum_where-snoc units_of (enters_at key) rows row
+quantity_in-next rows row key = tested-snoc units_of (enters_at key) rows row
 
 quantity_out-next : (rows : List Row) (row : Row) (key : Key) → quantity_out (rows ++ row ∷ []) key ≡ quantity_out rows key + cond (leaves_at key row) (units_of row) 0
-quantity_out-next rows row key = sum_where-snoc units_of (leaves_at key) rows row
+quantity_out-next rows row key = tested-snoc units_of (leaves_at key) rows row
 
 value_in-next : (rows : List Row) (row : Row) (key : Key) → value_in (rows ++ row ∷ []) key ≡ value_in rows key + cond (enters_at key row) (value_of row) 0
-value_in-next rows row key = sum_where-snoc value_of (enters_at key) rows row
+value_in-next rows row key = tested-snoc value_of (enters_at key) rows row
 
 value_out-next : (rows : List Row) (row : Row) (key : Key) → value_out (rows ++ row ∷ []) key ≡ value_out rows key + cond (leaves_at key row) (value_of row) 0
-value_out-next rows row key = sum_where-snoc value_of (leaves_at key) rows row
+value_out-next rows row key = tested-snoc value_of (leaves_at key) rows row
 
 -- a row of the key is under its own key
 own_key : (row : Row) (key : Key) → is_of key row ≡ true → entry_key row.entry ≡ key
 own_key row key is = is_same_key-true (entry_key row.entry) key is
-
-both-first : (a b : Bool) → (a && b) ≡ true → a ≡ true
-both-first true b h = refl
-both-first false b h = absurd (false≢true h)
-
-both-second : (a b : Bool) → (a && b) ≡ true → b ≡ true
-both-second true b h = h
-both-second false b h = absurd (false≢true h)
 
 -- what is held stays held
 held-next : (rows : List Row) (row : Row) (key : Key) → quantity_out rows key ≤ quantity_in rows key → HasUnits rows row.entry → quantity_out (rows ++ row ∷ []) key ≤ quantity_in (rows ++ row ∷ []) key
@@ -252,11 +139,14 @@ held-next rows row key held units =
     omega (arith, quantity_in-next rows row key, quantity_out-next rows row key, step (leaves_at key row) refl)
 
 -- the value of a row that leaves is the cost of its units
-value-of_leaving : (rows : List Row) (row : Row) (cause : Cause) → row.worth.value.0 ≡ value_by rows row.entry cause → has_side cause row.entry.place.side ≡ true
+value-of_leaving : (journal : List Record) (rows : List Row) (row : Row) (cause : Cause) → row.worth.value.0 ≡ value_by journal rows row.entry cause → has_side cause row.entry.place.side ≡ true
     → not (is_entering row.entry.place.side) ≡ true → value_of row ≡ cost_by row.entry.method rows row.entry
-value-of_leaving rows row (Receipt amount) value sides leaves =
-    absurd (false≢true (ap not (sym (receipt-enters row.entry.place.side amount.0 sides)) ∙ leaves))
-value-of_leaving rows row (Issue sold) value sides leaves = ap unsigned_abs value
+value-of_leaving journal rows row (Receipt amount) value sides leaves = absurd (false≢true (ap not (sym (side-is true row.entry.place.side sides)) ∙ leaves))
+value-of_leaving journal rows row (Issue sold) value sides leaves = ap unsigned_abs value
+value-of_leaving journal rows row TransferLeaves value sides leaves = ap unsigned_abs value
+value-of_leaving journal rows row TransferEnters value sides leaves = absurd (false≢true (ap not (sym (side-is true row.entry.place.side sides)) ∙ leaves))
+value-of_leaving journal rows row (CustomerReturn target issued) value sides leaves = absurd (false≢true (ap not (sym (side-is true row.entry.place.side sides)) ∙ leaves))
+value-of_leaving journal rows row (SupplierReturn target amount got) value sides leaves = ap unsigned_abs value
 
 -- a row whose value is that of its movement's, which has its item's formula
 pub record IsValued (formula : ℕ → Method) (rows : List Row) (row : Row) : Type 0 where
@@ -327,113 +217,313 @@ costed-next formula rows row key Fifo is covered held costed valued =
     IsFirstOutAt-next rows row key costed (LeavesFirst-next formula rows row key is held valued)
 costed-next formula rows row key Average is covered held costed valued = empty-next formula rows row key is covered held costed valued
 
+-- a row that leaves has no more than its stock is worth, and one that enters what its cause says
+leaving-worth : (journal : List Record) (rows : List Row) (row : Row) (cause : Cause) → row.worth.value.0 ≡ value_by journal rows row.entry cause → has_side cause row.entry.place.side ≡ true
+    → HasUnits rows row.entry → IsOutBy row.entry.method rows (entry_key row.entry) → not (is_entering row.entry.place.side) ≡ true → value_of row ≤ stock_value rows (entry_key row.entry)
+leaving-worth journal rows row cause value sides held out leaves =
+    subst (λ (n : ℕ). n ≤ stock_value rows (entry_key row.entry)) (sym (value-of_leaving journal rows row cause value sides leaves))
+    (cost_by-le rows row.entry row.entry.method out (held leaves))
+
+IsWorthBy-valued : (journal : List Record) (rows : List Row) (row : Row) (cause : Cause) → row.worth.value.0 ≡ value_by journal rows row.entry cause → has_side cause row.entry.place.side ≡ true
+    → HasUnits rows row.entry → IsOutBy row.entry.method rows (entry_key row.entry) → IsWorthBy rows row cause
+IsWorthBy-valued journal rows row (Receipt amount) value sides held out = tt
+IsWorthBy-valued journal rows row (Issue sold) value sides held out =
+    leaving-worth journal rows row (Issue sold) value sides held out (ap not (side-is false row.entry.place.side sides))
+IsWorthBy-valued journal rows row TransferLeaves value sides held out =
+    leaving-worth journal rows row TransferLeaves value sides held out (ap not (side-is false row.entry.place.side sides))
+IsWorthBy-valued journal rows row TransferEnters value sides held out = ap unsigned_abs value
+IsWorthBy-valued journal rows row (CustomerReturn target issued) value sides held out = ap unsigned_abs value
+IsWorthBy-valued journal rows row (SupplierReturn target amount got) value sides held out =
+    leaving-worth journal rows row (SupplierReturn target amount got) value sides held out (ap not (side-is false row.entry.place.side sides))
+
+IsPricedBy-valued : (journal : List Record) (rows : List Row) (row : Row) (cause : Cause) → row.worth.value.0 ≡ value_by journal rows row.entry cause → has_amounts_in_range cause ≡ true → IsPricedBy journal row cause
+IsPricedBy-valued journal rows row (Receipt amount) value amounts = ap unsigned_abs value ∙ amount-added amount.0 (added journal (own_line row.entry)) amounts
+IsPricedBy-valued journal rows row (Issue sold) value amounts = tt
+IsPricedBy-valued journal rows row TransferLeaves value amounts = tt
+IsPricedBy-valued journal rows row TransferEnters value amounts = tt
+IsPricedBy-valued journal rows row (CustomerReturn target issued) value amounts = tt
+IsPricedBy-valued journal rows row (SupplierReturn target amount got) value amounts = tt
+
+cost-in_range : (cost : ℕ) → cost ≤ MAX_VALUE → (int_le (pos 0) (pos cost) && int_le (pos cost) (pos MAX_VALUE)) ≡ true
+cost-in_range cost h = grind (arith, ints, nat_tests)
+
+amount-in_range : (amount : ℤ) (n : ℕ) → is_line_amount amount ≡ true → unsigned_abs (amount +ℤ pos n) ≤ MAX_VALUE → (int_le (pos 0) (amount +ℤ pos n) && int_le (amount +ℤ pos n) (pos MAX_VALUE)) ≡ true
+amount-in_range amount n h small = grind (arith, ints, nat_tests)
+
+-- a value is never negative, so it is in range where it is small
+value_by-in_range : (journal : List Record) (rows : List Row) (e : Entry) (cause : Cause) → has_amounts_in_range cause ≡ true → unsigned_abs (value_by journal rows e cause) ≤ MAX_VALUE
+    → (int_le (pos 0) (value_by journal rows e cause) && int_le (value_by journal rows e cause) (pos MAX_VALUE)) ≡ true
+value_by-in_range journal rows e (Receipt amount) amounts small = amount-in_range amount.0 (added journal (own_line e)) amounts small
+value_by-in_range journal rows e (Issue sold) amounts small = cost-in_range _ small
+value_by-in_range journal rows e TransferLeaves amounts small = cost-in_range _ small
+value_by-in_range journal rows e TransferEnters amounts small = cost-in_range _ small
+value_by-in_range journal rows e (CustomerReturn target issued) amounts small = cost-in_range _ small
+value_by-in_range journal rows e (SupplierReturn target amount got) amounts small = cost-in_range _ small
+
+-- so many rows are kept: value is conserved, values are in range, and units left by their formula
+pub record Kept (formula : ℕ → Method) (journal : List Record) (rows : List Row) : Type 0 where
+  pub few : length rows ≤ MAX_ENTRIES
+  pub conserved : Conserved rows
+  pub priced : Received journal rows
+  pub in_range : list_all has_value_in_range rows ≡ true
+  pub lines : (line : Target) → line_cost rows line ≤ MAX_VALUE
+  pub formulas : All (λ row. HasFormula formula row.entry) rows
+  pub held : (key : Key) → quantity_out rows key ≤ quantity_in rows key
+  pub costed : (key : Key) → IsCostedAt (formula key.item.0) rows key
+
+-- under a key no more value left than entered
+pub Kept-covered : (formula : ℕ → Method) (journal : List Record) (rows : List Row) (key : Key) → Kept formula journal rows → value_out rows key ≤ value_in rows key
+Kept-covered formula journal rows key kept = value_out-le_in rows kept.conserved.keys key
+
+-- the charges of a journal are small
+abbrev pub IsAffordable : List Record → Type 0
+IsAffordable journal = charges journal ≤ 50_000_000_000_000_000
+
+received-small : (journal : List Record) (rows : List Row) → IsAffordable journal → length rows ≤ MAX_ENTRIES → Received journal rows → received rows ≤ MAX_VALUE
+received-small journal rows affordable few priced = omega (arith, received-le journal rows priced, purchases-le rows, affordable, few)
+
+-- what is known of the units of a movement's own key
+Kept-own : (formula : ℕ → Method) (journal : List Record) (rows : List Row) (e : Entry) → Kept formula journal rows → HasFormula formula e → IsOutBy e.method rows (entry_key e)
+Kept-own formula journal rows e kept has =
+    IsOutBy-costed e.method rows (entry_key e) (subst (λ (m : Method). IsCostedAt m rows (entry_key e)) (sym has) (kept.costed (entry_key e)))
+
+-- a movement that may come next
+pub record IsNext (formula : ℕ → Method) (journal : List Record) (rows : List Row) (e : Entry) : Type 0 where
+  pub affordable : IsAffordable journal
+  pub room : length rows < MAX_ENTRIES
+  pub units : HasUnits rows e
+  pub has : HasFormula formula e
+  pub linked : IsLinked (map row_entry rows) e
+
+Conserved-valued : (formula : ℕ → Method) (journal : List Record) (rows : List Row) (e : Entry) → Kept formula journal rows → IsNext formula journal rows e → Conserved (value_next journal rows e)
+Conserved-valued formula journal rows e kept next =
+    Conserved-next rows (valued journal rows e) e.cause refl e.sides e.amounts next.linked.0
+    (IsWorthBy-valued journal rows (valued journal rows e) e.cause refl e.sides next.units (Kept-own formula journal rows e kept next.has)) kept.conserved
+
+Received-valued : (formula : ℕ → Method) (journal : List Record) (rows : List Row) (e : Entry) → Kept formula journal rows → IsNext formula journal rows e → Received journal (value_next journal rows e)
+Received-valued formula journal rows e kept next =
+    Received-next journal rows (valued journal rows e) e.cause refl (IsPricedBy-valued journal rows (valued journal rows e) e.cause refl e.amounts) next.linked.0 kept.priced
+
+length-next : (journal : List Record) (rows : List Row) (e : Entry) → length (value_next journal rows e) ≡ length rows + 1
+length-next journal rows e = length-append rows (valued journal rows e ∷ [])
+
+-- its value is small
+value-small : (formula : ℕ → Method) (journal : List Record) (rows : List Row) (e : Entry) → Kept formula journal rows → IsNext formula journal rows e → value_of (valued journal rows e) ≤ MAX_VALUE
+value-small formula journal rows e kept next =
+    let row = valued journal rows e in
+    let most = value_of-le_received rows row e.cause refl
+    (IsWorthBy-valued journal rows row e.cause refl e.sides next.units (Kept-own formula journal rows e kept next.has)) kept.conserved
+    (Conserved-valued formula journal rows e kept next) in
+    let small = received-small journal (value_next journal rows e) next.affordable (omega (arith, length-next journal rows e, next.room)) (Received-valued formula journal rows e kept next) in
+    omega (arith, most, small)
+
+pub value-in_range : (formula : ℕ → Method) (journal : List Record) (rows : List Row) (e : Entry) → Kept formula journal rows → IsNext formula journal rows e → has_value_in_range (valued journal rows e) ≡ true
+value-in_range formula journal rows e kept next = value_by-in_range journal rows e e.cause e.amounts (value-small formula journal rows e kept next)
+
+-- a line by which something leaves costs what that is worth
+lines-next : (formula : ℕ → Method) (journal : List Record) (rows : List Row) (e : Entry) → Kept formula journal rows → IsNext formula journal rows e → (line : Target) → line_cost (value_next journal rows e) line ≤ MAX_VALUE
+lines-next formula journal rows e kept next line =
+    let row = valued journal rows e in
+    let small = value-small formula journal rows e kept next in
+    let step : (own enters : Bool) → is_same_target (own_line e) line ≡ own → is_entering e.place.side ≡ enters → line_cost rows line + counted (own && not enters) (value_of row) ≤ MAX_VALUE =
+    λ own enters. elim own as (λ o. is_same_target (own_line e) line ≡ o → is_entering e.place.side ≡ enters → line_cost rows line + counted (o && not enters) (value_of row) ≤ MAX_VALUE) [
+      | false ↦ λ other side. omega (arith, kept.lines line)
+      | true ↦ λ mine. elim enters as (λ v. is_entering e.place.side ≡ v → line_cost rows line + counted (not v) (value_of row) ≤ MAX_VALUE) [
+        | true ↦ λ side. omega (arith, kept.lines line)
+        | false ↦ λ side.
+            let none : Each (IsNoneLeaving line) (map row_entry rows) =
+            subst (λ (l : Target). Each (IsNoneLeaving l) (map row_entry rows)) (is_same_target-true (own_line e) line mine) (next.linked.1 side) in
+            let nothing : line_cost rows line ≡ 0 = tested-none_of row_entry value_of _ (IsNoneLeaving line) (λ r h. h) rows none in
+            omega (arith, nothing, small)
+      ]
+    ] in
+    omega (arith, line_cost-next rows row line (is_entering e.place.side) refl, step (is_same_target (own_line e) line) (is_entering e.place.side) refl refl)
+
 -- one more movement, valued from the rows
-Kept-next : (formula : ℕ → Method) (rows : List Row) (e : Entry) → Kept formula rows → HasUnits rows e → HasFormula formula e → Kept formula (value_next rows e)
-Kept-next formula rows e kept held has =
-    let row = valued rows e in
-    let out = Kept-own formula rows e kept has in
-    let longer : length (rows ++ row ∷ []) ≡ length rows + 1 = length-append rows (row ∷ []) in
-    let whole : (key : Key) → Stock (rows ++ row ∷ []) (length (rows ++ row ∷ []) * 1_000_000_000_000) key =
-    λ key. Stock-weaker (rows ++ row ∷ []) (length rows * 1_000_000_000_000 + 1_000_000_000_000) (length (rows ++ row ∷ []) * 1_000_000_000_000) key (omega (arith, longer))
-    (Stock-by rows row e.cause (length rows * 1_000_000_000_000) key (Kept-whole formula rows key kept) refl e.amounts e.sides held out) in
-    let own = Kept-whole formula rows (entry_key e) kept in
+pub Kept-next : (formula : ℕ → Method) (journal : List Record) (rows : List Row) (e : Entry) → Kept formula journal rows → IsNext formula journal rows e → Kept formula journal (value_next journal rows e)
+Kept-next formula journal rows e kept next =
+    let row = valued journal rows e in
     let is_valued : IsValued formula rows row =
-    record { value = value-of_leaving rows row e.cause refl e.sides; has = has; units = held } in
+    record { value = value-of_leaving journal rows row e.cause refl e.sides; has = next.has; units = next.units } in
     record {
-      stock = λ n key.
-          elim (cases_lt (length rows) n) [
-            | inl more ↦
-                subst (λ (all : List Row). Stock all (length (rows ++ row ∷ []) * 1_000_000_000_000) key) (sym (take_all n (rows ++ row ∷ []) (omega (arith, longer)))) (whole key)
-            | inr within ↦
-                subst (λ (all : List Row). Stock all (length (rows ++ row ∷ []) * 1_000_000_000_000) key) (sym (take-append-le n rows (row ∷ []) within))
-                (Stock-weaker (take n rows) (length rows * 1_000_000_000_000) (length (rows ++ row ∷ []) * 1_000_000_000_000) key (omega (arith, longer)) (kept.stock n key))
-          ];
-      in_range = λ few. list_all-append has_value_in_range rows (row ∷ [])
-          ∙ both (kept.in_range (omega (arith, few, longer))) (both (value_by-in_range rows row e.cause refl e.amounts e.sides held out (omega (arith, own.below, few, longer))) refl);
-      formulas = All-append (λ row. HasFormula formula row.entry) rows (row ∷ []) kept.formulas (All-cons (λ row. HasFormula formula row.entry) row [] has (All-nil (λ row. HasFormula formula row.entry)));
-      held = λ key. held-next rows row key (kept.held key) held;
-      costed = λ key. costed-next formula rows row key (formula key.item.0) refl (Kept-whole formula rows key kept).covered (kept.held key) (kept.costed key) is_valued;
+      few = omega (arith, length-next journal rows e, next.room);
+      conserved = Conserved-valued formula journal rows e kept next;
+      priced = Received-valued formula journal rows e kept next;
+      in_range = list_all-append has_value_in_range rows (row ∷ []) ∙ both kept.in_range (both (value-in_range formula journal rows e kept next) refl);
+      lines = lines-next formula journal rows e kept next;
+      formulas = All-append (λ row. HasFormula formula row.entry) rows (row ∷ []) kept.formulas (All-cons (λ row. HasFormula formula row.entry) row [] next.has (All-nil (λ row. HasFormula formula row.entry)));
+      held = λ key. held-next rows row key (kept.held key) next.units;
+      costed = λ key. costed-next formula rows row key (formula key.item.0) refl (Kept-covered formula journal rows key kept) (kept.held key) (kept.costed key) is_valued;
     }
 
 costed-nil : (method : Method) (key : Key) → IsCostedAt method [] key
 costed-nil Fifo key = IsFirstOut-nil
 costed-nil Average key = λ none. refl
 
-Kept-nil : (formula : ℕ → Method) → Kept formula []
-Kept-nil formula =
-    record { stock = λ n key. Stock-nil n key; in_range = λ few. refl; formulas = All-nil (λ row. HasFormula formula row.entry); held = λ key. omega arith; costed = λ key. costed-nil (formula key.item.0) key }
-
--- rows so kept are bounded
-AreBounded-Kept : (formula : ℕ → Method) (rows : List Row) → length rows ≤ MAX_ENTRIES → Kept formula rows → AreBounded rows
-AreBounded-Kept formula rows few kept =
+Kept-nil : (formula : ℕ → Method) (journal : List Record) → Kept formula journal []
+Kept-nil formula journal =
     record {
-      few = few;
-      in_range = kept.in_range few;
-      never_negative = λ n key. (kept.stock n key).covered;
-      not_large = λ n key. omega (arith, (kept.stock n key).below, few);
+      few = omega arith;
+      conserved = Conserved-nil;
+      priced = Received-nil journal;
+      in_range = refl;
+      lines = λ line. omega arith;
+      formulas = All-nil (λ row. HasFormula formula row.entry);
+      held = λ key. omega arith;
+      costed = λ key. costed-nil (formula key.item.0) key;
     }
 
--- some of the line was valued
-pub record Valuing (formula : ℕ → Method) (line : List Entry) (rows : List Row) (index : ℕ) : Type 0 where
-  pub kept : Kept formula rows
-  pub count : length rows ≡ index
-  pub split : map row_entry rows ++ drop index line ≡ line
-  pub rest : fold value_next rows (drop index line) ≡ rows_of line
+-- a line of movements that can be valued: no more than a journal holds, with one formula for each item, with always enough
+-- there, each linked to those before it
+pub record IsLegalLine (formula : ℕ → Method) (journal : List Record) (line : List Entry) : Type 0 where
+  pub few : length line ≤ MAX_ENTRIES
+  pub affordable : IsAffordable journal
+  pub formulas : All (HasFormula formula) line
+  pub enough : IsEnough line
+  pub linked : AreLinkedAfter [] line
 
-pub Valuing-start : (formula : ℕ → Method) (line : List Entry) → Valuing formula line [] 0
-Valuing-start formula line = record { kept = Kept-nil formula; count = refl; split = refl; rest = refl }
+-- the rows of a line have its movements
+pub map-value_all : (journal : List Record) (rows : List Row) (es : List Entry) → map row_entry (fold (value_next journal) rows es) ≡ map row_entry rows ++ es
+map-value_all journal rows [] = sym (append-nil (map row_entry rows))
+map-value_all journal rows (e ∷ es) =
+    map-value_all journal (value_next journal rows e) es
+    ∙ ap (λ (front : List Entry). front ++ es) (map-append row_entry rows (valued journal rows e ∷ []))
+    ∙ append_assoc (map row_entry rows) (e ∷ []) es
 
--- the next movement has its units
-pub Valuing-HasUnits : (formula : ℕ → Method) (line : List Entry) (rows : List Row) (index : ℕ) (e : Entry) → Valuing formula line rows index → index < length line → e ≡ get_or line index e → IsEnough line → HasUnits rows e
-Valuing-HasUnits formula line rows index e valuing within is enough =
-    let here : drop index line ≡ e ∷ drop (index + 1) line = rw add-one (drop-cons line index e within ∙ ap (λ (f : Entry). f ∷ drop (suc index) line) (sym is)) in
-    HasUnits-enough rows e (drop (index + 1) line) (subst IsEnough (sym valuing.split ∙ ap (λ (es : List Entry). map row_entry rows ++ es) here) enough)
+length-value_all : (journal : List Record) (rows : List Row) (es : List Entry) → length (fold (value_next journal) rows es) ≡ length rows + length es
+length-value_all journal rows [] = omega arith
+length-value_all journal rows (e ∷ es) = omega (arith, length-value_all journal (value_next journal rows e) es, length-next journal rows e)
 
--- and its item's formula
-pub Valuing-HasFormula : (formula : ℕ → Method) (line : List Entry) (index : ℕ) (e : Entry) → index < length line → e ≡ get_or line index e → All (HasFormula formula) line → HasFormula formula e
-Valuing-HasFormula formula line index e within is all = subst (HasFormula formula) (sym is) (all index e within)
+pub length-rows_of : (journal : List Record) (es : List Entry) → length (rows_of journal es) ≡ length es
+length-rows_of journal es = omega (arith, length-value_all journal [] es)
 
--- where it leaves, its cost is in range
-pub Valuing-cost : (formula : ℕ → Method) (line : List Entry) (rows : List Row) (index : ℕ) (e : Entry) → Valuing formula line rows index → index < length line → e ≡ get_or line index e
-    → All (HasFormula formula) line → IsEnough line → length line ≤ MAX_ENTRIES → not (is_entering e.place.side) ≡ true → cost_by e.method rows e ≤ MAX_VALUE
-Valuing-cost formula line rows index e valuing within is all enough few leaves =
-    let own = Kept-own formula rows e valuing.kept (Valuing-HasFormula formula line index e within is all) in
-    let cost = cost_by-le rows e e.method own (Valuing-HasUnits formula line rows index e valuing within is enough leaves) in
-    omega (arith, cost, (Kept-whole formula rows (entry_key e) valuing.kept).below, valuing.count, within, few)
+-- further movements add rows at the end
+more-rows : (journal : List Record) (rows : List Row) (es : List Entry) → (more : List Row) × (fold (value_next journal) rows es ≡ rows ++ more)
+more-rows journal rows [] = ([], sym (append-nil rows))
+more-rows journal rows (e ∷ es) =
+    let rest = more-rows journal (value_next journal rows e) es in
+    (valued journal rows e ∷ rest.0, rest.1 ∙ append_assoc rows (valued journal rows e ∷ []) rest.0)
 
-pub Valuing-next : (formula : ℕ → Method) (line : List Entry) (rows : List Row) (index : ℕ) (e : Entry) → Valuing formula line rows index → index < length line → e ≡ get_or line index e
-    → All (HasFormula formula) line → IsEnough line → length line ≤ MAX_ENTRIES → Valuing formula line (rows ++ valued rows e ∷ []) (index + 1)
-Valuing-next formula line rows index e valuing within is all enough few =
-    let here : drop index line ≡ e ∷ drop (index + 1) line = rw add-one (drop-cons line index e within ∙ ap (λ (f : Entry). f ∷ drop (suc index) line) (sym is)) in
+-- the first rows are those of the first movements
+pub rows_of-take : (journal : List Record) (line : List Entry) (n : ℕ) → take n (rows_of journal line) ≡ rows_of journal (take n line)
+rows_of-take journal line n =
+    elim (cases_lt (length line) n) [
+      | inl more ↦
+          take_all n (rows_of journal line) (omega (arith, length-rows_of journal line, more))
+          ∙ ap (rows_of journal) (sym (take_all n line (omega (arith, more))))
+      | inr within ↦
+          let front = rows_of journal (take n line) in
+          let rest = more-rows journal front (drop n line) in
+          let parts : rows_of journal line ≡ front ++ rest.0 =
+          ap (rows_of journal) (sym (take-append-drop n line)) ∙ fold-append (value_next journal) [] (take n line) (drop n line) ∙ rest.1 in
+          let long : length front ≡ n = omega (arith, length-rows_of journal (take n line), length-take n line, within) in
+          ap (take n) parts ∙ take-append-le n front rest.0 (omega (arith, long)) ∙ take_all n front (omega (arith, long))
+    ]
+
+-- a movement of a legal line may come next after the rows of those before it
+next-from : (formula : ℕ → Method) (journal : List Record) (rows : List Row) (e : Entry) (es : List Entry) → IsAffordable journal → length rows + length (e ∷ es) ≤ MAX_ENTRIES
+    → All (HasFormula formula) (e ∷ es) → IsEnough (map row_entry rows ++ e ∷ es) → IsLinked (map row_entry rows) e → IsNext formula journal rows e
+next-from formula journal rows e es affordable few all enough linked =
     record {
-      kept = Kept-next formula rows e valuing.kept (Valuing-HasUnits formula line rows index e valuing within is enough) (Valuing-HasFormula formula line index e within is all);
-      count = omega (arith, length-append rows (valued rows e ∷ []), valuing.count);
-      split = ap (λ (es : List Entry). es ++ drop (index + 1) line) (map-append row_entry rows (valued rows e ∷ []))
-          ∙ append_assoc (map row_entry rows) (e ∷ []) (drop (index + 1) line)
-          ∙ ap (λ (es : List Entry). map row_entry rows ++ es) (sym here)
-          ∙ valuing.split;
-      rest = ap (fold value_next rows) (sym here) ∙ valuing.rest;
+      affordable = affordable;
+      room = omega (arith, few);
+      units = HasUnits-enough rows e es enough;
+      has = All-head (HasFormula formula) e es all;
+      linked = linked;
     }
 
-pub Valuing-AreBounded : (formula : ℕ → Method) (line : List Entry) (rows : List Row) (index : ℕ) → Valuing formula line rows index → index ≤ length line → length line ≤ MAX_ENTRIES → AreBounded rows
-Valuing-AreBounded formula line rows index valuing within few = AreBounded-Kept formula rows (omega (arith, valuing.count, within, few)) valuing.kept
+-- and so all rows are kept, at every prefix
+Kept-all : (formula : ℕ → Method) (journal : List Record) (rows : List Row) (es : List Entry) (n : ℕ) → Kept formula journal rows → IsAffordable journal → length rows + length es ≤ MAX_ENTRIES
+    → All (HasFormula formula) es → IsEnough (map row_entry rows ++ es) → AreLinkedAfter (map row_entry rows) es → Kept formula journal (fold (value_next journal) rows (take n es))
+Kept-all formula journal rows es zero kept affordable few all enough linked = kept
+Kept-all formula journal rows [] (suc n) kept affordable few all enough linked = kept
+Kept-all formula journal rows (e ∷ es) (suc n) kept affordable few all enough linked =
+    let grown : map row_entry (value_next journal rows e) ≡ map row_entry rows ++ e ∷ [] = map-append row_entry rows (valued journal rows e ∷ []) in
+    Kept-all formula journal (value_next journal rows e) es n
+    (Kept-next formula journal rows e kept (next-from formula journal rows e es affordable few all enough linked.0))
+    affordable (omega (arith, length-next journal rows e, few)) (All-tail (HasFormula formula) e es all)
+    (subst IsEnough (sym (ap (λ (front : List Entry). front ++ es) grown ∙ append_assoc (map row_entry rows) (e ∷ []) es)) enough)
+    (subst (λ (past : List Entry). AreLinkedAfter past es) (sym grown) linked.1)
 
--- and so the rows of all
-Kept-all : (formula : ℕ → Method) (rows : List Row) (es : List Entry) → Kept formula rows → All (HasFormula formula) es → IsEnough (map row_entry rows ++ es) → Kept formula (fold value_next rows es)
-Kept-all formula rows [] kept all enough = kept
-Kept-all formula rows (e ∷ es) kept all enough =
-    Kept-all formula (value_next rows e) es (Kept-next formula rows e kept (HasUnits-enough rows e es enough) (All-head (HasFormula formula) e es all))
-    (All-tail (HasFormula formula) e es all)
-    (subst IsEnough (sym (ap (λ (front : List Entry). front ++ es) (map-append row_entry rows (valued rows e ∷ [])) ∙ append_assoc (map row_entry rows) (e ∷ []) es)) enough)
+pub Kept-take : (formula : ℕ → Method) (journal : List Record) (line : List Entry) (n : ℕ) → IsLegalLine formula journal line → Kept formula journal (rows_of journal (take n line))
+Kept-take formula journal line n legal =
+    Kept-all formula journal [] line n (Kept-nil formula journal) legal.affordable (omega (arith, legal.few)) legal.formulas legal.enough legal.linked
 
-length-value_all : (rows : List Row) (es : List Entry) → length (fold value_next rows es) ≡ length rows + length es
-length-value_all rows [] = omega arith
-length-value_all rows (e ∷ es) = omega (arith, length-value_all (value_next rows e) es, length-append rows (valued rows e ∷ []))
+pub Kept-rows_of : (formula : ℕ → Method) (journal : List Record) (line : List Entry) → IsLegalLine formula journal line → Kept formula journal (rows_of journal line)
+Kept-rows_of formula journal line legal =
+    subst (λ (es : List Entry). Kept formula journal (rows_of journal es)) (take_all (length line) line (omega arith)) (Kept-take formula journal line (length line) legal)
 
-pub Kept-rows_of : (formula : ℕ → Method) (line : List Entry) → All (HasFormula formula) line → IsEnough line → Kept formula (rows_of line)
-Kept-rows_of formula line all enough = Kept-all formula [] line (Kept-nil formula) all enough
+-- the stock of a key is never worth more than all that was received
+not_large : (formula : ℕ → Method) (journal : List Record) (rows : List Row) (key : Key) → IsAffordable journal → Kept formula journal rows → value_in rows key ≤ value_out rows key + MAX_VALUE
+not_large formula journal rows key affordable kept =
+    omega (arith, stock_value-le rows key kept.conserved, received-small journal rows affordable kept.few kept.priced, Kept-covered formula journal rows key kept)
 
--- the rows of a line of at most so many movements, at each of which there is enough, are bounded
-pub AreBounded-rows_of : (line : List Entry) → HaveOneFormula line → length line ≤ MAX_ENTRIES → IsEnough line → AreBounded (rows_of line)
-AreBounded-rows_of line (formula, all) few enough =
-    AreBounded-Kept formula (rows_of line) (omega (arith, length-value_all [] line, few)) (Kept-rows_of formula line all enough)
+-- the rows of the first movements of a legal line are bounded
+pub AreBounded-take_line : (formula : ℕ → Method) (journal : List Record) (line : List Entry) (k : ℕ) → IsLegalLine formula journal line → AreBounded (rows_of journal (take k line))
+AreBounded-take_line formula journal line k legal =
+    let kept = Kept-take formula journal line k legal in
+    let front : (n : ℕ) → (m : ℕ) × (take n (rows_of journal (take k line)) ≡ rows_of journal (take m line)) = λ n.
+    elim (cases_lt k n) [
+      | inl more ↦ (k, take_all n (rows_of journal (take k line)) (omega (arith, length-rows_of journal (take k line), length-take k line)))
+      | inr within ↦ (n, rows_of-take journal (take k line) n ∙ ap (rows_of journal) (take-take n k line within))
+    ] in
+    record {
+      few = kept.few;
+      in_range = kept.in_range;
+      never_negative = λ n key.
+          subst (λ (rows : List Row). value_out rows key ≤ value_in rows key) (sym (front n).1)
+          (Kept-covered formula journal (rows_of journal (take (front n).0 line)) key (Kept-take formula journal line (front n).0 legal));
+      not_large = λ n key.
+          subst (λ (rows : List Row). value_in rows key ≤ value_out rows key + MAX_VALUE) (sym (front n).1)
+          (not_large formula journal (rows_of journal (take (front n).0 line)) key legal.affordable (Kept-take formula journal line (front n).0 legal));
+    }
+
+pub AreBounded-rows_of : (formula : ℕ → Method) (journal : List Record) (line : List Entry) → IsLegalLine formula journal line → AreBounded (rows_of journal line)
+AreBounded-rows_of formula journal line legal =
+    subst (λ (es : List Entry). AreBounded (rows_of journal es)) (take_all (length line) line (omega arith)) (AreBounded-take_line formula journal line (length line) legal)
+
+units_left-by : (rows : List Row) (e : Entry) (cause : Cause) → IsLinkedBy (map row_entry rows) e cause → HasUnitsLeftBy rows e cause
+units_left-by rows e (Receipt amount) linked = tt
+units_left-by rows e (Issue sold) linked = tt
+units_left-by rows e TransferLeaves linked = tt
+units_left-by rows e TransferEnters linked = tt
+units_left-by rows e (CustomerReturn target issued) linked = linked.2
+units_left-by rows e (SupplierReturn target amount got) linked = linked.1
+
+-- what a movement of a legal line needs to be valued after those before it
+pub record CanBeValued (journal : List Record) (before : List Row) (e : Entry) : Type 0 where
+  pub bounded : AreBounded before
+  pub held : HasUnits before e
+  pub left : HasUnitsLeft before e
+  pub small : has_value_in_range (valued journal before e) ≡ true
+  pub lines : (line : Target) → line_cost before line ≤ MAX_VALUE
+
+-- where a movement leaves, it is worth what its units cost
+pub value-is_cost : (journal : List Record) (before : List Row) (e : Entry) → not (is_entering e.place.side) ≡ true → value_of (valued journal before e) ≡ cost_by e.method before e
+value-is_cost journal before e leaves = value-of_leaving journal before (valued journal before e) e.cause refl e.sides leaves
+
+take-past : (past : List Entry) (rest : List Entry) → take (length past) (past ++ rest) ≡ past
+take-past past rest = take-append-le (length past) past rest (omega arith) ∙ take_all (length past) past (omega arith)
+
+All-from : (P : Entry → Type 0) (past rest : List Entry) → All P (past ++ rest) → All P rest
+All-from P [] rest all = all
+All-from P (e ∷ past) rest all = All-from P past rest (All-tail P e (past ++ rest) all)
+
+pub CanBeValued-at : (formula : ℕ → Method) (journal : List Record) (past : List Entry) (e : Entry) (rest : List Entry) → IsLegalLine formula journal (past ++ e ∷ rest) → CanBeValued journal (rows_of journal past) e
+CanBeValued-at formula journal past e rest legal =
+    let rows = rows_of journal past in
+    let front = take-past past (e ∷ rest) in
+    let kept : Kept formula journal rows = subst (λ (es : List Entry). Kept formula journal (rows_of journal es)) front (Kept-take formula journal (past ++ e ∷ rest) (length past) legal) in
+    let movements : map row_entry rows ≡ past = map-value_all journal [] past in
+    let linked : IsLinked (map row_entry rows) e = subst (λ (es : List Entry). IsLinked es e) (sym movements) (AreLinkedAfter-at [] past e rest legal.linked) in
+    let next : IsNext formula journal rows e =
+    next-from formula journal rows e rest legal.affordable (omega (arith, length-rows_of journal past, length-append past (e ∷ rest), legal.few))
+    (All-from (HasFormula formula) past (e ∷ rest) legal.formulas)
+    (subst IsEnough (sym (ap (λ (es : List Entry). es ++ e ∷ rest) movements)) legal.enough) linked in
+    record {
+      bounded = subst (λ (es : List Entry). AreBounded (rows_of journal es)) front (AreBounded-take_line formula journal (past ++ e ∷ rest) (length past) legal);
+      held = next.units;
+      left = units_left-by rows e e.cause linked.0;
+      small = value-in_range formula journal rows e kept next;
+      lines = kept.lines;
+    }

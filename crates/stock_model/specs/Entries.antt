@@ -1,5 +1,5 @@
 -- The movements of a record: one for one item and one warehouse each.
-use Rattle.std.specs.Prelude.{ℕ, ◌+◌, ◌-◌, List, [], ◌∷◌, ◌++◌, length, take, Option}
+use Rattle.std.specs.Prelude.{ℕ, ◌+◌, ◌-◌, Bool, true, List, [], ◌∷◌, ◌++◌, length, take, filter, Option}
 use Rattle.std.specs.Option.{option_map, option_to_list}
 use Rattle.std.specs.List.{filter_map, enumerate_from, flat_map, zip}
 use Rattle.stock_nums.specs.declared.moment.Moment.{Moment}
@@ -11,7 +11,8 @@ use Rattle.stock_nums.specs.declared.entry.Entry.{Entry}
 use Rattle.stock_model.specs.declared.vouchers.What.{What}
 use Rattle.stock_model.specs.declared.records.Record.{Record}
 use Rattle.stock_model.specs.declared.seen.Move.{Move}
-use Rattle.stock_model.specs.Masters.{item_with, store_with, record_at}
+use Rattle.stock_model.specs.Masters.{store_with, record_at}
+use Rattle.stock_model.specs.TargetLines.{coded_item, line_found}
 use Rattle.stock_model.specs.VoucherLines.{VoucherLine, lines_of, moves_of, moment_of}
 
 -- a move of the line with this number of the voucher with this number and moment, its item and warehouse found
@@ -34,11 +35,17 @@ abbrev pub move_made : List Record → ℕ → Moment → ℕ → VoucherLine �
 move_made journal n at number line item (move, code) = option_map (moved n at number line item move) (store_with journal code)
 
 -- the movements of a line whose item is found: its moves, each with one of the warehouses that it names
-abbrev pub moves_made : List Record → ℕ → Moment → What → ℕ → VoucherLine → ItemNo × Method → List Entry
-moves_made journal n at what number line item = filter_map (move_made journal n at number line item) (zip (moves_of what line) line.stores)
+abbrev pub moves_made : List Record → ℕ → Moment → What → ℕ → VoucherLine → VoucherLine → ItemNo × Method → List Entry
+moves_made journal n at what number line found item =
+    filter_map (move_made journal n at number line item) (zip (moves_of what line found) line.stores)
+
+-- the movements of a line, where the line that its item is of is found
+abbrev pub found_made : List Record → ℕ → Moment → What → ℕ → VoucherLine → VoucherLine → List Entry
+found_made journal n at what number line found =
+    flat_map (moves_made journal n at what number line found) (option_to_list (coded_item journal found.item))
 
 abbrev pub line_made : List Record → ℕ → Moment → What → ℕ × VoucherLine → List Entry
-line_made journal n at what (number, line) = flat_map (moves_made journal n at what number line) (option_to_list (item_with journal line.item))
+line_made journal n at what (number, line) = flat_map (found_made journal n at what number line) (option_to_list (line_found journal line))
 
 -- the movements of all lines of a voucher with this moment
 abbrev pub lines_made : List Record → ℕ → What → Moment → List Entry
@@ -57,9 +64,16 @@ abbrev pub entries_after : List Record → List Record → List Entry
 entries_after journal [] = []
 entries_after journal (item ∷ rest) = entries journal item ++ entries_after (journal ++ item ∷ []) rest
 
--- the movements of all records of a journal, in the order of the records
+-- the record with this number is in force in the journal: none takes a record back
+abbrev pub is_live : List Record → ℕ → Bool
+is_live journal n = true
+
+abbrev pub is_live_entry : List Record → Entry → Bool
+is_live_entry journal e = is_live journal e.place.voucher.0
+
+-- the movements of all records of a journal that are in force, in the order of the records
 unfoldable pub all_entries : List Record → List Entry
-all_entries journal = entries_after [] journal
+all_entries journal = filter (is_live_entry journal) (entries_after [] journal)
 
 -- the movements of the record with this number, from 1
 abbrev pub entries_of : List Record → ℕ → List Entry

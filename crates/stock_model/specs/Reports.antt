@@ -1,6 +1,6 @@
 -- What a report is answered at a point of the history: a function of the history and the request.
-use Rattle.std.specs.Prelude.{Bool, true, not, List, filter, nat_lt, nat_le, if◌then◌else◌, Option, Some, None}
-use Rattle.stock_nums.specs.Places.{first_by}
+use Rattle.std.specs.Prelude.{Bool, true, not, List, filter, nat_le, if◌then◌else◌, Option, Some, None}
+use Rattle.stock_nums.specs.Places.{is_later}
 use Rattle.stock_nums.specs.declared.entry.Row.{Row}
 use Rattle.stock_nums.specs.declared.moment.Moment.{Moment}
 use Rattle.stock_nums.specs.declared.numbers.RecordNo.{RecordNo}
@@ -20,10 +20,6 @@ use Rattle.stock_model.specs.Replay.{replay}
 use Rattle.stock_model.specs.History.{accepted, covered, covered_records}
 use Rattle.stock_model.specs.Sheets.{balance}
 use Rattle.stock_model.specs.Layers.{layers}
-
--- the first moment is after the second
-abbrev pub is_later : Moment → Moment → Bool
-is_later a b = first_by b.date a.date (nat_lt b.second a.second)
 
 -- the movement's moment is not after this one, where there is one
 abbrev pub is_until : Option Moment → Row → Bool

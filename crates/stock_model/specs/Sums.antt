@@ -1,8 +1,12 @@
 -- What entered and what left, of one item in one warehouse.
 use Rattle.std.specs.Prelude.{ℕ, ◌-◌, Bool, List, filter, sum_by, unsigned_abs}
+use Rattle.stock_nums.specs.declared.entry.Entry.{Entry}
 use Rattle.stock_nums.specs.declared.entry.Key.{Key}
 use Rattle.stock_nums.specs.declared.entry.Row.{Row}
 use Rattle.stock_model.specs.Enough.{is_of_key, enters_under, leaves_under, entry_units}
+
+abbrev pub row_entry : Row → Entry
+row_entry row = row.entry
 
 -- the row's movement is of this item in this warehouse
 abbrev pub is_of : Key → Row → Bool

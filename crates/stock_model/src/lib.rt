@@ -2,9 +2,12 @@
 //! contracts of every crate above cite.
 #![tactic(auto)]
 
+pub mod conservation_laws;
 pub mod deeds;
 pub mod enough_laws;
 pub mod faults;
+pub mod landed;
+pub mod landed_weights;
 pub mod laws;
 pub mod layer_laws;
 pub mod layers;
@@ -25,6 +28,11 @@ pub mod seen;
 pub mod sheets;
 pub mod shortages;
 pub mod sums;
+pub mod target_faults;
+pub mod target_lines;
+pub mod targets;
+#[cfg(test)]
+mod tests;
 pub mod vouchers;
 pub mod worked;
 pub mod worked_issues;

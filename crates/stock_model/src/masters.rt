@@ -1,6 +1,6 @@
 //! The items and warehouses of a journal, found by going over its records.
 ghost use Rattle.std.specs.Prelude.{◌≡◌, ◌^◌, ◌<◌, ℕ, List, [], length, IfOk};
-ghost use Rattle.std.specs.Option.{option_map_or};
+ghost use Rattle.std.specs.Option.{option_copied, option_map_or};
 ghost use Rattle.stock_model.specs.declared.records.Record.{Record};
 ghost use Rattle.stock_model.specs.Masters.{item_with, store_with, heads, head_made, record_at, record_code, code_of};
 
@@ -50,6 +50,16 @@ pub fn store_with(records: &[Record], code: &Code) -> Option<(StoreNo, AccountNo
         }
     }
     None
+}
+
+/// The record with this number, from 1. None exactly where there is no such record.
+pub fn record_at(records: &[Record], number: RecordNo) -> Option<&Record>
+    ensures { option_copied result ≡ record_at records.now number.0 }
+{
+    if number.0 == 0 {
+        return None;
+    }
+    records.get(number.0 as usize - 1)
 }
 
 /// The items and warehouses, in the order of their numbers.

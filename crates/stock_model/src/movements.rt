@@ -1,20 +1,24 @@
 //! The movements that a record makes.
 ghost use Rattle.std.specs.Prelude.{◌≡◌, ◌+◌, ◌≤◌, ◌++◌, List, length, slice_get, IsTrue, None, OnOk, IfOk};
 ghost use Rattle.std.specs.Option.{option_to_list};
+ghost use Rattle.std.specs.List.{flat_map, filter_map, zip};
 ghost use Rattle.stock_nums.specs.Causes.{has_amounts_in_range, has_side};
 ghost use Rattle.stock_model.specs.declared.records.Record.{Record};
-ghost use Rattle.stock_model.specs.Entries.{moved, line_made, lines_made, entries};
+ghost use Rattle.stock_model.specs.Entries.{moved, move_made, found_made, line_made, lines_made, entries};
 ghost use Rattle.stock_model.specs.Faults.{voucher_fault};
-ghost use Rattle.stock_model.specs.LineViews.{seen, made_at};
-ghost use Rattle.stock_model.specs.VoucherLines.{lines_of, moves_of};
+ghost use Rattle.stock_model.specs.Journals.{AreSound};
+ghost use Rattle.stock_model.specs.LineViews.{seen, moves_seen, made_at};
+ghost use Rattle.stock_model.specs.VoucherLines.{lines_of, stores_each, moves_of, return_moves, customer_return, supplier_return};
 
 use crate::line_views::{is_sold, line_at, line_count, moment_of};
 use crate::names::Names;
 use crate::records::Record;
-use crate::seen::{LineView, Move};
+use crate::seen::{LineItem, LineView, Move, Moves};
+use crate::target_lines::{coded_item, line_found};
 use crate::vouchers::What;
 use std::alloc::Global;
 use stock_nums::cause::{Cause, Method};
+use stock_nums::code::Code;
 use stock_nums::entry::Entry;
 use stock_nums::limits::MAX_LINES;
 use stock_nums::lines::Lines;
@@ -23,11 +27,22 @@ use stock_nums::moment::Moment;
 use stock_nums::numbers::{AccountNo, ItemNo, RecordNo, StoreNo};
 use stock_nums::place::{Place, Side};
 
-/// How many movements the record makes where nothing in it is unknown: one for each line. It takes no memory.
+/// How many movements the record makes where it has no fault of its own: one for each line, and two for a line of a
+/// transfer. It takes no memory.
 pub fn count(item: &Record) -> usize
-    ensures { (journal : List Record) → voucher_fault journal item.now.what ≡ None → result ≡ length (entries journal item.now) }
+    ensures { (journal : List Record) → AreSound journal → voucher_fault journal item.now.what ≡ None → result ≡ length (entries journal item.now) }
 {
-    line_count(&item.what)
+    line_count(&item.what) * stores_each(&item.what)
+}
+
+// How many warehouses each line names.
+fn stores_each(what: &What) -> usize
+    ensures { result ≡ stores_each what.now }
+{
+    match what {
+        What::Transfer { at: _, lines: _ } => 2,
+        _ => 1,
+    }
 }
 
 /// A line of a voucher that is read in a journal: where its movements stand.
@@ -95,7 +110,7 @@ fn push_line_at<N: Names>(
     }
 }
 
-// Adds the movements of a line, where its item and its warehouse are found.
+// Adds the movements of a line, where the line that its item is of and the item are found.
 fn push_line<N: Names>(
     names: &N,
     spot: Spot,
@@ -105,13 +120,73 @@ fn push_line<N: Names>(
 ) -> Result<(), NoMemory>
     ensures { OnOk result (entries.new ≡ entries.old ++ line_made (N.journal names.now) spot.voucher.0 spot.at what.now (spot.line, seen line.now)) }
 {
-    let Some(item) = names.item_with(line.item) else {
-        return Ok(());
-    };
-    let Some(one) = move_of(what, line) else {
-        return Ok(());
-    };
-    match names.store_with(line.store) {
+    match line_found(names, line) {
+        Some(found) => push_found(names, spot, what, line, &found, entries),
+        None => Ok(()),
+    }
+}
+
+// Adds the movements of a line whose item is that of the line found.
+fn push_found<N: Names>(
+    names: &N,
+    spot: Spot,
+    what: &What,
+    line: &LineView<'_>,
+    found: &LineView<'_>,
+    entries: &mut Lines<Entry>,
+) -> Result<(), NoMemory>
+    ensures { OnOk result (entries.new ≡ entries.old ++ found_made (N.journal names.now) spot.voucher.0 spot.at what.now spot.line (seen line.now) (seen found.now)) }
+{
+    match coded_item(names, found) {
+        Some(item) => push_moves(
+            names,
+            spot,
+            line,
+            item,
+            moves_of(what, line, found),
+            entries,
+        ),
+        None => Ok(()),
+    }
+}
+
+// Adds the movements of these moves, each into or out of one of the line's warehouses.
+fn push_moves<N: Names>(
+    names: &N,
+    spot: Spot,
+    line: &LineView<'_>,
+    item: (ItemNo, Method),
+    moves: Moves,
+    entries: &mut Lines<Entry>,
+) -> Result<(), NoMemory>
+    ensures { OnOk result (entries.new ≡ entries.old ++ filter_map (move_made (N.journal names.now) spot.voucher.0 spot.at spot.line (seen line.now) item) (zip (moves_seen moves) (seen line.now).stores)) }
+{
+    match moves {
+        Moves::None => Ok(()),
+        Moves::One(first) => push_move(names, spot, line, item, first, line.store, entries),
+        Moves::Two(first, second) => {
+            push_move(names, spot, line, item, first, line.store, entries)?;
+            match line.second {
+                Some(store) => push_move(names, spot, line, item, second, store, entries),
+                None => Ok(()),
+            }
+        }
+    }
+}
+
+// Adds the movement of a move into or out of the warehouse with this code, where there is one.
+fn push_move<N: Names>(
+    names: &N,
+    spot: Spot,
+    line: &LineView<'_>,
+    item: (ItemNo, Method),
+    one: Move,
+    store: &Code,
+    entries: &mut Lines<Entry>,
+) -> Result<(), NoMemory>
+    ensures { OnOk result (entries.new ≡ entries.old ++ option_to_list (move_made (N.journal names.now) spot.voucher.0 spot.at spot.line (seen line.now) item (one, store.now))) }
+{
+    match names.store_with(store) {
         Some(store) => entries.push(moved(spot, line, item, &one, store)),
         None => Ok(()),
     }
@@ -141,22 +216,55 @@ fn moved(
     }
 }
 
-// What a line of the voucher moves.
-fn move_of(what: &What, line: &LineView<'_>) -> Option<Move>
-    ensures { option_to_list result ≡ moves_of what.now (seen line.now) }
+// What a line of the voucher moves, where its item is that of the line found.
+fn moves_of(what: &What, line: &LineView<'_>, found: &LineView<'_>) -> Moves
+    ensures { moves_seen result ≡ moves_of what.now (seen line.now) (seen found.now) }
 {
     match what {
-        What::Receipt { at: _, lines: _ } => Some(entering(Cause::Receipt {
+        What::Receipt { at: _, lines: _ } => Moves::One(entering(Cause::Receipt {
             amount: line.amount,
         })),
         What::Issue {
             at: _,
             purpose,
             lines: _,
-        } => Some(leaving(Cause::Issue {
+        } => Moves::One(leaving(Cause::Issue {
             sold: is_sold(*purpose),
         })),
-        _ => None,
+        What::Transfer { at: _, lines: _ } => Moves::Two(
+            leaving(Cause::TransferLeaves),
+            entering(Cause::TransferEnters),
+        ),
+        What::CustomerReturn { at: _, lines: _ } => customer_return(line, found),
+        What::SupplierReturn { at: _, lines: _ } => supplier_return(line, found),
+        _ => Moves::None,
+    }
+}
+
+// Units of the line of an issue that was found come back.
+fn customer_return(line: &LineView<'_>, found: &LineView<'_>) -> Moves
+    ensures { moves_seen result ≡ return_moves customer_return (seen line.now).item (seen found.now) }
+{
+    match line.item {
+        LineItem::Coded(_) => Moves::None,
+        LineItem::OfTarget(named) => Moves::One(entering(Cause::CustomerReturn {
+            target: named.target,
+            issued: found.qty,
+        })),
+    }
+}
+
+// Units of the line of a receipt that was found go back.
+fn supplier_return(line: &LineView<'_>, found: &LineView<'_>) -> Moves
+    ensures { moves_seen result ≡ return_moves supplier_return (seen line.now).item (seen found.now) }
+{
+    match line.item {
+        LineItem::Coded(_) => Moves::None,
+        LineItem::OfTarget(named) => Moves::One(leaving(Cause::SupplierReturn {
+            target: named.target,
+            amount: found.amount,
+            received: found.qty,
+        })),
     }
 }
 

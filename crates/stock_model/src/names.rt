@@ -1,17 +1,20 @@
-//! The items and warehouses that a voucher may name.
+//! What a voucher may name: items, warehouses, and lines of earlier vouchers.
 ghost use Rattle.std.specs.Prelude.{◌≡◌, ◌^◌, ◌<◌, List, length};
+ghost use Rattle.std.specs.Option.{option_copied};
 ghost use Rattle.stock_model.specs.declared.records.Record.{Record};
-ghost use Rattle.stock_model.specs.Masters.{item_with, store_with};
+ghost use Rattle.stock_model.specs.Entries.{all_entries};
+ghost use Rattle.stock_model.specs.Masters.{item_with, store_with, record_at};
+ghost use Rattle.stock_model.specs.Returns.{returned};
 
 use crate::masters;
 use crate::records::Record;
-use stock_nums::cause::Method;
+use stock_nums::cause::{Method, Target};
 use stock_nums::code::Code;
-use stock_nums::numbers::{AccountNo, ItemNo, StoreNo};
+use stock_nums::numbers::{AccountNo, ItemNo, Qty, RecordNo, StoreNo};
 
-/// The items and warehouses that a voucher may name: those of a journal.
+/// What a voucher may name: the items, warehouses and records of a journal.
 pub trait Names {
-    /// The journal whose items and warehouses they are.
+    /// The journal whose items, warehouses and records they are.
     ghost journal: { Self → List Record };
 
     /// The item with this code, and its cost formula. None exactly where no item has the code.
@@ -21,9 +24,20 @@ pub trait Names {
     /// The warehouse with this code, and its account. None exactly where no warehouse has the code.
     fn store_with(&self, code: &Code) -> Option<(StoreNo, AccountNo)>
         ensures { result ≡ store_with (journal self.now) code.now };
+
+    /// The record with this number, from 1. None exactly where the journal has no such record.
+    fn record_at(&self, number: RecordNo) -> Option<&Record>
+        ensures { option_copied result ≡ record_at (journal self.now) number.0 };
 }
 
-/// The items and warehouses of these records, found by going over them all.
+/// What a voucher may name, and how many units of lines were returned.
+pub trait Returns: Names {
+    /// How many units of the line all vouchers of the journal return, whatever their moments.
+    fn returned(&self, target: Target) -> Qty
+        ensures { result.0 ≡ returned (all_entries (Self.Names.journal self.now)) target };
+}
+
+/// The items, warehouses and records among these records, found by going over them all.
 #[derive(Clone, Copy)]
 pub struct Listed<'a> {
     pub records: &'a [Record],
@@ -39,5 +53,9 @@ impl<'a> Names for Listed<'a> {
 
     fn store_with(&self, code: &Code) -> Option<(StoreNo, AccountNo)> {
         masters::store_with(self.records, code)
+    }
+
+    fn record_at(&self, number: RecordNo) -> Option<&Record> {
+        masters::record_at(self.records, number)
     }
 }

@@ -1,26 +1,25 @@
 //! The chronological replay: each movement valued in posting order.
-ghost use Rattle.std.specs.Prelude.{◌≡◌, ◌^◌, ◌<◌, ◌≤◌, pos, length, filter, not, IsTrue, IfOk};
-ghost use Rattle.stock_nums.specs.Causes.{is_entering};
+ghost use Rattle.std.specs.Prelude.{◌≡◌, ◌^◌, ◌<◌, ◌≤◌, pos, true, length, filter, IfOk};
 ghost use Rattle.stock_nums.specs.FirstIn.{first_cost};
-ghost use Rattle.stock_nums.specs.declared.cause.Cause.{Cause};
-ghost use Rattle.stock_model.specs.Bounds.{AreBounded};
-ghost use Rattle.stock_model.specs.Enough.{entry_key, IsEnough};
-ghost use Rattle.stock_model.specs.Entries.{all_entries};
-ghost use Rattle.stock_model.specs.Formulas.{HaveOneFormula};
+ghost use Rattle.stock_nums.specs.declared.cause.Target.{Target};
+ghost use Rattle.stock_model.specs.Bounds.{AreBounded, has_value_in_range};
+ghost use Rattle.stock_model.specs.Enough.{entry_key};
+ghost use Rattle.stock_model.specs.Journals.{AreLegal};
 ghost use Rattle.stock_model.specs.PostingOrder.{posting_line};
-ghost use Rattle.stock_model.specs.Replay.{valued, rows_of, replay};
+ghost use Rattle.stock_model.specs.Replay.{valued, replay};
 ghost use Rattle.stock_model.specs.Sums.{enters_at, units_of, value_of, stock_units};
-ghost use Rattle.stock_model.specs.Values.{average_cost, fifo_cost, cost_by, HasUnits};
+ghost use Rattle.stock_model.specs.Values.{average_cost, fifo_cost, cost_by, cost, own_line, line_cost, returned_before, value_by, share_by, HasUnits, HasUnitsLeft};
 
+use crate::landed::added;
 use crate::posting::posting_line;
 use crate::records::Record;
 use crate::shortages::entry_key;
-use crate::sums::{enters_at, quantity_out, stock_units, stock_value};
+use crate::sums::{enters_at, line_cost, quantity_out, returned_before, stock_units, stock_value};
 use std::alloc::Global;
-use stock_nums::cause::{Cause, Method};
+use stock_nums::cause::{Cause, Method, Target};
 use stock_nums::entry::{Entry, Key, Row, Worth};
 use stock_nums::half_up::half_up;
-use stock_nums::limits::{MAX_ENTRIES, MAX_VALUE};
+use stock_nums::limits::MAX_VALUE;
 use stock_nums::lines::Lines;
 use stock_nums::memory::NoMemory;
 use stock_nums::numbers::{Minor, Qty};
@@ -85,53 +84,106 @@ fn cost(before: &[Row], entry: &Entry) -> Minor
     }
 }
 
-// The movement, valued from the rows before it.
-fn valued(before: &[Row], entry: &Entry) -> Row
+// The line of a voucher that the movement is of.
+fn own_line(entry: &Entry) -> Target
+    ensures { result ≡ own_line entry.now }
+{
+    Target {
+        voucher: entry.place.voucher,
+        line: entry.place.line,
+    }
+}
+
+// What the movement is worth.
+fn value_by(records: &[Record], before: &[Row], entry: &Entry) -> Minor
+    requires records { length records.now < 2 ^ 32 }
     requires bounded { AreBounded before.now }
     requires held { HasUnits before.now entry.now }
-    requires small { IsTrue (not (is_entering entry.now.place.side)) → cost_by entry.now.method before.now entry.now ≤ MAX_VALUE }
-    ensures { result ≡ valued before.now entry.now }
+    requires linked { HasUnitsLeft before.now entry.now }
+    requires lines { (line : Target) → line_cost before.now line ≤ MAX_VALUE }
+    requires small { has_value_in_range (valued records.now before.now entry.now) ≡ true }
+    ensures { result.0 ≡ value_by records.now before.now entry.now entry.now.cause }
 {
-    let value = match entry.cause {
-        Cause::Receipt { amount } => amount,
+    match entry.cause {
+        Cause::Receipt { amount } => Minor(amount.0 + added(records, own_line(entry)) as i64),
         Cause::Issue { sold: _ } => cost(before, entry),
-    };
+        Cause::TransferLeaves => cost(before, entry),
+        Cause::TransferEnters => Minor(line_cost(before, own_line(entry)) as i64),
+        Cause::CustomerReturn { target, issued } => part(
+            Minor(line_cost(before, target) as i64),
+            returned_before(before, target),
+            entry.qty,
+            issued,
+        ),
+        Cause::SupplierReturn {
+            target: _,
+            amount: _,
+            received: _,
+        } => cost(before, entry),
+    }
+}
+
+// The landed charges within a receipt's value, or the part of the purchase price of what goes back to a supplier.
+fn share_by(records: &[Record], before: &[Row], entry: &Entry) -> Minor
+    requires records { length records.now < 2 ^ 32 }
+    requires bounded { AreBounded before.now }
+    requires linked { HasUnitsLeft before.now entry.now }
+    requires small { has_value_in_range (valued records.now before.now entry.now) ≡ true }
+    ensures { result.0 ≡ share_by records.now before.now entry.now entry.now.cause }
+{
+    match entry.cause {
+        Cause::Receipt { amount: _ } => Minor(added(records, own_line(entry)) as i64),
+        Cause::SupplierReturn {
+            target,
+            amount,
+            received,
+        } => part(amount, returned_before(before, target), entry.qty, received),
+        _ => Minor(0),
+    }
+}
+
+// The movement, valued from the rows before it and from what the records charge.
+fn valued(records: &[Record], before: &[Row], entry: &Entry) -> Row
+    requires records { length records.now < 2 ^ 32 }
+    requires bounded { AreBounded before.now }
+    requires held { HasUnits before.now entry.now }
+    requires linked { HasUnitsLeft before.now entry.now }
+    requires lines { (line : Target) → line_cost before.now line ≤ MAX_VALUE }
+    requires small { has_value_in_range (valued records.now before.now entry.now) ≡ true }
+    ensures { result ≡ valued records.now before.now entry.now }
+{
     Row {
         entry: *entry,
         worth: Worth {
-            value,
-            share: Minor(0),
+            value: value_by(records, before, entry),
+            share: share_by(records, before, entry),
         },
     }
 }
 
-/// The movements, each valued from those before it. What leaves has entered before, and each item has one
-/// cost formula.
-pub fn rows_of(alloc: Global, line: &[Entry]) -> Result<Lines<Row>, NoMemory>
-    requires few { length line.now ≤ MAX_ENTRIES }
-    requires formulas { HaveOneFormula line.now }
-    requires enough { IsEnough line.now }
-    ensures rows { IfOk result (λ rows. rows ≡ rows_of line.now) }
+/// The movements of a legal journal in posting order, each valued from those before it.
+pub fn rows_of(alloc: Global, records: &[Record], line: &[Entry]) -> Result<Lines<Row>, NoMemory>
+    requires legal { AreLegal records.now }
+    requires line { line.now ≡ posting_line records.now }
+    ensures rows { IfOk result (λ rows. rows ≡ replay records.now) }
 
     // The stock of each item in each warehouse is never worth less than nothing, and values are in range.
-    ensures bounded { AreBounded (rows_of line.now) }
+    ensures bounded { AreBounded (replay records.now) }
 {
     let mut rows = Lines::new(alloc);
     for entry in line {
-        let row = valued(rows.as_slice(), entry);
+        let row = valued(records, rows.as_slice(), entry);
         rows.push(row)?;
     }
     Ok(rows)
 }
 
-/// All movements of a journal in posting order, each valued from those before it.
+/// All movements of a legal journal in posting order, each valued from those before it.
 pub fn replay(alloc: Global, records: &[Record]) -> Result<Lines<Row>, NoMemory>
-    requires records { length records.now < 2 ^ 32 }
-    requires few { length (posting_line records.now) ≤ MAX_ENTRIES }
-    requires enough { IsEnough (posting_line records.now) }
+    requires { AreLegal records.now }
     ensures rows { IfOk result (λ rows. rows ≡ replay records.now) }
     ensures bounded { AreBounded (replay records.now) }
 {
     let line = posting_line(alloc, records)?;
-    rows_of(alloc, line.as_slice())
+    rows_of(alloc, records, line.as_slice())
 }

@@ -1,8 +1,11 @@
 //! What entered and what left, of one item in one warehouse.
 ghost use Rattle.std.specs.Prelude.{◌≡◌, ◌^◌, ◌<◌, pos};
 ghost use Rattle.stock_model.specs.Bounds.{AreBounded};
+ghost use Rattle.stock_model.specs.Returns.{is_return_of};
 ghost use Rattle.stock_model.specs.Sums.{is_of, enters_at, leaves_at, quantity_in, quantity_out, value_in, value_out, stock_units, stock_value};
+ghost use Rattle.stock_model.specs.Values.{leaves_by, line_cost, returned_before};
 
+use stock_nums::cause::{Cause, Target};
 use stock_nums::entry::{Key, Row};
 use stock_nums::numbers::{Minor, Qty};
 use stock_nums::place::Side;
@@ -85,4 +88,54 @@ pub fn stock_value(rows: &[Row], key: &Key) -> Minor
 {
     let value = value_in(rows, key).saturating_sub(value_out(rows, key));
     Minor(value as i64)
+}
+
+/// What the units that left by a line cost, from 0 to 3 * 10^17 minor units each.
+pub fn line_cost(rows: &[Row], target: Target) -> u128
+    requires { line_cost rows.now target < 2 ^ 128 }
+    ensures { result ≡ line_cost rows.now target }
+{
+    rows.iter()
+        .filter(|row| leaves_by(target, row))
+        .map(|row| u128::from(row.worth.value.0.unsigned_abs()))
+        .sum()
+}
+
+fn leaves_by(target: Target, row: &Row) -> bool
+    ensures { result ≡ leaves_by target row.now }
+{
+    row.entry.place.voucher == target.voucher
+        && row.entry.place.line == target.line
+        && row.entry.place.side == Side::Leaves
+}
+
+/// How many units of a line were returned by these rows.
+pub fn returned_before(rows: &[Row], target: Target) -> Qty
+    requires { returned_before rows.now target < 2 ^ 64 }
+    ensures { result.0 ≡ returned_before rows.now target }
+{
+    let mut units = 0;
+    for row in rows {
+        if is_return_of(target, row) {
+            units += row.entry.qty.0;
+        }
+    }
+    Qty(units)
+}
+
+fn is_return_of(target: Target, row: &Row) -> bool
+    ensures { result ≡ is_return_of target row.now.entry.cause }
+{
+    match row.entry.cause {
+        Cause::CustomerReturn {
+            target: line,
+            issued: _,
+        } => line == target,
+        Cause::SupplierReturn {
+            target: line,
+            amount: _,
+            received: _,
+        } => line == target,
+        _ => false,
+    }
 }

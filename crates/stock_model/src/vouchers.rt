@@ -2,9 +2,10 @@
 
 ghost use Rattle.std.specs.Prelude.{◌≡◌, IsTrue, IfOk};
 ghost use Rattle.stock_nums.specs.Quantities.{IsLineQuantity, is_line_amount};
+ghost use Rattle.stock_nums.specs.Targets.{is_target};
 
 use std::alloc::Global;
-use stock_nums::cause::Method;
+use stock_nums::cause::{Method, Target};
 use stock_nums::code::Code;
 use stock_nums::lines::Lines;
 use stock_nums::memory::NoMemory;
@@ -43,6 +44,40 @@ pub struct IssueLine {
     pub ghost quantity: { IsLineQuantity qty.0 },
 }
 
+/// A line of a transfer from one warehouse to another.
+#[derive(Drop)]
+pub struct TransferLine {
+    pub item: Code,
+    pub from: Code,
+    pub to: Code,
+    /// From 1 to 10^9.
+    pub qty: Qty,
+    pub ghost quantity: { IsLineQuantity qty.0 },
+}
+
+/// A line of a return: units of a line of an earlier voucher.
+#[derive(Drop)]
+pub struct ReturnLine {
+    /// The line of an issue whose units come back, or of a receipt whose units go back. Its record is at least 1,
+    /// and its line from 1 to 100.
+    pub target: Target,
+    /// The warehouse that the units come into, or leave.
+    pub store: Code,
+    /// From 1 to 10^9.
+    pub qty: Qty,
+    pub ghost named: { IsTrue (is_target target) },
+    pub ghost quantity: { IsLineQuantity qty.0 },
+}
+
+/// By which of their numbers a charge is parted over lines of receipts.
+#[derive(Clone, Copy, Debug, PartialEq, Eq)]
+pub enum Basis {
+    /// By the received quantities.
+    Quantity,
+    /// By the lines' amounts.
+    Amount,
+}
+
 /// What a record says.
 #[derive(Drop)]
 pub enum What {
@@ -66,6 +101,28 @@ pub enum What {
         at: Moment,
         purpose: Purpose,
         lines: Lines<IssueLine>,
+    },
+    /// Goods that went from one warehouse to another at the moment.
+    Transfer {
+        at: Moment,
+        lines: Lines<TransferLine>,
+    },
+    /// Goods that customers gave back at the moment.
+    CustomerReturn {
+        at: Moment,
+        lines: Lines<ReturnLine>,
+    },
+    /// Goods that went back to suppliers at the moment.
+    SupplierReturn {
+        at: Moment,
+        lines: Lines<ReturnLine>,
+    },
+    /// A charge for transport, duties or handling of goods that were received (IAS 2.10 and 11), from 0 to 10^12
+    /// minor units, which is parted over lines of receipts. It moves no goods.
+    Landed {
+        charge: Minor,
+        basis: Basis,
+        targets: Lines<Target>,
     },
 }
 
@@ -97,6 +154,33 @@ impl CopyLine for IssueLine {
     }
 }
 
+impl CopyLine for TransferLine {
+    fn copy(&self, alloc: Global) -> Result<TransferLine, NoMemory> {
+        Ok(TransferLine {
+            item: self.item.copy(alloc)?,
+            from: self.from.copy(alloc)?,
+            to: self.to.copy(alloc)?,
+            qty: self.qty,
+        })
+    }
+}
+
+impl CopyLine for ReturnLine {
+    fn copy(&self, alloc: Global) -> Result<ReturnLine, NoMemory> {
+        Ok(ReturnLine {
+            target: self.target,
+            store: self.store.copy(alloc)?,
+            qty: self.qty,
+        })
+    }
+}
+
+impl CopyLine for Target {
+    fn copy(&self, _alloc: Global) -> Result<Target, NoMemory> {
+        Ok(*self)
+    }
+}
+
 impl What {
     /// An equal value.
     pub fn copy(&self, alloc: Global) -> Result<What, NoMemory>
@@ -119,6 +203,27 @@ impl What {
                 at: *at,
                 purpose: *purpose,
                 lines: copy_lines(alloc, lines.as_slice())?,
+            }),
+            What::Transfer { at, lines } => Ok(What::Transfer {
+                at: *at,
+                lines: copy_lines(alloc, lines.as_slice())?,
+            }),
+            What::CustomerReturn { at, lines } => Ok(What::CustomerReturn {
+                at: *at,
+                lines: copy_lines(alloc, lines.as_slice())?,
+            }),
+            What::SupplierReturn { at, lines } => Ok(What::SupplierReturn {
+                at: *at,
+                lines: copy_lines(alloc, lines.as_slice())?,
+            }),
+            What::Landed {
+                charge,
+                basis,
+                targets,
+            } => Ok(What::Landed {
+                charge: *charge,
+                basis: *basis,
+                targets: copy_lines(alloc, targets.as_slice())?,
             }),
         }
     }

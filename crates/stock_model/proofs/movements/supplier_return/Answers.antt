@@ -1,0 +1,7 @@
+use Rattle.std.proofs.Common.{[], ◌∷◌, ap}
+use Rattle.stock_model.specs.declared.seen.Move.{Move}
+use Rattle.stock_model.proofs.SeenLines.{move-same}
+use Rattle.stock_model.proofs.movements.supplier_return.Goals as goal
+
+pub returns-in-OfTarget : goal.returns-in-OfTarget
+returns-in-OfTarget c = rw c.in-OfTarget.is (ap (λ (one : Move). one ∷ []) (move-same _ _ c.leaving.ensures.side c.leaving.ensures.cause))

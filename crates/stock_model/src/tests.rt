@@ -1,0 +1,210 @@
+//! A small journal with vouchers of all kinds, over ample memory.
+
+use crate::landed::added;
+use crate::masters::{code_of, heads, item_with, store_with};
+use crate::movements::count;
+use crate::posting::posting_line;
+use crate::records::Record;
+use crate::vouchers::{Basis, IssueLine, Purpose, ReceiptLine, ReturnLine, TransferLine, What};
+use std::alloc::Global;
+use std::test::Fail;
+use stock_nums::cause::{Method, Target};
+use stock_nums::code::Code;
+use stock_nums::entry::Entry;
+use stock_nums::lines::Lines;
+use stock_nums::memory::NoMemory;
+use stock_nums::moment::Moment;
+use stock_nums::numbers::{AccountNo, DeskNo, ItemNo, Minor, Qty, RecordNo, StoreNo};
+use stock_nums::place::Side;
+
+const NINE: Moment = Moment {
+    date: 20_260_102,
+    second: 32_400,
+};
+
+fn target(voucher: u32) -> Target {
+    Target {
+        voucher: RecordNo(voucher),
+        line: 1,
+    }
+}
+
+fn item(alloc: Global) -> Result<Record, NoMemory> {
+    Ok(Record {
+        desk: DeskNo(0),
+        what: What::Item {
+            code: Code::of(alloc, "A")?,
+            method: Method::Average,
+        },
+    })
+}
+
+fn store(alloc: Global, code: &str) -> Result<Record, NoMemory> {
+    Ok(Record {
+        desk: DeskNo(0),
+        what: What::Store {
+            code: Code::of(alloc, code)?,
+            account: AccountNo(100),
+        },
+    })
+}
+
+fn receipt(alloc: Global) -> Result<Record, NoMemory> {
+    let mut lines = Lines::new(alloc);
+    lines.push(ReceiptLine {
+        item: Code::of(alloc, "A")?,
+        store: Code::of(alloc, "W1")?,
+        qty: Qty(4),
+        amount: Minor(100),
+    })?;
+    Ok(Record {
+        desk: DeskNo(0),
+        what: What::Receipt { at: NINE, lines },
+    })
+}
+
+fn transfer(alloc: Global) -> Result<Record, NoMemory> {
+    let mut lines = Lines::new(alloc);
+    lines.push(TransferLine {
+        item: Code::of(alloc, "A")?,
+        from: Code::of(alloc, "W1")?,
+        to: Code::of(alloc, "W2")?,
+        qty: Qty(3),
+    })?;
+    Ok(Record {
+        desk: DeskNo(0),
+        what: What::Transfer { at: NINE, lines },
+    })
+}
+
+fn sale(alloc: Global) -> Result<Record, NoMemory> {
+    let mut lines = Lines::new(alloc);
+    lines.push(IssueLine {
+        item: Code::of(alloc, "A")?,
+        store: Code::of(alloc, "W2")?,
+        qty: Qty(2),
+    })?;
+    Ok(Record {
+        desk: DeskNo(0),
+        what: What::Issue {
+            at: NINE,
+            purpose: Purpose::Sold,
+            lines,
+        },
+    })
+}
+
+fn one_back(alloc: Global, voucher: u32, store: &str) -> Result<ReturnLine, NoMemory>
+    requires first { 1 ≤ voucher }
+    requires last { voucher ≤ 9 }
+{
+    Ok(ReturnLine {
+        target: target(voucher),
+        store: Code::of(alloc, store)?,
+        qty: Qty(1),
+    })
+}
+
+fn customer_return(alloc: Global) -> Result<Record, NoMemory> {
+    let mut lines = Lines::new(alloc);
+    lines.push(one_back(alloc, 6, "W1")?)?;
+    Ok(Record {
+        desk: DeskNo(0),
+        what: What::CustomerReturn { at: NINE, lines },
+    })
+}
+
+fn supplier_return(alloc: Global) -> Result<Record, NoMemory> {
+    let mut lines = Lines::new(alloc);
+    lines.push(one_back(alloc, 4, "W1")?)?;
+    Ok(Record {
+        desk: DeskNo(0),
+        what: What::SupplierReturn { at: NINE, lines },
+    })
+}
+
+fn landed(alloc: Global) -> Result<Record, NoMemory> {
+    let mut targets = Lines::new(alloc);
+    targets.push(Target {
+        voucher: RecordNo(4),
+        line: 1,
+    })?;
+    Ok(Record {
+        desk: DeskNo(0),
+        what: What::Landed {
+            charge: Minor(20),
+            basis: Basis::Quantity,
+            targets,
+        },
+    })
+}
+
+fn journal(alloc: Global) -> Result<Lines<Record>, NoMemory> {
+    let mut journal = Lines::new(alloc);
+    journal.push(item(alloc)?)?;
+    journal.push(store(alloc, "W1")?)?;
+    journal.push(store(alloc, "W2")?)?;
+    journal.push(receipt(alloc)?)?;
+    journal.push(transfer(alloc)?)?;
+    journal.push(sale(alloc)?)?;
+    journal.push(customer_return(alloc)?)?;
+    journal.push(supplier_return(alloc)?)?;
+    journal.push(landed(alloc)?)?;
+    Ok(journal)
+}
+
+/// The record, the side and the warehouse of a movement.
+fn seen(entry: &Entry) -> (u32, Side, u32) {
+    (entry.place.voucher.0, entry.place.side, entry.store.0)
+}
+
+#[test]
+fn vouchers_of_all_kinds_are_read(rt: HostRuntime) -> Result<(), Fail> {
+    let alloc = rt.alloc();
+    let journal = journal(alloc)?;
+    let records = journal.as_slice();
+    assert_eq!(rt; records.len(), 9);
+    let line = posting_line(alloc, records)?;
+    let mut moved = Lines::new(alloc);
+    for entry in line.as_slice() {
+        moved.push(seen(entry))?;
+    }
+    let want = [
+        (4, Side::Enters, 2),
+        (5, Side::Leaves, 2),
+        (5, Side::Enters, 3),
+        (6, Side::Leaves, 3),
+        (7, Side::Enters, 2),
+        (8, Side::Leaves, 2),
+    ];
+    assert_eq!(rt; moved.as_slice(), want.as_slice());
+    assert_eq!(rt; added(records, target(4)), 20);
+    Ok(())
+}
+
+#[test]
+fn masters_are_found_and_records_copied(rt: HostRuntime) -> Result<(), Fail> {
+    let alloc = rt.alloc();
+    let journal = journal(alloc)?;
+    let records = journal.as_slice();
+    assert_eq!(rt; records.len(), 9);
+    let heads = heads(alloc, records)?;
+    assert_eq!(rt; heads.len(), 3);
+    let second = code_of(alloc, heads.as_slice(), 3)?;
+    assert_eq!(rt; second.text(), "W2");
+    let item = Code::of(alloc, "A")?;
+    assert_eq!(rt;
+        item_with(records, &item),
+        Some((ItemNo(1), Method::Average))
+    );
+    assert_eq!(rt;
+        store_with(records, &second),
+        Some((StoreNo(3), AccountNo(100)))
+    );
+    let mut moves = 0;
+    for record in records {
+        moves += count(&record.copy(alloc)?);
+    }
+    assert_eq!(rt; moves, 6);
+    Ok(())
+}
