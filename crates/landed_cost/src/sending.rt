@@ -1,0 +1,9 @@
+//! That what is held may cross from one thread to another.
+
+use crate::shares::ShareFault;
+
+fn sent<T: Send>() {}
+
+fn what_is_held_may_cross_threads() {
+    sent::<ShareFault>();
+}
