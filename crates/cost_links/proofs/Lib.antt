@@ -1,0 +1,10 @@
+pub mod ChargeSums
+pub mod LastOne
+pub mod LinkSteps
+pub mod LinksBefore
+pub mod ReadyRows
+pub mod RowSums
+pub mod Splits
+pub mod StockMoves
+pub mod StockSteps
+pub mod TakenValues

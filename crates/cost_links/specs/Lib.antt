@@ -1,0 +1,10 @@
+pub mod Charged
+pub mod Formulas
+pub mod Linked
+pub mod Ready
+pub mod Replayed
+pub mod Rows
+pub mod Sources
+pub mod Stocks
+pub mod Tables
+pub mod Taken
