@@ -7,7 +7,7 @@ use Rattle.stock_nums.specs.declared.entry.Entry.{Entry}
 use Rattle.stock_nums.specs.declared.entry.Key.{Key}
 use Rattle.stock_nums.specs.declared.moment.Moment.{Moment}
 use Rattle.stock_nums.specs.declared.place.Place.{Place}
-use Rattle.stock_model.specs.Reports.{is_later}
+use Rattle.stock_nums.specs.Places.{is_later}
 use Rattle.stock_model.specs.Enough.{entry_key, is_of_key}
 
 -- the two places are one

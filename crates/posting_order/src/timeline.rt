@@ -2,7 +2,7 @@
 ghost use Rattle.std.specs.Prelude.{◌≡◌, ◌+◌, ◌<◌, ◌≤◌, [], length, take, slice_get, filter, not, reverse, remove, None, MatchOption, OnOk, IfSome, IfNone};
 ghost use Rattle.std.specs.List.{find};
 ghost use Rattle.std.specs.Option.{option_copied, option_map};
-ghost use Rattle.stock_model.specs.Reports.{is_later};
+ghost use Rattle.stock_nums.specs.Places.{is_later};
 ghost use Rattle.stock_model.specs.Enough.{is_of_key};
 ghost use Rattle.stock_model.specs.InOrder.{IsInPostingOrder};
 ghost use Rattle.stock_model.specs.PostingOrder.{put};

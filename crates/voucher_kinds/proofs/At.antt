@@ -1,5 +1,5 @@
 -- The record with a number, as an index finds it.
-use Rattle.std.proofs.Common.{◌≡◌, ℕ, zero, suc, ◌-◌, ◌<◌, ◌≤◌, List, length, take, get_or, Some, refl, ap, ◌∙◌, arith}
+use Rattle.std.proofs.Common.{◌≡◌, ℕ, zero, suc, ◌+◌, ◌-◌, ◌<◌, ◌≤◌, List, [], ◌∷◌, ◌++◌, length, take, get_or, Some, refl, ap, ◌∙◌, arith}
 use Rattle.std.proofs.lemmas.Option.{slice_get_read}
 use Rattle.std.proofs.lemmas.List.{append-nil}
 use Rattle.stock_model.specs.declared.records.Record.{Record}
@@ -17,3 +17,13 @@ record_at-index journal (suc n) item one held is =
 pub entries_of-index : (journal : List Record) (n : ℕ) (item : Record) → 0 < n → n ≤ length journal → item ≡ get_or journal (n - 1) item → entries_of journal n ≡ entries (take (n - 1) journal) item
 entries_of-index journal n item one held is =
     rw (record_at-index journal n item one held is) (append-nil (entries (take (n - 1) journal) item))
+
+get_or-last : {X : Type 0} (xs : List X) (x d : X) → get_or (xs ++ x ∷ []) (length xs) d ≡ x
+get_or-last [] x d = refl
+get_or-last (y ∷ ys) x d = get_or-last ys x d
+
+-- the last record of a journal with one more is that one
+pub last-pushed : (journal new : List Record) (n : ℕ) (item last : Record) → new ≡ journal ++ item ∷ [] → n ≡ length journal + 1 → last ≡ get_or new (n - 1) last → last ≡ item
+last-pushed journal new n item last grows number is =
+    let index : n - 1 ≡ length journal = omega (arith, number) in
+    is ∙ ap (λ (all : List Record). get_or all (n - 1) last) grows ∙ ap (λ (i : ℕ). get_or (journal ++ item ∷ []) i last) index ∙ get_or-last journal item last

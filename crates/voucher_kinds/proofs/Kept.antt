@@ -1,5 +1,5 @@
 -- The items and warehouses of a journal with one more record.
-use Rattle.std.proofs.Common.{◌≡◌, ℕ, ◌+◌, ◌<◌, List, [], ◌∷◌, ◌++◌, length, Option, None, Some, refl, sym, ap, ◌∙◌, arith}
+use Rattle.std.proofs.Common.{◌≡◌, ℕ, ◌+◌, ◌<◌, ◌≤◌, List, [], ◌∷◌, ◌++◌, length, Option, None, Some, refl, sym, ap, ◌∙◌, subst, arith}
 use Rattle.std.specs.Option.{option_to_list}
 use Rattle.std.specs.List.{filter_map, enumerate_from}
 use Rattle.std.proofs.lemmas.List.{length-append}
@@ -7,7 +7,18 @@ use Rattle.std.proofs.lemmas.List.Elements.{filter_map-append}
 use Rattle.item_master.specs.State.{MasterState}
 use Rattle.stock_model.specs.declared.records.Record.{Record}
 use Rattle.stock_nums.specs.declared.limits.TheConstants.{MAX_RECORDS}
+use Rattle.stock_nums.specs.LineSums.{number_of}
+use Rattle.stock_nums.specs.declared.cause.Target.{Target}
+use Rattle.stock_nums.specs.declared.entry.Entry.{Entry}
+use Rattle.stock_nums.specs.declared.line_sums.LineSums.{LineSums}
+use Rattle.stock_model.specs.Entries.{all_entries}
+use Rattle.stock_model.specs.Faults.{voucher_fault}
+use Rattle.stock_model.specs.Journals.{AreSound}
 use Rattle.stock_model.specs.Masters.{item_numbered, store_numbered}
+use Rattle.stock_model.specs.Returns.{returned, units_named}
+use Rattle.stock_model.specs.VoucherLines.{lines_of}
+use Rattle.stock_model.proofs.Growth.{all_entries-after}
+use Rattle.stock_model.proofs.ReturnedUnits.{returned-snoc, returned-within, units_at-le, AreSound-snoc}
 use Rattle.voucher_kinds.specs.Heads.{with_made}
 use Rattle.voucher_kinds.specs.Journals.{master_of, IsJournal}
 
@@ -36,10 +47,45 @@ master_of-push journal item =
     let at : 1 + length journal ≡ length journal + 1 = omega arith in
     rw (filter_map-push item_numbered 1 journal item, filter_map-push store_numbered 1 journal item, at) refl
 
+-- the empty journal
+pub IsJournal-start : (records : List Record) (master : MasterState) (units : LineSums) → records ≡ [] → master ≡ record { items = []; stores = [] }
+    → ((target : Target) → number_of units target ≡ 0) → IsJournal records master units
+IsJournal-start records master units none empty nothing =
+    let start : IsJournal [] (record { items = []; stores = [] }) units =
+    record {
+      few = omega arith;
+      master_is = refl;
+      sound = tt;
+      counted = λ target. nothing target ∙ sym (ap (λ (es : List Entry). returned es target) (all_entries-after []));
+    } in
+    subst (λ (journal : List Record). IsJournal journal master units) (sym none) (subst (λ (m : MasterState). IsJournal [] m units) (sym empty) start)
+
 -- a journal with one more record
-pub IsJournal-push : (journal new : List Record) (master with_it : MasterState) (item : Record) (n : ℕ) → IsJournal journal master → length journal < MAX_RECORDS
-    → n ≡ length journal + 1 → new ≡ journal ++ item ∷ [] → with_it ≡ with_made master n item.what → IsJournal new with_it
-IsJournal-push journal new master with_it item n is room number grows adds = record {
+pub IsJournal-push : (journal new : List Record) (master with_it : MasterState) (units with_units : LineSums) (item : Record) (n : ℕ) → IsJournal journal master units → length journal < MAX_RECORDS
+    → n ≡ length journal + 1 → new ≡ journal ++ item ∷ [] → with_it ≡ with_made master n item.what → voucher_fault journal item.what ≡ None
+    → ((target : Target) → number_of with_units target ≡ number_of units target + units_named (lines_of item.what) target) → IsJournal new with_it with_units
+IsJournal-push journal new master with_it units with_units item n is room number grows adds none more = record {
   few = rw (grows, length-append journal (item ∷ [])) (omega (arith, room));
   master_is = rw (grows, adds, number, is.master_is) (sym (master_of-push journal item));
+  sound = subst AreSound (sym grows) (AreSound-snoc journal item is.sound none);
+  counted = λ target.
+      more target ∙ ap (λ (x : ℕ). x + units_named (lines_of item.what) target) (is.counted target)
+      ∙ sym (ap (λ (all : List Record). returned (all_entries all) target) grows ∙ returned-snoc journal item target is.sound none);
 }
+
+-- the units that a journal returns of a line fit
+pub returned-fits : (journal : List Record) (master : MasterState) (units : LineSums) (target : Target) → IsJournal journal master units → number_of units target ≤ 1_000_000_000
+returned-fits journal master units target is =
+    omega (arith, is.counted target, returned-within journal target is.sound, units_at-le journal target)
+
+-- and so do they with those of a record that has no fault
+pub units-fit : (journal : List Record) (master : MasterState) (units : LineSums) (item : Record) (target : Target) → IsJournal journal master units → voucher_fault journal item.what ≡ None
+    → number_of units target + units_named (lines_of item.what) target ≤ 1_000_000_000
+units-fit journal master units item target is none =
+    omega (
+      arith,
+      is.counted target,
+      returned-snoc journal item target is.sound none,
+      returned-within (journal ++ item ∷ []) target (AreSound-snoc journal item is.sound none),
+      units_at-le (journal ++ item ∷ []) target,
+    )

@@ -1,15 +1,24 @@
--- How a journal is kept: its records, and their items and warehouses in a master.
+-- How a journal is kept: its records, their items and warehouses in a master, and the units that they return.
 use Rattle.std.specs.Prelude.{◌≡◌, ◌≤◌, List, length}
 use Rattle.item_master.specs.State.{MasterState}
 use Rattle.stock_model.specs.declared.records.Record.{Record}
 use Rattle.stock_nums.specs.declared.limits.TheConstants.{MAX_RECORDS}
+use Rattle.stock_nums.specs.LineSums.{number_of}
+use Rattle.stock_nums.specs.declared.cause.Target.{Target}
+use Rattle.stock_nums.specs.declared.line_sums.LineSums.{LineSums}
+use Rattle.stock_model.specs.Entries.{all_entries}
+use Rattle.stock_model.specs.Journals.{AreSound}
 use Rattle.stock_model.specs.Masters.{items, stores}
+use Rattle.stock_model.specs.Returns.{returned}
 
 -- the items and the warehouses of a journal
 abbrev pub master_of : List Record → MasterState
 master_of journal = record { items = items journal; stores = stores journal }
 
--- the records are no more than a journal holds, and the master has their items and warehouses
-pub record IsJournal (records : List Record) (master : MasterState) : Type 0 where
+-- the records are no more than a journal holds, none had a fault of its own at its place, the master has their items and
+-- warehouses, and the units that they return are counted
+pub record IsJournal (records : List Record) (master : MasterState) (returned_units : LineSums) : Type 0 where
   pub few : length records ≤ MAX_RECORDS
   pub master_is : master ≡ master_of records
+  pub sound : AreSound records
+  pub counted : (target : Target) → number_of returned_units target ≡ returned (all_entries records) target

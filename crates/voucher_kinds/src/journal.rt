@@ -6,28 +6,30 @@ ghost use Rattle.stock_model.specs.Faults.{voucher_fault};
 ghost use Rattle.stock_model.specs.Entries.{entries, entries_of};
 ghost use Rattle.stock_model.specs.Masters.{record_at};
 
-use crate::heads;
+use crate::{heads, returned_units};
 use item_master::master::Master;
 use std::alloc::Global;
 use std::marker::Model;
 use stock_model::faults::PostFault;
-use stock_model::names::{Listed, Names};
+use stock_model::names::{Listed, Names, Returns};
 use stock_model::records::Record;
 use stock_model::{movements, refusals};
-use stock_nums::cause::Method;
+use stock_nums::cause::{Method, Target};
 use stock_nums::code::Code;
 use stock_nums::entry::Entry;
 use stock_nums::limits::MAX_RECORDS;
+use stock_nums::line_sums::LineSums;
 use stock_nums::lines::Lines;
 use stock_nums::memory::NoMemory;
-use stock_nums::numbers::{AccountNo, ItemNo, RecordNo, StoreNo};
+use stock_nums::numbers::{AccountNo, ItemNo, Qty, RecordNo, StoreNo};
 
-/// The accepted records in the order of their numbers, and their items and warehouses, which are found
-/// without going over the records. Contracts see it as the list of the records.
+/// The accepted records in the order of their numbers, their items and warehouses, and the units that they return,
+/// which are found without going over the records. Contracts see it as the list of the records.
 #[derive(Drop)]
 pub struct Journal {
     records: Lines<Record>,
     master: Master,
+    returned_units: LineSums,
 }
 
 impl Model for Journal {
@@ -39,7 +41,7 @@ impl Model for Journal {
 
     ghost view = { λ journal. journal.records };
 
-    ghost invariant = { λ journal. IsJournal journal.records journal.master };
+    ghost invariant = { λ journal. IsJournal journal.records journal.master journal.returned_units };
 }
 
 impl Names for Journal {
@@ -52,6 +54,16 @@ impl Names for Journal {
     fn store_with(&self, code: &Code) -> Option<(StoreNo, AccountNo)> {
         self.master.store(code)
     }
+
+    fn record_at(&self, number: RecordNo) -> Option<&Record> {
+        self.at(number)
+    }
+}
+
+impl Returns for Journal {
+    fn returned(&self, target: Target) -> Qty {
+        Qty(self.returned_units.of(target) as u64)
+    }
 }
 
 impl Journal {
@@ -62,6 +74,7 @@ impl Journal {
         Journal {
             records: Lines::new(alloc),
             master: Master::new(alloc),
+            returned_units: LineSums::new(alloc),
         }
     }
 
@@ -107,11 +120,16 @@ impl Journal {
     {
         let number = self.next();
         let made = heads::made_by(&item.what);
+        returned_units::make_room(&mut self.returned_units, &item.what)?;
         if heads::add_made(&mut self.master, number, &item.what).is_err() {
             return Err(NoMemory);
         }
         match self.records.push(item) {
-            Ok(()) => Ok(number),
+            Ok(()) => {
+                let last = &self.records.as_slice()[number.0 as usize - 1];
+                returned_units::add_units(&mut self.returned_units, &last.what);
+                Ok(number)
+            }
             Err(_) => {
                 heads::take_away(&mut self.master, made);
                 Err(NoMemory)

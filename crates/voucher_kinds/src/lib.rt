@@ -7,4 +7,5 @@ pub use stock_model::vouchers::{ReceiptLine, What};
 
 mod heads;
 pub mod journal;
+mod returned_units;
 mod sending;

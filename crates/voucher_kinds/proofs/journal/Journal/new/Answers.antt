@@ -1,0 +1,8 @@
+-- The empty journal.
+use Rattle.voucher_kinds.proofs.Kept.{IsJournal-start}
+use Rattle.voucher_kinds.proofs.journal.Journal.new.Goals as goal
+
+pub invariant_of-result : goal.invariant_of-result
+invariant_of-result c =
+    IsJournal-start c.new.result c.new-2.result c.new-3.result c.new.ensures
+    (λ i. record { items = c.new-2.ensures.items i; stores = c.new-2.ensures.stores i }) c.new-3.ensures

@@ -1,0 +1,82 @@
+//! The units that vouchers return, counted for each line that they are returned of.
+ghost use Rattle.std.specs.Prelude.{◌≡◌, ◌+◌, ◌<◌, ◌^◌, ℕ, true, OnOk};
+ghost use Rattle.stock_nums.specs.LineSums.{number_of};
+ghost use Rattle.stock_nums.specs.declared.cause.Target.{Target};
+ghost use Rattle.stock_model.specs.LineViews.{seen};
+ghost use Rattle.stock_model.specs.Returns.{units_named};
+ghost use Rattle.stock_model.specs.VoucherLines.{VoucherLine, lines_of};
+ghost use Rattle.voucher_kinds.specs.ReturnedUnits.{line_has_room, has_room_at, units_of_line, units_named_at};
+
+use stock_model::line_views::{line_at, line_count};
+use stock_model::seen::{LineItem, LineView};
+use stock_model::vouchers::What;
+use stock_nums::line_sums::LineSums;
+use stock_nums::memory::NoMemory;
+
+/// Makes room for the units that the lines of the voucher return. It changes no number.
+pub(crate) fn make_room(sums: &mut LineSums, what: &What) -> Result<(), NoMemory>
+    ensures same { (target : Target) → number_of sums.new target ≡ number_of sums.old target }
+    ensures room { OnOk result ((index : ℕ) → has_room_at sums.new (lines_of what.now) index ≡ true) }
+{
+    for index in 0..line_count(what) {
+        make_room_at(sums, what, index)?;
+    }
+    Ok(())
+}
+
+// Makes room for what the line at this index returns, if there is one.
+fn make_room_at(sums: &mut LineSums, what: &What, index: usize) -> Result<(), NoMemory>
+    ensures same { (target : Target) → number_of sums.new target ≡ number_of sums.old target }
+    ensures kept { (other : ℕ) → has_room_at sums.old (lines_of what.now) other ≡ true → has_room_at sums.new (lines_of what.now) other ≡ true }
+    ensures room { OnOk result (has_room_at sums.new (lines_of what.now) index ≡ true) }
+{
+    match line_at(what, index) {
+        Some(line) => make_room_for(sums, &line),
+        None => Ok(()),
+    }
+}
+
+fn make_room_for(sums: &mut LineSums, line: &LineView<'_>) -> Result<(), NoMemory>
+    ensures same { (target : Target) → number_of sums.new target ≡ number_of sums.old target }
+    ensures kept { (other : VoucherLine) → line_has_room sums.old other ≡ true → line_has_room sums.new other ≡ true }
+    ensures room { OnOk result (line_has_room sums.new (seen line.now) ≡ true) }
+{
+    match line.item {
+        LineItem::Coded(_) => Ok(()),
+        LineItem::OfTarget(named) => sums.reserve(named.target),
+    }
+}
+
+/// Adds the units that the lines of the voucher return, for which there is room. It takes no memory.
+pub(crate) fn add_units(sums: &mut LineSums, what: &What)
+    requires room { (index : ℕ) → has_room_at sums.old (lines_of what.now) index ≡ true }
+    requires fits { (target : Target) → number_of sums.old target + units_named (lines_of what.now) target < 2 ^ 64 }
+    ensures { (target : Target) → number_of sums.new target ≡ number_of sums.old target + units_named (lines_of what.now) target }
+{
+    for index in 0..line_count(what) {
+        add_units_at(sums, what, index);
+    }
+}
+
+// Adds what the line at this index returns, if there is one.
+fn add_units_at(sums: &mut LineSums, what: &What, index: usize)
+    requires room { has_room_at sums.old (lines_of what.now) index ≡ true }
+    requires fits { (target : Target) → number_of sums.old target + units_named_at (lines_of what.now) index target < 2 ^ 64 }
+    ensures added { (target : Target) → number_of sums.new target ≡ number_of sums.old target + units_named_at (lines_of what.now) index target }
+    ensures kept { (other : ℕ) → has_room_at sums.old (lines_of what.now) other ≡ true → has_room_at sums.new (lines_of what.now) other ≡ true }
+{
+    if let Some(line) = line_at(what, index) {
+        add_units_of(sums, &line);
+    }
+}
+
+fn add_units_of(sums: &mut LineSums, line: &LineView<'_>)
+    requires room { line_has_room sums.old (seen line.now) ≡ true }
+    requires fits { (target : Target) → number_of sums.old target + units_of_line target (seen line.now) < 2 ^ 64 }
+    ensures added { (target : Target) → number_of sums.new target ≡ number_of sums.old target + units_of_line target (seen line.now) }
+    ensures kept { (other : VoucherLine) → line_has_room sums.old other ≡ true → line_has_room sums.new other ≡ true }
+{
+    if let LineItem::OfTarget(named) = line.item {
+        sums.add(named.target, u128::from(line.qty.0));
+    }
+}
