@@ -1,15 +1,16 @@
 pub mod CompactTexts
 pub mod Conversions
 pub mod FieldForms
+pub mod LineFacts
 pub mod Moments
 pub mod OneReading
 pub mod PlainTexts
 pub mod PlainTokens
-pub mod RecordTexts
 pub mod RecordUtf8
 pub mod RecordWalks
 pub mod ReplyTexts
 pub mod StoredRecords
+pub mod TargetRanges
 pub mod Texts
 pub mod UsualLines
 pub mod UsualTexts

@@ -1,11 +1,11 @@
 -- A text is read in one way at most: each step of a walk comes to one outcome at most, and never to want of
 -- memory.
-use Rattle.std.proofs.Common.{◌≡◌, ℕ, ℤ, ◌+◌, ◌≤◌, pos, Bool, true, false, ◌&&◌, nat_le, is_some, option_and_then, List, [], ◌∷◌, ◌++◌, Option, Some, None, Result, Ok, Err, IsTrue, if◌then◌else◌, inl, inr, sym, ap, ◌∙◌, subst}
+use Rattle.std.proofs.Common.{◌≡◌, ℕ, ◌+◌, ◌≤◌, Bool, true, false, ◌&&◌, nat_le, is_some, option_and_then, List, [], ◌∷◌, ◌++◌, Option, Some, None, Result, Ok, Err, IsTrue, if◌then◌else◌, inl, inr, sym, ap, ◌∙◌, subst}
 use Rattle.std.specs.Prelude.{⊤}
 use Rattle.serde_json.specs.Data.{Num, unsigned, negative, float, Data, Items, no_items, item}
 use Rattle.serde_json.specs.Find.{get, as_str, as_number, as_array, as_object}
 use Rattle.serde_json.specs.Read.{read}
-use Rattle.stock_nums.specs.Quantities.{IsLineQuantity, is_line_amount}
+use Rattle.stock_nums.specs.Targets.{is_target}
 use Rattle.stock_nums.specs.declared.moment.Moment.{Moment}
 use Rattle.stock_nums.proofs.MomentSpelling.{one_moment}
 use Rattle.stock_model.specs.Limits.{is_within_limits}
@@ -15,21 +15,21 @@ use Rattle.stock_model.specs.declared.read_faults.ReadFault.{ReadFault}
 use Rattle.stock_model.specs.declared.read_faults.ReadFault.TheVariants.{BadField, Limit, NoMemory}
 use Rattle.stock_model.specs.declared.records.Record.{Record}
 use Rattle.stock_model.specs.declared.requests.Request.{Request}
-use Rattle.stock_model.specs.declared.vouchers.IssueLine.{IssueLine}
-use Rattle.stock_model.specs.declared.vouchers.ReceiptLine.{ReceiptLine}
 use Rattle.stock_model.specs.declared.vouchers.What.{What}
+use Rattle.stock_model.specs.declared.vouchers.What.TheVariants.{Receipt, Transfer, CustomerReturn, SupplierReturn}
 use Rattle.voucher_json.specs.Walks.{GoesOn, Then, Ends, Yields, found_or_bad, IsPresent, Field, IsOptional, Optional, Elements}
 use Rattle.voucher_json.specs.FieldNames.{field_text}
 use Rattle.voucher_json.specs.Fields.{IsObject, IsText, choose, IsWord, items_count, has_other, number_outcome, IsNumber, IsMomentText, IsMoment, list_outcome, IsList, NoOther}
-use Rattle.voucher_json.specs.Records.{record_kinds, methods, purposes, IsItem, IsStore, IsReceiptLine, IsIssueLine, IsReceipt, IsIssue, IsWhat}
-use Rattle.voucher_json.specs.RecordTexts.{record_text}
+use Rattle.voucher_json.specs.Records.{record_kinds, methods, purposes, bases, IsItem, IsStore, receipt_line, issue_line, transfer_line, return_line, target_line, IsVoucher, IsIssue, IsLanded, IsWhat}
 use Rattle.voucher_json.specs.Requests.{kinds, sheets, formats, IsReport, IsOfKind, IsRequest, IsReadAs}
 use Rattle.voucher_json.specs.StoredRecords.{record_fields, IsRecord, IsRecordReadAs}
+use Rattle.voucher_json.specs.Tables.{IsMoney, Cell, a_text, a_number, an_amount, IsCell, Values, LineTable, names_of, Cells, IsLine}
 use Rattle.voucher_json.specs.Texts.{IsJson, IsWalked}
 use Rattle.voucher_json.specs.declared.kinds.Kind.{Kind}
 use Rattle.voucher_json.specs.declared.kinds.Kind.TheVariants as kind_of
 use Rattle.voucher_json.specs.declared.kinds.RecordKind.{RecordKind}
 use Rattle.voucher_json.specs.declared.kinds.RecordKind.TheVariants as record_of
+use Rattle.voucher_json.proofs.LineFacts.{LineFacts, always, made-same, receipt_line-facts, issue_line-facts, transfer_line-facts, return_line-facts, target_line-facts}
 use denote.Struct.Props.{props}
 
 -- a walk comes to one end at most, and not to want of memory
@@ -174,68 +174,33 @@ one_list : {A : Type 0} (form : FieldName → ℕ → Data → Result A ReadFaul
     → (name : FieldName) (line : ℕ) (value : Data) → IsDecided (IsList form name line value)
 one_list form decided name line value = both _ _ (given (list_outcome name line (as_array value)) (list_apart name line (as_array value))) (λ values. elements form decided name values 1)
 
--- values made of the same number, each with a fact that holds in one way only, are the same
-made-same : {A X : Type 0} (P : A → Type 0) → ((x : A) → IsProp (P x)) → (make : (x : A) → P x → X) → (x y : A) → x ≡ y → (p : P x) (q : P y) → make x p ≡ make y q
-made-same {A} P prop make x y same p q =
-    let Q : A → Type 0 = λ z. (r : P z) → make x p ≡ make z r in
-    subst Q same (λ r. ap (make x) (prop x p r)) q
-
-IsLineQuantity-prop : (qty : ℕ) → IsProp (IsLineQuantity qty)
-IsLineQuantity-prop qty = hlevel props
-
 at_most_16-prop : (n : ℕ) → IsProp (n ≤ 16)
 at_most_16-prop n = hlevel props
 
 within-prop : (what : What) → IsProp (IsTrue (is_within_limits what))
 within-prop what = hlevel props
 
-is_line_amount-prop : (amount : ℤ) → IsProp (IsTrue (is_line_amount amount))
-is_line_amount-prop amount = hlevel props
+one_money : (name : FieldName) (line : ℕ) (value : Data) → IsDecided (IsMoney name line value)
+one_money name line value = both _ _ (one_number 0 1_000_000_000_000 name line value) (λ amount. ends _)
 
--- a receipt's line from its parts
-abbrev receipt_line_of : List ℕ → List ℕ → (qty : ℕ) → IsLineQuantity qty → (amount : ℤ) → IsTrue (is_line_amount amount) → ReceiptLine
-receipt_line_of code store qty quantity amount price =
-    record { item = code; store = store; qty = record { 0 = qty }; amount = record { 0 = amount }; quantity = quantity; price = price }
+one_cell : (cell : Cell) (name : FieldName) (line : ℕ) (value : Data) → IsDecided (IsCell cell name line value)
+one_cell a_text = one_text
+one_cell (a_number least most) = one_number least most
+one_cell an_amount = one_money
 
--- receipt lines with the same parts are one line
-receipt_line-same : (a b : ReceiptLine) → a.item ≡ b.item → a.store ≡ b.store → a.qty.0 ≡ b.qty.0 → a.amount.0 ≡ b.amount.0 → a ≡ b
-receipt_line-same a b item_is store_is qty_is amount_is =
-    ap (λ (x : List ℕ). receipt_line_of x a.store a.qty.0 a.quantity a.amount.0 a.price) item_is
-    ∙ ap (λ (x : List ℕ). receipt_line_of b.item x a.qty.0 a.quantity a.amount.0 a.price) store_is
-    ∙ made-same IsLineQuantity IsLineQuantity-prop (λ (x : ℕ) (q : IsLineQuantity x). receipt_line_of b.item b.store x q a.amount.0 a.price) a.qty.0 b.qty.0 qty_is a.quantity b.quantity
-    ∙ made-same (λ (x : ℤ). IsTrue (is_line_amount x)) is_line_amount-prop (receipt_line_of b.item b.store b.qty.0 b.quantity) a.amount.0 b.amount.0 amount_is a.price b.price
+-- the fields of a table, and the next step
+one_cells : {B : Type 0} (entries : List (FieldName × Cell)) (place : ℕ) (value : Data) (next : Values entries → Result B ReadFault → Type 0) → ((values : Values entries) → IsDecided (next values)) → IsDecided (Cells entries place value next)
+one_cells [] place value next decided = decided tt
+one_cells (entry ∷ entries) place value next decided =
+    both _ _ (one_field (IsCell entry.1) (one_cell entry.1) entry.0 place value) (λ found. one_cells entries place value (λ others. next (found, others)) (λ others. decided (found, others)))
 
--- an issue's line from its parts
-abbrev issue_line_of : List ℕ → List ℕ → (qty : ℕ) → IsLineQuantity qty → IssueLine
-issue_line_of code store qty quantity = record { item = code; store = store; qty = record { 0 = qty }; quantity = quantity }
-
--- issue lines with the same parts are one line
-issue_line-same : (a b : IssueLine) → a.item ≡ b.item → a.store ≡ b.store → a.qty.0 ≡ b.qty.0 → a ≡ b
-issue_line-same a b item_is store_is qty_is =
-    ap (λ (x : List ℕ). issue_line_of x a.store a.qty.0 a.quantity) item_is
-    ∙ ap (λ (x : List ℕ). issue_line_of b.item x a.qty.0 a.quantity) store_is
-    ∙ made-same IsLineQuantity IsLineQuantity-prop (issue_line_of b.item b.store) a.qty.0 b.qty.0 qty_is a.quantity b.quantity
-
-one_receipt_line : (name : FieldName) (place : ℕ) (value : Data) → IsDecided (IsReceiptLine name place value)
-one_receipt_line name place value =
+-- a line that has a table
+one_line : {A : Type 0} (table : LineTable A) (passes : A → Bool) → LineFacts table passes → (name : FieldName) (place : ℕ) (value : Data) → IsDecided (IsLine table name place value)
+one_line {A} table passes facts name place value =
     both _ _ (one_object name place value) (λ is_one.
-    both _ _ (one_field IsText one_text field.Item place value) (λ code.
-    both _ _ (one_field IsText one_text field.Store place value) (λ store.
-    both _ _ (one_field (IsNumber 1 1_000_000_000) (one_number 1 1_000_000_000) field.Qty place value) (λ qty.
-    both _ _ (one_field (IsNumber 0 1_000_000_000_000) (one_number 0 1_000_000_000_000) field.Amount place value) (λ amount.
-    both _ _ (no_other (field.Item ∷ field.Store ∷ field.Qty ∷ field.Amount ∷ []) place value) (λ none.
-    yields (λ (line : ReceiptLine). (line.item ≡ code) × (line.store ≡ store) × (line.qty.0 ≡ qty) × (line.amount.0 ≡ pos amount))
-    (λ a b is_a is_b. receipt_line-same a b (is_a.0 ∙ sym is_b.0) (is_a.1 ∙ sym is_b.1) (is_a.2 ∙ sym is_b.2) (is_a.3 ∙ sym is_b.3))))))))
-
-one_issue_line : (name : FieldName) (place : ℕ) (value : Data) → IsDecided (IsIssueLine name place value)
-one_issue_line name place value =
-    both _ _ (one_object name place value) (λ is_one.
-    both _ _ (one_field IsText one_text field.Item place value) (λ code.
-    both _ _ (one_field IsText one_text field.Store place value) (λ store.
-    both _ _ (one_field (IsNumber 1 1_000_000_000) (one_number 1 1_000_000_000) field.Qty place value) (λ qty.
-    both _ _ (no_other (field.Item ∷ field.Store ∷ field.Qty ∷ []) place value) (λ none.
-    yields (λ (line : IssueLine). (line.item ≡ code) × (line.store ≡ store) × (line.qty.0 ≡ qty))
-    (λ a b is_a is_b. issue_line-same a b (is_a.0 ∙ sym is_b.0) (is_a.1 ∙ sym is_b.1) (is_a.2 ∙ sym is_b.2)))))))
+    one_cells table.fields place value _ (λ values.
+    both _ _ (no_other (names_of table.fields) place value) (λ none.
+    yields (λ (line : A). table.parts line ≡ values) (λ a b is_a is_b. facts.same a b (is_a ∙ sym is_b)))))
 
 one_item : (shared : List FieldName) (value : Data) → IsDecided (IsItem shared value)
 one_item shared value =
@@ -249,18 +214,28 @@ one_store shared value =
     both _ _ (one_field (IsNumber 0 1_000_000_000) (one_number 0 1_000_000_000) field.Account 0 value) (λ account.
     both _ _ (no_other (shared ++ field.Code ∷ field.Account ∷ []) 0 value) (λ none. ends _)))
 
-one_receipt : (shared : List FieldName) (value : Data) → IsDecided (IsReceipt shared value)
-one_receipt shared value =
-    both _ _ (one_field IsMoment one_moment_in field.At 0 value) (λ at.
-    both _ _ (one_field (IsList IsReceiptLine) (one_list IsReceiptLine one_receipt_line) field.Lines 0 value) (λ lines.
-    both _ _ (no_other (shared ++ field.At ∷ field.Lines ∷ []) 0 value) (λ none. ends _)))
+-- a voucher that has a moment and lines alone
+one_voucher : {A : Type 0} (table : LineTable A) → LineFacts table always → (voucher : Moment → List A → What) (shared : List FieldName) (value : Data) → IsDecided (IsVoucher table voucher shared value)
+one_voucher table facts voucher shared value =
+    both _ _
+    (both _ _ (one_field IsMoment one_moment_in field.At 0 value) (λ at.
+    both _ _ (one_field (IsList (IsLine table)) (one_list (IsLine table) (one_line table always facts)) field.Lines 0 value) (λ lines.
+    both _ _ (no_other (shared ++ field.At ∷ field.Lines ∷ []) 0 value) (λ none. ends _))))
+    (λ dated. ends _)
 
 one_issue : (shared : List FieldName) (value : Data) → IsDecided (IsIssue shared value)
 one_issue shared value =
     both _ _ (one_field IsMoment one_moment_in field.At 0 value) (λ at.
     both _ _ (one_field (IsWord purposes) (one_word purposes) field.Use 0 value) (λ purpose.
-    both _ _ (one_field (IsList IsIssueLine) (one_list IsIssueLine one_issue_line) field.Lines 0 value) (λ lines.
+    both _ _ (one_field (IsList (IsLine issue_line)) (one_list (IsLine issue_line) (one_line issue_line always issue_line-facts)) field.Lines 0 value) (λ lines.
     both _ _ (no_other (shared ++ field.At ∷ field.Use ∷ field.Lines ∷ []) 0 value) (λ none. ends _))))
+
+one_landed : (shared : List FieldName) (value : Data) → IsDecided (IsLanded shared value)
+one_landed shared value =
+    both _ _ (one_field IsMoney one_money field.Charge 0 value) (λ charge.
+    both _ _ (one_field (IsWord bases) (one_word bases) field.Basis 0 value) (λ basis.
+    both _ _ (one_field (IsList (IsLine target_line)) (one_list (IsLine target_line) (one_line target_line is_target target_line-facts)) field.Targets 0 value) (λ targets.
+    both _ _ (no_other (shared ++ field.Charge ∷ field.Basis ∷ field.Targets ∷ []) 0 value) (λ none. ends _))))
 
 one_report : (value : Data) → IsDecided (IsReport value)
 one_report value =
@@ -275,8 +250,12 @@ one_report value =
 one_what : (shared : List FieldName) (kind : RecordKind) (value : Data) → IsDecided (IsWhat shared kind value)
 one_what shared record_of.Item value = one_item shared value
 one_what shared record_of.Store value = one_store shared value
-one_what shared record_of.Receipt value = one_receipt shared value
+one_what shared record_of.Receipt value = one_voucher receipt_line receipt_line-facts Receipt shared value
 one_what shared record_of.Issue value = one_issue shared value
+one_what shared record_of.Transfer value = one_voucher transfer_line transfer_line-facts Transfer shared value
+one_what shared record_of.CustomerReturn value = one_voucher return_line return_line-facts CustomerReturn shared value
+one_what shared record_of.SupplierReturn value = one_voucher return_line return_line-facts SupplierReturn shared value
+one_what shared record_of.Landed value = one_landed shared value
 
 one_of_kind : (kind : Kind) (value : Data) → IsDecided (IsOfKind kind value)
 one_of_kind (kind_of.Post kind) value = both _ _ (one_what (field.Do ∷ []) kind value) (λ what. ends _)

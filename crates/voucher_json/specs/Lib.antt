@@ -6,6 +6,7 @@ pub mod Records
 pub mod ReplyText
 pub mod Requests
 pub mod StoredRecords
+pub mod Tables
 pub mod Texts
 pub mod UsualTexts
 pub mod Walks

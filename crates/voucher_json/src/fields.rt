@@ -1,27 +1,31 @@
 //! The fields of an object by name, each of a form.
-ghost use Rattle.std.specs.Prelude.{◌≡◌, ◌≤◌, IfOk, IfSome, option_map, option_and_then};
+ghost use Rattle.std.specs.Prelude.{◌≡◌, ◌≤◌, IsTrue, IfOk, IfSome, option_map, option_and_then};
 ghost use Rattle.serde_json.specs.View.{view};
 ghost use Rattle.serde_json.specs.Find.{get, as_str};
 ghost use Rattle.voucher_json.specs.FieldNames.{field_text};
 ghost use Rattle.voucher_json.specs.Walks.{Field, Optional, OrNoMemory};
 ghost use Rattle.voucher_json.specs.Fields.{IsText, IsWord, IsNumber, IsMoment};
-ghost use Rattle.voucher_json.specs.Records.{record_kinds, methods, purposes};
+ghost use Rattle.voucher_json.specs.Records.{record_kinds, methods, purposes, bases};
+ghost use Rattle.stock_nums.specs.Quantities.{is_line_amount};
+ghost use Rattle.voucher_json.specs.Tables.{IsMoney};
 ghost use Rattle.voucher_json.specs.Requests.{kinds, sheets, formats};
 
 use crate::field_names::field_text;
 use crate::forms::{code_in, moment_in, number_in};
 use crate::kinds::{
-    Format, Kind, RecordKind, format_named, kind_named, method_named, purpose_named,
+    Format, Kind, RecordKind, basis_named, format_named, kind_named, method_named, purpose_named,
     record_kind_named, sheet_named,
 };
 use serde_json::Value;
 use std::alloc::Global;
 use stock_model::queries::Sheet;
 use stock_model::read_faults::{FieldName, ReadFault};
-use stock_model::vouchers::Purpose;
+use stock_model::vouchers::{Basis, Purpose};
 use stock_nums::cause::Method;
 use stock_nums::code::Code;
+use stock_nums::limits::MAX_AMOUNT;
 use stock_nums::moment::Moment;
+use stock_nums::numbers::Minor;
 
 /// The code in a field.
 pub fn code_field(
@@ -67,6 +71,15 @@ pub fn number_field(
         Some(value) => number_in(value, name, line, least, most),
         None => Err(ReadFault::BadField { name, line }),
     }
+}
+
+/// The money in a field, from 0 to 10^12 minor units.
+pub fn amount_field(object: &Value, name: FieldName, line: u32) -> Result<Minor, ReadFault>
+    ensures outcome { Field IsMoney name line (view object.now) result }
+    ensures range { IfOk result (λ amount. IsTrue (is_line_amount amount.0)) }
+{
+    let amount = number_field(object, name, line, 0, MAX_AMOUNT)?;
+    Ok(Minor(amount as i64))
 }
 
 /// The whole number in a field that may be missing, from the least to the most.
@@ -158,6 +171,18 @@ pub fn purpose_field(object: &Value) -> Result<Purpose, ReadFault>
         .and_then(purpose_named)
         .ok_or(ReadFault::BadField {
             name: FieldName::Use,
+            line: 0,
+        })
+}
+
+/// By what a charge is parted.
+pub fn basis_field(object: &Value) -> Result<Basis, ReadFault>
+    ensures { Field (IsWord bases) FieldName.Basis 0 (view object.now) result }
+{
+    text_at(object, FieldName::Basis)
+        .and_then(basis_named)
+        .ok_or(ReadFault::BadField {
+            name: FieldName::Basis,
             line: 0,
         })
 }

@@ -1,11 +1,11 @@
 //! The words of the fields that have a choice of words.
 ghost use Rattle.std.specs.Prelude.{◌≡◌};
 ghost use Rattle.voucher_json.specs.Fields.{choose};
-ghost use Rattle.voucher_json.specs.Records.{record_kinds, methods, purposes};
+ghost use Rattle.voucher_json.specs.Records.{record_kinds, methods, purposes, bases};
 ghost use Rattle.voucher_json.specs.Requests.{desk_kinds, kinds, sheets, formats};
 
 use stock_model::queries::Sheet;
-use stock_model::vouchers::Purpose;
+use stock_model::vouchers::{Basis, Purpose};
 use stock_nums::cause::Method;
 
 /// What a record is of.
@@ -15,6 +15,10 @@ pub enum RecordKind {
     Store,
     Receipt,
     Issue,
+    Transfer,
+    CustomerReturn,
+    SupplierReturn,
+    Landed,
 }
 
 /// What a request does.
@@ -64,6 +68,14 @@ pub fn record_kind_named(word: &str) -> Option<RecordKind>
         Some(RecordKind::Receipt)
     } else if word == "issue" {
         Some(RecordKind::Issue)
+    } else if word == "transfer" {
+        Some(RecordKind::Transfer)
+    } else if word == "customer-return" {
+        Some(RecordKind::CustomerReturn)
+    } else if word == "supplier-return" {
+        Some(RecordKind::SupplierReturn)
+    } else if word == "landed" {
+        Some(RecordKind::Landed)
     } else {
         None
     }
@@ -90,6 +102,19 @@ pub fn purpose_named(word: &str) -> Option<Purpose>
         Some(Purpose::Sold)
     } else if word == "used" {
         Some(Purpose::Used)
+    } else {
+        None
+    }
+}
+
+/// The basis that a word of `basis` means.
+pub fn basis_named(word: &str) -> Option<Basis>
+    ensures { result ≡ choose bases word.now }
+{
+    if word == "qty" {
+        Some(Basis::Quantity)
+    } else if word == "amount" {
+        Some(Basis::Amount)
     } else {
         None
     }

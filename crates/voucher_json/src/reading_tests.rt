@@ -6,7 +6,8 @@ use std::test::Fail;
 use stock_model::queries::Query;
 use stock_model::read_faults::ReadFault;
 use stock_model::requests::Request;
-use stock_model::vouchers::{IssueLine, ReceiptLine, What};
+use stock_model::vouchers::{IssueLine, ReceiptLine, ReturnLine, TransferLine, What};
+use stock_nums::cause::Target;
 
 fn told_receipt(alloc: Global, text: &mut String, lines: &[ReceiptLine]) -> Result<(), Fail> {
     for line in lines {
@@ -26,6 +27,35 @@ fn told_issue(alloc: Global, text: &mut String, lines: &[IssueLine]) -> Result<(
     Ok(())
 }
 
+fn told_transfer(alloc: Global, text: &mut String, lines: &[TransferLine]) -> Result<(), Fail> {
+    for line in lines {
+        let (item, from, to) = (line.item.text(), line.from.text(), line.to.text());
+        let told = format!(in alloc; ", {item} {from} {to} {}", line.qty.0)?;
+        text.push_str(told.as_str())?;
+    }
+    Ok(())
+}
+
+fn told_return(alloc: Global, text: &mut String, lines: &[ReturnLine]) -> Result<(), Fail> {
+    for line in lines {
+        let (target, store) = (line.target, line.store.text());
+        let told = format!(in alloc;
+            ", {} {} {store} {}",
+            target.voucher.0, target.line, line.qty.0
+        )?;
+        text.push_str(told.as_str())?;
+    }
+    Ok(())
+}
+
+fn told_targets(alloc: Global, text: &mut String, targets: &[Target]) -> Result<(), Fail> {
+    for target in targets {
+        let told = format!(in alloc; ", {} {}", target.voucher.0, target.line)?;
+        text.push_str(told.as_str())?;
+    }
+    Ok(())
+}
+
 fn told_query(alloc: Global, query: &Query) -> Result<String, Fail> {
     let mut text = format!(in alloc; "report {:?} {}", query.sheet, query.need.0)?;
     if let Some(until) = &query.until {
@@ -40,25 +70,54 @@ fn told_query(alloc: Global, query: &Query) -> Result<String, Fail> {
     Ok(text)
 }
 
-/// The fields of a request, in words.
-fn told(alloc: Global, request: &Request) -> Result<String, Fail> {
-    match request {
-        Request::Post(What::Item { code, method }) => {
-            Ok(format!(in alloc; "item {} {method:?}", code.text())?)
-        }
-        Request::Post(What::Store { code, account }) => {
+/// The fields of a record, in words.
+fn told_what(alloc: Global, what: &What) -> Result<String, Fail> {
+    match what {
+        What::Item { code, method } => Ok(format!(in alloc; "item {} {method:?}", code.text())?),
+        What::Store { code, account } => {
             Ok(format!(in alloc; "store {} {}", code.text(), account.0)?)
         }
-        Request::Post(What::Receipt { at, lines }) => {
+        What::Receipt { at, lines } => {
             let mut text = format!(in alloc; "receipt {} {}", at.date, at.second)?;
             told_receipt(alloc, &mut text, lines.as_slice())?;
             Ok(text)
         }
-        Request::Post(What::Issue { at, purpose, lines }) => {
+        What::Issue { at, purpose, lines } => {
             let mut text = format!(in alloc; "issue {} {} {purpose:?}", at.date, at.second)?;
             told_issue(alloc, &mut text, lines.as_slice())?;
             Ok(text)
         }
+        What::Transfer { at, lines } => {
+            let mut text = format!(in alloc; "transfer {} {}", at.date, at.second)?;
+            told_transfer(alloc, &mut text, lines.as_slice())?;
+            Ok(text)
+        }
+        What::CustomerReturn { at, lines } => {
+            let mut text = format!(in alloc; "customer return {} {}", at.date, at.second)?;
+            told_return(alloc, &mut text, lines.as_slice())?;
+            Ok(text)
+        }
+        What::SupplierReturn { at, lines } => {
+            let mut text = format!(in alloc; "return to a supplier {} {}", at.date, at.second)?;
+            told_return(alloc, &mut text, lines.as_slice())?;
+            Ok(text)
+        }
+        What::Landed {
+            charge,
+            basis,
+            targets,
+        } => {
+            let mut text = format!(in alloc; "landed {} {basis:?}", charge.0)?;
+            told_targets(alloc, &mut text, targets.as_slice())?;
+            Ok(text)
+        }
+    }
+}
+
+/// The fields of a request, in words.
+fn told(alloc: Global, request: &Request) -> Result<String, Fail> {
+    match request {
+        Request::Post(what) => told_what(alloc, what),
         Request::Settle => Ok(String::from_str(alloc, "settle")?),
         Request::Report(query) => told_query(alloc, query),
     }
@@ -110,6 +169,26 @@ fn reads_each_kind(rt: HostRuntime) -> Result<(), Fail> {
         (
             r#"{"do":"issue","at":"2026-01-03T07:08:09","use":"sold","lines":[{"item":"B","store":"W1","qty":5}]}"#,
             "issue 20260103 25689 Sold, B W1 5",
+        ),
+        (
+            r#"{"do":"transfer","at":"2026-01-03T07:08:09","lines":[{"item":"B","from":"W1","to":"W2","qty":5}]}"#,
+            "transfer 20260103 25689, B W1 W2 5",
+        ),
+        (
+            r#"{"do":"customer-return","at":"2026-01-03T07:08:09","lines":[{"record":1,"line":100,"store":"W1","qty":5}]}"#,
+            "customer return 20260103 25689, 1 100 W1 5",
+        ),
+        (
+            r#"{"do":"supplier-return","at":"2026-01-03T07:08:09","lines":[{"record":4294967295,"line":1,"store":"W1","qty":5}]}"#,
+            "return to a supplier 20260103 25689, 4294967295 1 W1 5",
+        ),
+        (
+            r#"{"do":"landed","charge":1000000000000,"basis":"qty","targets":[{"record":3,"line":1},{"record":3,"line":2}]}"#,
+            "landed 1000000000000 Quantity, 3 1, 3 2",
+        ),
+        (
+            r#"{"basis":"amount","do":"landed","charge":0,"targets":[{"line":1,"record":3}]}"#,
+            "landed 0 Amount, 3 1",
         ),
     ];
     for (text, want) in table {
@@ -265,6 +344,62 @@ fn tells_the_first_fault(rt: HostRuntime) -> Result<(), Fail> {
     }
     let at_desk = read(rt.alloc(), br#"{"do":"settle"}"#, true)?;
     assert_eq!(rt; at_desk.as_str(), "bad do 0");
+    Ok(())
+}
+
+#[test]
+fn tells_faults_of_linked_vouchers(rt: HostRuntime) -> Result<(), Fail> {
+    let table = [
+        (
+            r#"{"do":"transfer","at":"2026-02-03T00:00:00","lines":[{"item":"B","from":"W1","qty":0}]}"#,
+            "bad to 1",
+        ),
+        (
+            r#"{"do":"customer-return","at":"2026-02-03T00:00:00","lines":[{"record":0}]}"#,
+            "limit record 1",
+        ),
+        (
+            r#"{"do":"supplier-return","at":"2026-02-03T00:00:00","lines":[{"record":4294967296,"line":0}]}"#,
+            "limit record 1",
+        ),
+        (
+            r#"{"do":"supplier-return","at":"2026-02-03T00:00:00","lines":[{"record":1,"line":101,"item":"B"}]}"#,
+            "limit line 1",
+        ),
+        (
+            r#"{"do":"supplier-return","at":"2026-02-03T00:00:00","lines":[{"record":1,"line":1,"store":"W1","qty":1,"item":"B"}]}"#,
+            "bad other 1",
+        ),
+        (
+            r#"{"do":"landed","charge":1000000000001,"basis":"weight"}"#,
+            "limit charge 0",
+        ),
+        (r#"{"do":"landed","charge":0,"basis":1}"#, "bad basis 0"),
+        (
+            r#"{"do":"landed","charge":0,"basis":"qty","lines":[]}"#,
+            "bad targets 0",
+        ),
+        (
+            r#"{"do":"landed","charge":0,"basis":"qty","targets":[]}"#,
+            "limit targets 0",
+        ),
+        (
+            r#"{"do":"landed","charge":0,"basis":"qty","targets":[{"record":1,"line":1},1]}"#,
+            "bad targets 2",
+        ),
+        (
+            r#"{"do":"landed","charge":0,"basis":"qty","targets":[{"record":1,"line":1,"qty":1}],"at":""}"#,
+            "bad other 1",
+        ),
+        (
+            r#"{"do":"landed","charge":0,"basis":"qty","targets":[{"record":1,"line":1}],"at":""}"#,
+            "bad other 0",
+        ),
+    ];
+    for (text, want) in table {
+        let found = read(rt.alloc(), text.as_bytes(), false)?;
+        assert_eq!(rt; found.as_str(), want, "{text}");
+    }
     Ok(())
 }
 

@@ -32,6 +32,11 @@ fn reads_what_it_writes(rt: HostRuntime) -> Result<(), Fail> {
         r#"{"at":"2026-01-02T09:00:00","desk":0,"do":"receipt","lines":[{"amount":1000,"item":"B","qty":10,"store":"W1"}]}"#,
         r#"{"at":"2026-01-02T09:00:00","desk":3,"do":"issue","lines":[{"item":"B","qty":1,"store":"W1"},{"item":"C","qty":1000000000,"store":"W2"}],"use":"sold"}"#,
         r#"{"at":"2026-01-02T09:00:00","desk":3,"do":"issue","lines":[{"item":"B","qty":1,"store":"W1"}],"use":"used"}"#,
+        r#"{"at":"2026-01-02T09:00:00","desk":0,"do":"transfer","lines":[{"from":"W1","item":"A","qty":4,"to":"W2"}]}"#,
+        r#"{"at":"2026-01-05T09:00:00","desk":0,"do":"customer-return","lines":[{"line":1,"qty":1,"record":6,"store":"W1"}]}"#,
+        r#"{"at":"2026-01-05T09:00:00","desk":2,"do":"supplier-return","lines":[{"line":100,"qty":1,"record":4294967295,"store":"W1"}]}"#,
+        r#"{"basis":"qty","charge":100,"desk":0,"do":"landed","targets":[{"line":1,"record":5}]}"#,
+        r#"{"basis":"amount","charge":1000000000000,"desk":0,"do":"landed","targets":[{"line":1,"record":5},{"line":2,"record":5}]}"#,
     ];
     for text in table {
         let found = read(rt.alloc(), text.as_bytes())?;
@@ -54,6 +59,10 @@ fn tells_the_first_fault(rt: HostRuntime) -> Result<(), Fail> {
         (r#"{"desk":0,"do":"item"}"#, "bad code 0"),
         (
             r#"{"code":"A","desk":0,"do":"item","method":"fifo","x":1}"#,
+            "bad other 0",
+        ),
+        (
+            r#"{"at":"2026-01-05T09:00:00","basis":"qty","charge":100,"desk":0,"do":"landed","targets":[{"line":1,"record":5}]}"#,
             "bad other 0",
         ),
     ];
@@ -82,6 +91,10 @@ fn knows_the_one_stored_spelling(rt: HostRuntime) -> Result<(), Fail> {
         ),
         (
             r#"{"code":"\u0041","desk":0,"do":"item","method":"fifo"}"#,
+            false,
+        ),
+        (
+            r#"{"basis":"qty","charge":100,"desk":0,"do":"landed","targets":[{"record":5,"line":1}]}"#,
             false,
         ),
     ];

@@ -1,22 +1,23 @@
 //! The stored texts of records.
-ghost use Rattle.std.specs.Prelude.{◌≡◌, ◌↔◌, ℕ, List, map, All, IsTrue, IfOk, IsUtf8};
+ghost use Rattle.std.specs.Prelude.{◌≡◌, ◌↔◌, ℕ, List, All, IsTrue, IfOk, IsUtf8};
 ghost use Rattle.serde_json.specs.View.{view};
 ghost use Rattle.stock_nums.specs.Codes.{is_code};
 ghost use Rattle.stock_model.specs.declared.records.Record.{Record};
 ghost use Rattle.stock_model.specs.declared.vouchers.What.{What};
-ghost use Rattle.voucher_json.specs.RecordTexts.{method_word, purpose_word, receipt_line_data, issue_line_data, what_data, record_data, record_text, codes_of};
+ghost use Rattle.voucher_json.specs.RecordTexts.{method_word, purpose_word, basis_word, dated_data, what_data, record_data, record_text, codes_of};
 
 use crate::moment_strings::moment_string;
+use crate::voucher_lines::{VoucherLine, lines_value};
 use serde_json::{Value, json};
 use std::alloc::{AllocError, Global};
 use stock_model::records::Record;
-use stock_model::vouchers::{IssueLine, Purpose, ReceiptLine, What};
-use stock_nums::cause::Method;
+use stock_model::vouchers::{Basis, IssueLine, Purpose, What};
+use stock_nums::cause::{Method, Target};
 use stock_nums::code::Code;
 use stock_nums::lines::Lines;
 use stock_nums::memory::NoMemory;
 use stock_nums::moment::Moment;
-use stock_nums::numbers::AccountNo;
+use stock_nums::numbers::{AccountNo, Minor};
 
 /// The stored text of a record: JSON with no space, the keys in byte order, and no line feed. The key `desk`
 /// says the desk, from 0 to 16.
@@ -51,8 +52,20 @@ fn record_value(alloc: Global, item: &Record) -> Result<Value, AllocError>
     match &item.what {
         What::Item { code, method } => item_value(alloc, desk, code, *method),
         What::Store { code, account } => store_value(alloc, desk, code, *account),
-        What::Receipt { at, lines } => receipt_value(alloc, desk, *at, lines),
+        What::Receipt { at, lines } => dated_value(alloc, desk, "receipt", *at, lines),
         What::Issue { at, purpose, lines } => issue_value(alloc, desk, *at, *purpose, lines),
+        What::Transfer { at, lines } => dated_value(alloc, desk, "transfer", *at, lines),
+        What::CustomerReturn { at, lines } => {
+            dated_value(alloc, desk, "customer-return", *at, lines)
+        }
+        What::SupplierReturn { at, lines } => {
+            dated_value(alloc, desk, "supplier-return", *at, lines)
+        }
+        What::Landed {
+            charge,
+            basis,
+            targets,
+        } => landed_value(alloc, desk, *charge, *basis, targets),
     }
 }
 
@@ -76,18 +89,19 @@ fn store_value(
     json!(in alloc; {"account": account.0, "code": code.text(), "desk": desk, "do": "store"})
 }
 
-/// The JSON value of a receipt.
-fn receipt_value(
+/// The JSON value of a voucher that has a moment and lines alone, by the word of its kind.
+fn dated_value<L: VoucherLine>(
     alloc: Global,
     desk: u32,
+    word: &str,
     at: Moment,
-    lines: &Lines<ReceiptLine>,
+    lines: &Lines<L>,
 ) -> Result<Value, AllocError>
-    ensures { IfOk result (λ value. view value ≡ what_data desk (What.Receipt at lines.now)) }
+    ensures { IfOk result (λ value. view value ≡ dated_data L.table desk word.now at lines.now) }
 {
     let at = moment_string(alloc, at)?;
-    let lines = receipt_lines_value(alloc, lines.as_slice())?;
-    json!(in alloc; {"at": at, "desk": desk, "do": "receipt", "lines": lines})
+    let lines = lines_value(alloc, lines.as_slice())?;
+    json!(in alloc; {"at": at, "desk": desk, "do": word, "lines": lines})
 }
 
 /// The JSON value of an issue.
@@ -101,50 +115,30 @@ fn issue_value(
     ensures { IfOk result (λ value. view value ≡ what_data desk (What.Issue at purpose lines.now)) }
 {
     let at = moment_string(alloc, at)?;
-    let lines = issue_lines_value(alloc, lines.as_slice())?;
+    let lines = lines_value(alloc, lines.as_slice())?;
     let word = purpose_word(purpose);
     json!(in alloc; {"at": at, "desk": desk, "do": "issue", "lines": lines, "use": word})
 }
 
-/// The JSON values of the lines of a receipt.
-fn receipt_lines_value(alloc: Global, lines: &[ReceiptLine]) -> Result<Vec<Value>, AllocError>
-    ensures { IfOk result (λ values. map view values.items ≡ map receipt_line_data lines.now) }
+/// The JSON value of a landed charge.
+fn landed_value(
+    alloc: Global,
+    desk: u32,
+    charge: Minor,
+    basis: Basis,
+    targets: &Lines<Target>,
+) -> Result<Value, AllocError>
+    ensures { IfOk result (λ value. view value ≡ what_data desk (What.Landed charge basis targets.now)) }
 {
-    let mut values = Vec::new(alloc);
-    for line in lines {
-        values.push(receipt_line_value(alloc, line)?)?;
-    }
-    Ok(values)
-}
-
-/// The JSON value of a line of a receipt.
-fn receipt_line_value(alloc: Global, line: &ReceiptLine) -> Result<Value, AllocError>
-    ensures { IfOk result (λ value. view value ≡ receipt_line_data line.now) }
-{
+    let targets = lines_value(alloc, targets.as_slice())?;
+    let word = basis_word(basis);
     json!(in alloc; {
-        "amount": line.amount.0,
-        "item": line.item.text(),
-        "qty": line.qty.0,
-        "store": line.store.text()
+        "basis": word,
+        "charge": charge.0,
+        "desk": desk,
+        "do": "landed",
+        "targets": targets
     })
-}
-
-/// The JSON values of the lines of an issue.
-fn issue_lines_value(alloc: Global, lines: &[IssueLine]) -> Result<Vec<Value>, AllocError>
-    ensures { IfOk result (λ values. map view values.items ≡ map issue_line_data lines.now) }
-{
-    let mut values = Vec::new(alloc);
-    for line in lines {
-        values.push(issue_line_value(alloc, line)?)?;
-    }
-    Ok(values)
-}
-
-/// The JSON value of a line of an issue.
-fn issue_line_value(alloc: Global, line: &IssueLine) -> Result<Value, AllocError>
-    ensures { IfOk result (λ value. view value ≡ issue_line_data line.now) }
-{
-    json!(in alloc; {"item": line.item.text(), "qty": line.qty.0, "store": line.store.text()})
 }
 
 /// The word of `method` for a cost formula.
@@ -164,5 +158,15 @@ fn purpose_word(purpose: Purpose) -> &'static str
     match purpose {
         Purpose::Sold => "sold",
         Purpose::Used => "used",
+    }
+}
+
+/// The word of `basis` for a basis.
+fn basis_word(basis: Basis) -> &'static str
+    ensures { result.now ≡ basis_word basis }
+{
+    match basis {
+        Basis::Quantity => "qty",
+        Basis::Amount => "amount",
     }
 }

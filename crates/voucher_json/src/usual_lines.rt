@@ -1,8 +1,8 @@
 //! The lines of a voucher in the usual form: their fields in the order of the documents.
 ghost use Rattle.std.specs.Prelude.{◌≡◌, ◌≤◌, ℕ, IfOk, IfSome, length, map};
-ghost use Rattle.serde_json.specs.Data.{Data};
 ghost use Rattle.serde_json.specs.View.{items_of};
-ghost use Rattle.voucher_json.specs.RecordTexts.{receipt_line_data, issue_line_data};
+ghost use Rattle.voucher_json.specs.Records.{receipt_line, issue_line};
+ghost use Rattle.voucher_json.specs.Tables.{LineTable, line_data};
 ghost use Rattle.voucher_json.specs.UsualTexts.{BeginsWithGoods, BeginsWithElement, BeginsWithElements, EndsWithLines};
 
 use crate::plain_reader::PlainReader;
@@ -17,15 +17,15 @@ use stock_nums::numbers::{Minor, Qty};
 
 /// A line of a voucher, as it is usually written.
 pub trait UsualLine: Drop {
-    ghost data_of: { Self → Data };
+    ghost table: { LineTable Self };
 
     /// The line that comes next, if it has the usual form and its numbers are in range.
     fn read_usual(alloc: Global, reader: &mut PlainReader<'_>) -> Result<Option<Self>, NoMemory>
-        ensures { IfOk result (λ found. IfSome found (λ line. BeginsWithElement reader.old (data_of line) reader.new)) };
+        ensures { IfOk result (λ found. IfSome found (λ line. BeginsWithElement reader.old (line_data table line) reader.new)) };
 }
 
 impl UsualLine for ReceiptLine {
-    ghost data_of = { receipt_line_data };
+    ghost table = { receipt_line };
 
     fn read_usual(
         alloc: Global,
@@ -53,7 +53,7 @@ impl UsualLine for ReceiptLine {
 }
 
 impl UsualLine for IssueLine {
-    ghost data_of = { issue_line_data };
+    ghost table = { issue_line };
 
     fn read_usual(
         alloc: Global,
@@ -101,7 +101,7 @@ pub fn read_last_lines<L: UsualLine>(
     alloc: Global,
     reader: &mut PlainReader<'_>,
 ) -> Result<Option<Lines<L>>, NoMemory>
-    ensures read { IfOk result (λ found. IfSome found (λ lines. EndsWithLines reader.old (items_of (map L.data_of lines)) reader.new)) }
+    ensures read { IfOk result (λ found. IfSome found (λ lines. EndsWithLines reader.old (items_of (map (line_data L.table) lines)) reader.new)) }
     ensures least { IfOk result (λ found. IfSome found (λ lines. 1 ≤ length lines)) }
     ensures most { IfOk result (λ found. IfSome found (λ lines. length lines ≤ MAX_LINES)) }
 {
@@ -122,7 +122,7 @@ fn read_usual_lines<L: UsualLine>(
     alloc: Global,
     reader: &mut PlainReader<'_>,
 ) -> Result<Option<Lines<L>>, NoMemory>
-    ensures read { IfOk result (λ found. IfSome found (λ lines. BeginsWithElements reader.old (items_of (map L.data_of lines)) reader.new)) }
+    ensures read { IfOk result (λ found. IfSome found (λ lines. BeginsWithElements reader.old (items_of (map (line_data L.table) lines)) reader.new)) }
     ensures count { IfOk result (λ found. IfSome found (λ lines. length lines ≤ MAX_LINES)) }
 {
     let mut lines = Lines::new(alloc);

@@ -1,19 +1,23 @@
 //! What a record says, from the fields of a JSON object.
-ghost use Rattle.std.specs.Prelude.{IsTrue, IfOk};
+ghost use Rattle.std.specs.Prelude.{◌≤◌, length, IsTrue, IfOk};
 ghost use Rattle.serde_json.specs.View.{view};
 ghost use Rattle.stock_model.specs.Limits.{is_within_limits};
 ghost use Rattle.voucher_json.specs.Walks.{OrNoMemory};
-ghost use Rattle.voucher_json.specs.Records.{IsItem, IsStore, IsReceipt, IsIssue, IsWhat};
+ghost use Rattle.voucher_json.specs.Records.{IsItem, IsStore, IsDated, IsIssue, IsLanded, IsWhat};
 
-use crate::fields::{code_field, method_field, moment_field, number_field, purpose_field};
+use crate::fields::{
+    amount_field, basis_field, code_field, method_field, moment_field, number_field, purpose_field,
+};
 use crate::forms::no_other;
 use crate::kinds::RecordKind;
-use crate::voucher_lines::lines_field;
+use crate::voucher_lines::{VoucherLine, lines_field};
 use serde_json::Value;
 use std::alloc::Global;
 use stock_model::read_faults::{FieldName, ReadFault};
 use stock_model::vouchers::What;
-use stock_nums::limits::MAX_SAID_ACCOUNT;
+use stock_nums::limits::{MAX_LINES, MAX_SAID_ACCOUNT};
+use stock_nums::lines::Lines;
+use stock_nums::moment::Moment;
 use stock_nums::numbers::AccountNo;
 
 /// What a record of this kind says by an object, which has the shared fields beside those of the kind.
@@ -29,8 +33,24 @@ pub fn read_what(
     match kind {
         RecordKind::Item => read_item(alloc, object, shared),
         RecordKind::Store => read_store(alloc, object, shared),
-        RecordKind::Receipt => read_receipt(alloc, object, shared),
+        RecordKind::Receipt => {
+            let (at, lines) = read_dated(alloc, object, shared)?;
+            Ok(What::Receipt { at, lines })
+        }
         RecordKind::Issue => read_issue(alloc, object, shared),
+        RecordKind::Transfer => {
+            let (at, lines) = read_dated(alloc, object, shared)?;
+            Ok(What::Transfer { at, lines })
+        }
+        RecordKind::CustomerReturn => {
+            let (at, lines) = read_dated(alloc, object, shared)?;
+            Ok(What::CustomerReturn { at, lines })
+        }
+        RecordKind::SupplierReturn => {
+            let (at, lines) = read_dated(alloc, object, shared)?;
+            Ok(What::SupplierReturn { at, lines })
+        }
+        RecordKind::Landed => read_landed(alloc, object, shared),
     }
 }
 
@@ -59,15 +79,19 @@ fn read_store(alloc: Global, object: &Value, shared: &[FieldName]) -> Result<Wha
     })
 }
 
-/// The receipt that an object says.
-fn read_receipt(alloc: Global, object: &Value, shared: &[FieldName]) -> Result<What, ReadFault>
-    ensures outcome { OrNoMemory (IsReceipt shared.now (view object.now)) result }
-    ensures limits { IfOk result (λ what. IsTrue (is_within_limits what)) }
+/// The moment and the lines of a voucher that has no fields but these.
+fn read_dated<L: VoucherLine>(
+    alloc: Global,
+    object: &Value,
+    shared: &[FieldName],
+) -> Result<(Moment, Lines<L>), ReadFault>
+    ensures outcome { OrNoMemory (IsDated L.table shared.now (view object.now)) result }
+    ensures count { IfOk result (λ dated. (1 ≤ length dated.1) × (length dated.1 ≤ MAX_LINES)) }
 {
     let at = moment_field(object, FieldName::At)?;
-    let lines = lines_field(alloc, object)?;
+    let lines = lines_field(alloc, object, FieldName::Lines)?;
     no_other(object, shared, &[FieldName::At, FieldName::Lines], 0)?;
-    Ok(What::Receipt { at, lines })
+    Ok((at, lines))
 }
 
 /// The issue that an object says.
@@ -77,8 +101,25 @@ fn read_issue(alloc: Global, object: &Value, shared: &[FieldName]) -> Result<Wha
 {
     let at = moment_field(object, FieldName::At)?;
     let purpose = purpose_field(object)?;
-    let lines = lines_field(alloc, object)?;
+    let lines = lines_field(alloc, object, FieldName::Lines)?;
     let own = [FieldName::At, FieldName::Use, FieldName::Lines];
     no_other(object, shared, &own, 0)?;
     Ok(What::Issue { at, purpose, lines })
+}
+
+/// The landed charge that an object says.
+fn read_landed(alloc: Global, object: &Value, shared: &[FieldName]) -> Result<What, ReadFault>
+    ensures outcome { OrNoMemory (IsLanded shared.now (view object.now)) result }
+    ensures limits { IfOk result (λ what. IsTrue (is_within_limits what)) }
+{
+    let charge = amount_field(object, FieldName::Charge, 0)?;
+    let basis = basis_field(object)?;
+    let targets = lines_field(alloc, object, FieldName::Targets)?;
+    let own = [FieldName::Charge, FieldName::Basis, FieldName::Targets];
+    no_other(object, shared, &own, 0)?;
+    Ok(What::Landed {
+        charge,
+        basis,
+        targets,
+    })
 }
