@@ -1,11 +1,10 @@
 -- How the parts of a book hang together, and what a kept record and a publication make of them.
 use Rattle.std.proofs.Common.{◌≡◌, ℕ, ◌+◌, ◌<◌, ◌≤◌, ◌⊎◌, List, [], ◌∷◌, ◌++◌, length, Option, None, Some, refl, sym, subst, ap, ◌∙◌, length-append, arith}
-use Rattle.std.specs.Option.{option_map, option_or}
+use Rattle.std.specs.Option.{option_map}
 use Rattle.std.proofs.lemmas.Bool.{lt-ltb, le-ltb}
 use Rattle.std.proofs.lemmas.Bool.Decides.{nat_tests}
 use Rattle.std.proofs.lemmas.List.{take-append-le, take_all}
 use Rattle.stock_model.proofs.Enough.{IsEnough-nil, IsEnough-from_none}
-use Rattle.stock_model.proofs.Formulas.{posting_line-formula}
 use Rattle.stock_model.proofs.PostingLine.{IsInPostingOrder-posting_line}
 use Rattle.stock_model.specs.InOrder.{IsInPostingOrder}
 use Rattle.quantity_check.specs.declared.running.Short.{Short}
@@ -14,7 +13,9 @@ use Rattle.quantity_check.specs.Shorts.{short_of as lacks_of}
 use Rattle.quantity_check.proofs.OwnPlaceLemmas.{HaveOwnPlaces-put_all}
 use Rattle.generation_book.specs.Shorts.{fault_of}
 use Rattle.stock_model.proofs.Growth.{all_entries-snoc, posting_line-snoc, length-posting_line}
-use Rattle.stock_model.proofs.Valuation.{AreBounded-rows_of}
+use Rattle.stock_model.proofs.Legality.{NoFault-from, AreLegal-history}
+use Rattle.stock_model.proofs.NoFaults.{neither}
+use Rattle.stock_model.proofs.LegalReplay.{AreBounded-replay}
 use Rattle.stock_nums.specs.declared.entry.Entry.{Entry}
 use Rattle.stock_nums.specs.declared.entry.Row.{Row}
 use Rattle.stock_nums.specs.declared.numbers.RecordNo.{RecordNo}
@@ -27,13 +28,14 @@ use Rattle.stock_model.specs.declared.faults.PostFault.TheVariants.{Full}
 use Rattle.stock_model.specs.Entries.{entries, all_entries}
 use Rattle.stock_model.specs.Bounds.{AreBounded}
 use Rattle.stock_model.specs.Enough.{IsEnough, shortage}
-use Rattle.stock_model.specs.Faults.{fault, fault_but_short, full, short, short_of, voucher_fault}
+use Rattle.stock_model.specs.Faults.{fault, fault_but_short, full, short, short_of}
 use Rattle.stock_nums.specs.declared.limits.TheConstants.{MAX_RECORDS, MAX_ENTRIES}
 use Rattle.stock_model.specs.declared.queries.Query.{Query}
 use Rattle.stock_model.specs.declared.queries.Need.TheVariants as need
 use Rattle.stock_model.specs.Reports.{need_at}
 use Rattle.stock_model.specs.PostingOrder.{put_all, posting_line}
-use Rattle.stock_model.specs.Replay.{rows_of, replay}
+use Rattle.stock_model.specs.Journals.{AreLegal}
+use Rattle.stock_model.specs.Replay.{replay}
 use Rattle.stock_model.specs.History as history
 use Rattle.stock_model.proofs.Histories.{covered_after-append, IsLegalAfter-append}
 use Rattle.generation_book.specs.declared.events.Event.{Event}
@@ -90,23 +92,6 @@ pub full-none : (journal : List Record) (item : Record) → length journal < MAX
     → full journal item ≡ None
 full-none journal item records room = grind (arith, nat_tests)
 
-tested_room : (journal : List Record) (item : Record) → full journal item ≡ None
-    → (length journal < MAX_RECORDS) × (length (all_entries journal) + length (entries journal item) ≤ MAX_ENTRIES)
-tested_room journal item room = (grind (arith, nat_tests), grind (arith, nat_tests))
-
-or_none : {X : Type 0} (a b : Option X) → option_or a b ≡ None → (a ≡ None) × (b ≡ None)
-or_none None b h = (refl, h)
-or_none (Some x) b h = cc
-
-map_none : {X Y : Type 0} (f : X → Y) (a : Option X) → option_map f a ≡ None → a ≡ None
-map_none f None h = refl
-map_none f (Some x) h = cc
-
--- where there is no fault but perhaps a shortage there is room
-pub room-from : (journal : List Record) (item : Record) → fault_but_short journal item ≡ None
-    → (length journal < MAX_RECORDS) × (length (all_entries journal) + length (entries journal item) ≤ MAX_ENTRIES)
-room-from journal item none = tested_room journal item (or_none (voucher_fault journal item.what) (full journal item) none).1
-
 -- and where with the record's movements one is short, that is the first fault
 fault-short : (journal : List Record) (item : Record) (s : Shortage) → fault_but_short journal item ≡ None
     → shortage (posting_line (journal ++ item ∷ [])) ≡ Some s → fault journal item ≡ Some (short_of s)
@@ -122,26 +107,7 @@ fault-none journal item none enough = rw (none, enough) refl
 -- a record with no fault has none at once
 pub at_once-none : (journal : List Record) (item : Record) → fault journal item ≡ None → fault_but_short journal item ≡ None
 unfolding fault
-at_once-none journal item none = (or_none (fault_but_short journal item) (short journal item) none).0
-
--- what it means that a record has no fault
-pub record NoFault (journal : List Record) (item : Record) : Type 0 where
-  pub sound : voucher_fault journal item.what ≡ None
-  pub records : length journal < MAX_RECORDS
-  pub few : length (all_entries journal) + length (entries journal item) ≤ MAX_ENTRIES
-  pub enough : shortage (posting_line (journal ++ item ∷ [])) ≡ None
-
-pub NoFault-from : (journal : List Record) (item : Record) → fault journal item ≡ None → NoFault journal item
-unfolding fault
-NoFault-from journal item none =
-    let first = or_none (fault_but_short journal item) (short journal item) none in
-    let room = room-from journal item first.0 in
-    record {
-      sound = (or_none (voucher_fault journal item.what) (full journal item) first.0).0;
-      records = room.0;
-      few = room.1;
-      enough = map_none short_of (shortage (posting_line (journal ++ item ∷ []))) first.1;
-    }
+at_once-none journal item none = (neither (fault_but_short journal item) (short journal item) none).0
 
 -- a legal history stays so where a record without a fault is kept
 legal-kept : (told : List Deed) (item : Record) → history.IsLegal told → fault (history.records told) item ≡ None → history.IsLegal (told ++ deed.Kept item ∷ [])
@@ -152,10 +118,10 @@ legal-published : (told : List Deed) (n : RecordNo) → history.IsLegal told →
     → history.IsLegal (told ++ deed.Published n ∷ [])
 legal-published told n legal more within = IsLegalAfter-append [] 0 told (deed.Published n ∷ []) legal (more, within, tt)
 
--- the rows of the posting line are the replay
-replay-rows : (journal : List Record) (line : List Entry) (rows : List Row) → line ≡ posting_line journal → rows ≡ rows_of line → rows ≡ replay journal
-unfolding replay
-replay-rows journal line rows posted valued = valued ∙ ap rows_of posted
+-- the records of a book are a legal journal
+pub IsBook-legal : (events : List Event) (journal : List Record) (line : List Entry) (c : ℕ) (rows : List Row) → IsBook events journal line c rows → AreLegal journal
+IsBook-legal events journal line c rows book =
+    subst AreLegal (records-deeds events journal book.counted) (AreLegal-history (deeds events journal) book.legal)
 
 -- a book after a record was kept
 pub IsBook-kept : (events : List Event) (journal : List Record) (line : List Entry) (c : ℕ) (rows : List Row) (item : Record) (longer : List Entry)
@@ -178,7 +144,7 @@ IsBook-kept events journal line c rows item longer book none posted =
 
 -- a book after all its records were published
 pub IsBook-published : (events : List Event) (journal : List Record) (line : List Entry) (c : ℕ) (rows : List Row) (accepted : RecordNo) (newer : List Row)
-    → IsBook events journal line c rows → accepted.0 ≡ length journal → c < accepted.0 → newer ≡ rows_of line → AreBounded (rows_of line)
+    → IsBook events journal line c rows → accepted.0 ≡ length journal → c < accepted.0 → newer ≡ replay journal → AreBounded (replay journal)
     → IsBook (events ++ Published accepted ∷ []) journal line accepted.0 newer
 IsBook-published events journal line c rows accepted newer book all more valued bounded =
     let told = deeds-published events journal accepted book.counted in
@@ -189,7 +155,7 @@ IsBook-published events journal line c rows accepted newer book all more valued 
       enough = book.enough;
       covers = rw (told, covered_after-append 0 (deeds events journal) (deed.Published accepted ∷ [])) refl;
       within = omega (arith, all);
-      valued = rw all (rw (take_all (length journal) journal (omega arith)) (replay-rows journal line newer book.posted valued));
+      valued = rw all (rw (take_all (length journal) journal (omega arith)) valued);
       bounded = subst AreBounded (sym valued) bounded;
       legal = rw told (legal-published (deeds events journal) accepted book.legal (rw (← book.covers) more) (rw (records-deeds events journal book.counted) (omega (arith, all))));
     }
@@ -206,7 +172,7 @@ IsBook-start =
       covers = refl;
       within = omega arith;
       valued = refl;
-      bounded = AreBounded-rows_of [] (posting_line-formula []) (omega arith) IsEnough-nil;
+      bounded = AreBounded-replay [] tt;
       legal = tt;
     }
 

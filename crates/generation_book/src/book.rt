@@ -3,7 +3,8 @@
 ghost use Rattle.std.specs.Prelude.{◌≡◌, ◌⊎◌, ◌<◌, ◌≤◌, [], ◌∷◌, ◌++◌, filter, IfOk, OnOk, OnErr, IfErr, Some, None};
 ghost use Rattle.std.specs.Option.{option_copied};
 ghost use Rattle.stock_model.specs.declared.deeds.Deed.TheVariants as deed;
-ghost use Rattle.stock_model.specs.Reports.{need_at, unmet_need, is_later, is_until, selected};
+ghost use Rattle.stock_model.specs.Reports.{need_at, unmet_need, is_until, selected};
+ghost use Rattle.stock_nums.specs.Places.{is_later};
 ghost use Rattle.stock_model.specs.Bounds.{AreBounded};
 ghost use Rattle.stock_model.specs.Entries.{entries};
 ghost use Rattle.stock_model.specs.Faults.{voucher_fault, full, fault_but_short, fault};
@@ -12,13 +13,14 @@ ghost use Rattle.stock_model.specs.Masters.{record_at};
 ghost use Rattle.generation_book.specs.Shorts.{fault_of};
 
 use crate::events::Event;
+use cost_links::replay;
 use quantity_check::running::{Running, Short};
 use std::alloc::Global;
 use std::marker::Model;
 use stock_model::faults::PostFault;
 use stock_model::queries::{Need, Query, SelectFault, Selected};
 use stock_model::records::Record;
-use stock_model::{masters, movements, replay};
+use stock_model::{masters, movements};
 use stock_nums::entry::{Entry, Row};
 use stock_nums::limits::{MAX_ENTRIES, MAX_RECORDS};
 use stock_nums::lines::Lines;
@@ -152,7 +154,8 @@ impl Book {
         if self.covered.0 >= accepted.0 {
             return Ok(self.covered);
         }
-        let rows = replay::rows_of(alloc, self.movements.timeline().entries())?;
+        let records = self.journal.records();
+        let rows = replay::rows_of(alloc, records, self.movements.timeline().entries())?;
         self.events.reserve(1)?;
         self.events.push_reserved(Event::Published(accepted));
         self.covered = accepted;

@@ -73,6 +73,38 @@ const FIRST_OUT_REPLIES: &str = r#"{"record":1,"status":"accepted"}
 {"covered":6,"report":"balance","rows":[{"item":"A","qty":9,"store":"W1","value":1170}],"status":"ok"}
 "#;
 
+// Vouchers of every kind: two of three pieces that were sold come back, a charge comes late, and goods go to another
+// warehouse and back to the supplier.
+const KINDS: &str = r#"{"do":"item","code":"B","method":"average"}
+{"do":"store","code":"W1","account":100}
+{"do":"store","code":"W2","account":101}
+{"do":"receipt","at":"2026-01-01T09:00:00","lines":[{"item":"B","store":"W1","qty":3,"amount":100}]}
+{"do":"issue","at":"2026-01-02T09:00:00","use":"sold","lines":[{"item":"B","store":"W1","qty":3}]}
+{"do":"customer-return","at":"2026-01-05T09:00:00","lines":[{"record":5,"line":1,"store":"W1","qty":1}]}
+{"do":"customer-return","at":"2026-01-03T09:00:00","lines":[{"record":5,"line":1,"store":"W1","qty":1}]}
+{"do":"transfer","at":"2026-01-06T09:00:00","lines":[{"item":"B","from":"W1","to":"W2","qty":1}]}
+{"do":"landed","charge":50,"basis":"qty","targets":[{"record":4,"line":1}]}
+{"do":"supplier-return","at":"2026-01-07T09:00:00","lines":[{"record":4,"line":1,"store":"W2","qty":1}]}
+{"do":"customer-return","at":"2026-01-08T09:00:00","lines":[{"record":5,"line":1,"store":"W1","qty":2}]}
+{"do":"settle"}
+{"do":"report","of":"balance"}
+"#;
+
+const KINDS_REPLIES: &str = r#"{"record":1,"status":"accepted"}
+{"record":2,"status":"accepted"}
+{"record":3,"status":"accepted"}
+{"record":4,"status":"accepted"}
+{"record":5,"status":"accepted"}
+{"record":6,"status":"accepted"}
+{"record":7,"status":"accepted"}
+{"record":8,"status":"accepted"}
+{"record":9,"status":"accepted"}
+{"record":10,"status":"accepted"}
+{"asked":2,"fault":"over-return","left":1,"line":1,"status":"refused"}
+{"covered":10,"status":"settled"}
+{"covered":10,"report":"balance","rows":[{"item":"B","qty":1,"store":"W1","value":50},{"item":"B","qty":0,"store":"W2","value":0}],"status":"ok"}
+"#;
+
 const SETTLE: &str = r#"{"do":"settle"}"#;
 
 const SETTLED: &str = "{\"covered\":0,\"status\":\"settled\"}\n";
@@ -101,8 +133,17 @@ const LIMITED: &str = r#"{"record":1,"status":"accepted"}
 /// The most bytes that a test writes.
 const ROOM: usize = 1000;
 
-fn sink(alloc: Global) -> Result<MemSink, NoMemory> {
-    MemSink::new(alloc, ROOM, Lines::new(alloc))
+/// A sink of which the call with this number fails, from 1, or none.
+fn sink(alloc: Global, failing: Option<u64>) -> Result<MemSink, NoMemory> {
+    MemSink::new(alloc, ROOM, calls(alloc, failing)?)
+}
+
+fn calls(alloc: Global, failing: Option<u64>) -> Result<Lines<u64>, NoMemory> {
+    let mut calls = Lines::new(alloc);
+    if let Some(number) = failing {
+        calls.push(number)?;
+    }
+    Ok(calls)
 }
 
 /// Runs a batch with ample memory, over streams that never fail. That it is done no clause says, since want
@@ -112,8 +153,8 @@ fn check(rt: &impl Abort, alloc: Global, input: &[u8], want: &str) -> Result<(),
     words.push("batch".to_string(alloc)?)?;
     let bytes = Lines::from_vec(Vec::from_slice(alloc, input)?);
     let mut input = MemSource::new(bytes, 50_000, Lines::new(alloc));
-    let mut output = sink(alloc)?;
-    let mut notes = sink(alloc)?;
+    let mut output = sink(alloc, None)?;
+    let mut notes = sink(alloc, None)?;
     let status = top::stockd(alloc, words.as_slice(), &mut input, &mut output, &mut notes);
     assert_eq!(rt; status, 0);
     assert!(rt; output.bytes() == want.as_bytes());
@@ -130,8 +171,78 @@ fn a_batch_is_answered(rt: HostRuntime) -> Result<(), Fail> {
         (FIRST, FIRST_REPLIES),
         (SALES, SALES_REPLIES),
         (FIRST_OUT, FIRST_OUT_REPLIES),
+        (KINDS, KINDS_REPLIES),
     ] {
         check(&rt, alloc, input.as_bytes(), want)?;
+    }
+    Ok(())
+}
+
+/// Which call of each stream fails, from 1, or none.
+#[derive(Clone, Copy)]
+struct Failing {
+    read: Option<u64>,
+    write: Option<u64>,
+    note: Option<u64>,
+}
+
+/// How a run over failing streams ends.
+#[derive(Drop)]
+struct Ended {
+    status: u8,
+    output: MemSink,
+    notes: MemSink,
+}
+
+/// Runs two settles of which the first read holds one whole and the front of the next.
+fn run_failing(alloc: Global, failing: Failing) -> Result<Ended, NoMemory> {
+    let mut words = Vec::new(alloc);
+    words.push("batch".to_string(alloc)?)?;
+    let mut bytes = Vec::from_slice(alloc, SETTLE.as_bytes())?;
+    bytes.push(b'\n')?;
+    bytes.extend_from_slice(SETTLE.as_bytes())?;
+    let piece = SETTLE.len() + 3;
+    let mut input = MemSource::new(Lines::from_vec(bytes), piece, calls(alloc, failing.read)?);
+    let mut output = sink(alloc, failing.write)?;
+    let mut notes = sink(alloc, failing.note)?;
+    let status = top::stockd(alloc, words.as_slice(), &mut input, &mut output, &mut notes);
+    Ok(Ended {
+        status,
+        output,
+        notes,
+    })
+}
+
+#[test]
+fn a_failure_is_told(rt: HostRuntime) -> Result<(), Fail> {
+    let alloc = rt.alloc();
+    let none = Failing {
+        read: None,
+        write: None,
+        note: None,
+    };
+    let read = Failing {
+        read: Some(2),
+        ..none
+    };
+    let write = Failing {
+        write: Some(1),
+        ..none
+    };
+    let silent = Failing {
+        note: Some(1),
+        ..read
+    };
+    for (failing, status, output, notes) in [
+        (read, 4, SETTLED, "stockd: read failed\n"),
+        (write, 5, "", "stockd: write failed\n"),
+        // Notes that fail change no status.
+        (silent, 4, SETTLED, ""),
+    ] {
+        let ended = run_failing(alloc, failing)?;
+        assert_eq!(rt; ended.status, status);
+        assert!(rt; ended.output.bytes() == output.as_bytes());
+        assert!(rt; ended.notes.bytes() == notes.as_bytes());
     }
     Ok(())
 }

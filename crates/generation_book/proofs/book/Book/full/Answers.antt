@@ -7,7 +7,8 @@ use Rattle.stock_model.specs.Faults.{voucher_fault}
 use Rattle.stock_model.proofs.Growth.{length-posting_line}
 use Rattle.generation_book.specs.State.{BookState}
 use Rattle.generation_book.specs.Book.{deeds}
-use Rattle.generation_book.proofs.Books.{history-records, full-some, full-none}
+use Rattle.stock_model.proofs.Legality.{AreSound-from}
+use Rattle.generation_book.proofs.Books.{history-records, IsBook-legal, full-some, full-none}
 use Rattle.generation_book.proofs.book.Book.full.Goals.{then-records-ge-MAX_RECORDS-via-then-records-ge-MAX_RECORDS, then-records-ge-MAX_RECORDS-via-else-records-ge-MAX_RECORDS+then-count-held}
 use Rattle.generation_book.proofs.book.Book.full.Goals as goal
 
@@ -17,12 +18,13 @@ returns-then-records-ge-MAX_RECORDS c =
     let records = history-records _ _ _ _ _ c.args.self.now.history c.self.invariant told in
     let sound : voucher_fault c.self.inside.journal c.args.item.now.what ≡ None =
     subst (λ (journal : List Record). voucher_fault journal c.args.item.now.what ≡ None) records c.requires in
+    let held_sound = AreSound-from c.self.inside.journal (IsBook-legal _ _ _ _ _ c.self.invariant) in
     let line = c.entries-held.ensures.entries ∙ c.timeline.ensures.entries in
     let held : length c.entries-held.result.now ≡ length (all_entries c.self.inside.journal) = ap length (line ∙ c.self.invariant.posted) ∙ length-posting_line c.self.inside.journal in
     let no_room : (MAX_RECORDS ≤ length c.self.inside.journal) ⊎ (MAX_ENTRIES < length (all_entries c.self.inside.journal) + length (entries c.self.inside.journal c.args.item.now)) =
     elim c.then-records-ge-MAX_RECORDS.branch [
       | then-records-ge-MAX_RECORDS-via-then-records-ge-MAX_RECORDS w ↦ inl (omega (arith, c.count-records.ensures.count))
-      | then-records-ge-MAX_RECORDS-via-else-records-ge-MAX_RECORDS+then-count-held w ↦ inr (omega (arith, c.self.invariant.few, ap length line, held, w.count.ensures c.self.inside.journal sound, w.if-count-held.true))
+      | then-records-ge-MAX_RECORDS-via-else-records-ge-MAX_RECORDS+then-count-held w ↦ inr (omega (arith, c.self.invariant.few, ap length line, held, w.count.ensures c.self.inside.journal held_sound sound, w.if-count-held.true))
     ] in
     rw (records, c.count-records.ensures.count, held) (sym (full-some c.self.inside.journal c.args.item.now no_room))
 
@@ -32,9 +34,10 @@ returns c =
     let records = history-records _ _ _ _ _ c.args.self.now.history c.self.invariant told in
     let sound : voucher_fault c.self.inside.journal c.args.item.now.what ≡ None =
     subst (λ (journal : List Record). voucher_fault journal c.args.item.now.what ≡ None) records c.requires in
+    let held_sound = AreSound-from c.self.inside.journal (IsBook-legal _ _ _ _ _ c.self.invariant) in
     let line = c.entries-held.ensures.entries ∙ c.timeline.ensures.entries in
     let held : length c.entries-held.result.now ≡ length (all_entries c.self.inside.journal) = ap length (line ∙ c.self.invariant.posted) ∙ length-posting_line c.self.inside.journal in
-    let new = c.count.ensures c.self.inside.journal sound in
+    let new = c.count.ensures c.self.inside.journal held_sound sound in
     rw records
     (sym
     (full-none c.self.inside.journal c.args.item.now (omega (arith, c.count-records.ensures.count, c.if-records-ge-MAX_RECORDS.false))

@@ -10,7 +10,8 @@ use Rattle.generation_book.specs.State.{BookState}
 use Rattle.generation_book.specs.Book.{deeds}
 use Rattle.generation_book.specs.declared.events.Event.{Event}
 use Rattle.generation_book.specs.declared.events.Event.TheVariants.{Kept}
-use Rattle.generation_book.proofs.Books.{records-deeds, history-records, NoFault-from, IsBook-kept, deeds-kept, put_all-entries, entries-own_places, entries-enough, at_once-none}
+use Rattle.stock_model.proofs.Legality.{NoFault-from}
+use Rattle.generation_book.proofs.Books.{records-deeds, history-records, IsBook-kept, deeds-kept, put_all-entries, entries-own_places, entries-enough, at_once-none}
 use Rattle.generation_book.proofs.book.Book.post.Goals as goal
 
 pub push-requires-clause-room : goal.push-requires-clause-room

@@ -1,15 +1,15 @@
 -- Everything is covered already, or all records are published.
 use Rattle.std.proofs.Common.{[], ◌∷◌, ◌++◌, ◌≡◌, sym, ap, ◌∙◌, subst, arith, List, Result, Ok, Err, OnErr}
-use Rattle.stock_nums.specs.declared.entry.Entry.{Entry}
+use Rattle.stock_model.specs.declared.records.Record.{Record}
 use Rattle.stock_model.specs.Bounds.{AreBounded}
-use Rattle.stock_model.specs.Formulas.{HaveOneFormula}
-use Rattle.stock_model.specs.Replay.{rows_of}
-use Rattle.stock_model.proofs.Formulas.{posting_line-formula}
+use Rattle.stock_model.specs.Journals.{AreLegal}
+use Rattle.stock_model.specs.PostingOrder.{posting_line}
+use Rattle.stock_model.specs.Replay.{replay}
 use Rattle.generation_book.specs.State.{BookState}
 use Rattle.generation_book.specs.Book.{deeds}
 use Rattle.generation_book.specs.declared.events.Event.{Event}
 use Rattle.generation_book.specs.declared.events.Event.TheVariants.{Published}
-use Rattle.generation_book.proofs.Books.{history-accepted, history-covered, settled-same, settled-more, IsBook-published, deeds-published}
+use Rattle.generation_book.proofs.Books.{history-accepted, history-covered, settled-same, settled-more, IsBook-legal, IsBook-published, deeds-published}
 use Rattle.generation_book.proofs.book.Book.settle_all.Goals as goal
 
 -- what holds, holds where there is an error
@@ -43,16 +43,19 @@ returns-then-self-accepted-clause-covered c =
     let told : deeds c.self.inside.events.items c.self.inside.journal ≡ c.args.self.now.history = ap (λ (b : BookState). b.history) c.self.view_is in
     omega (arith, history-accepted _ _ _ _ _ c.args.self.now.history c.self.invariant told, c.self.invariant.within, c.count.ensures.count)
 
-pub rows_of-requires-clause-formulas : goal.rows_of-requires-clause-formulas
-rows_of-requires-clause-formulas c =
-    subst HaveOneFormula (sym (c.entries.ensures.entries ∙ c.timeline.ensures.entries ∙ c.self.invariant.posted)) (posting_line-formula c.self.inside.journal)
+pub rows_of-requires-clause-legal : goal.rows_of-requires-clause-legal
+rows_of-requires-clause-legal c = subst AreLegal (sym c.records-records.ensures.records) (IsBook-legal _ _ _ _ _ c.self.invariant)
+
+pub rows_of-requires-clause-line : goal.rows_of-requires-clause-line
+rows_of-requires-clause-line c =
+    c.entries.ensures.entries ∙ c.timeline.ensures.entries ∙ c.self.invariant.posted ∙ ap posting_line (sym c.records-records.ensures.records)
 
 pub invariant_of-self-2 : goal.invariant_of-self-2
 invariant_of-self-2 c =
     let events = c.push_reserved.ensures.items ∙ ap (λ (es : List Event). es ++ Published (record { 0 = c.count.result }) ∷ []) c.in_ok-reserve.ensures.items in
     rw events
     (IsBook-published c.self.inside.events.items c.self.inside.journal c.self.inside.movements.entries c.self.inside.covered.0 c.self.inside.rows (record { 0 = c.count.result }) c.in_ok-rows.rows c.self.invariant c.count.ensures.count (omega arith)
-    (c.in_ok-rows.ensures.rows ∙ ap rows_of (c.entries.ensures.entries ∙ c.timeline.ensures.entries)) (subst (λ (line : List Entry). AreBounded (rows_of line)) (c.entries.ensures.entries ∙ c.timeline.ensures.entries) c.rows_of.ensures.bounded))
+    (c.in_ok-rows.ensures.rows ∙ ap replay c.records-records.ensures.records) (subst (λ (records : List Record). AreBounded (replay records)) c.records-records.ensures.records c.rows_of.ensures.bounded))
 
 pub returns-clause-settled : goal.returns-clause-settled
 returns-clause-settled c =
