@@ -1,7 +1,7 @@
 """Answers the lines of standard input as the rules of the ledger say, slowly, and with nothing of the program in it.
 
 It is the judge of bench/run: the rules are stated here once more, in plain words of their own. Nothing is kept from one
-answer to the next but the masters, the accepted movements, and how many records there are and are covered. Each post sorts
+answer to the next but the masters, the accepted vouchers and movements, and how many records are covered. Each post sorts
 and goes through all movements, and each report values them from nothing.
 """
 import collections
@@ -55,12 +55,19 @@ def lines_of(form):
     return lambda it: type(it) is list and 1 <= len(it) <= 100 and all(has_form(line, form, {}) for line in it)
 
 
-GOODS = {"item": is_code, "store": is_code, "qty": whole(1, 10**9)}
+UNITS = {"qty": whole(1, 10**9)}
+GOODS = {"item": is_code, "store": is_code, **UNITS}
+TARGET = {"record": whole(1, 2**32 - 1), "line": whole(1, 100)}
+RETURN = {"at": is_moment, "lines": lines_of({**TARGET, "store": is_code, **UNITS})}
 FORMS = {
     "item": {"code": is_code, "method": text("average", "fifo")},
     "store": {"code": is_code, "account": whole(100, 9999)},
     "receipt": {"at": is_moment, "lines": lines_of({**GOODS, "amount": whole(0, 10**12)})},
     "issue": {"at": is_moment, "use": text("sold", "used"), "lines": lines_of(GOODS)},
+    "transfer": {"at": is_moment, "lines": lines_of({"item": is_code, "from": is_code, "to": is_code, **UNITS})},
+    "customer-return": RETURN,
+    "supplier-return": RETURN,
+    "landed": {"charge": whole(0, 10**12), "basis": text("qty", "amount"), "targets": lines_of(TARGET)},
     "settle": {},
     "report": {"of": text("balance", "layers")},
 }
@@ -113,11 +120,16 @@ class Movement(NamedTuple):
     item: int
     store: int
     qty: int
-    amount: int  # the purchase price of what enters, and 0 of what leaves
+    amount: int  # the purchase price of a receipt's line, and else 0
     method: str  # the item's
+    target: tuple | None  # the record and line that a return is of
+    whole: int  # how many units the target has
 
     def key(self):
         return self.item, self.store
+
+    def own_line(self):
+        return self.record, self.line
 
 
 def first_shortage(movements):
@@ -158,7 +170,7 @@ def first_cost(entered, units):
     return cost
 
 
-def cost_of_issue(it, rows):
+def cost_of_leaving(it, rows):
     """Returns what the units that leave cost by their item's method, after the rows."""
     if it.method == "fifo":
         entered, left = entered_and_left(rows, it.key())
@@ -167,11 +179,33 @@ def cost_of_issue(it, rows):
     return half_up(worth, it.qty, stock)
 
 
-def valued(movements):
-    """Returns the movements in posting order, each with its value, found from the rows before it."""
+def part(total, before, taken, whole):
+    """Returns what some of the whole have of a total, after those before them: a difference of two shares, each rounded down."""
+    return total * (before + taken) // whole - total * before // whole
+
+
+def cost_of_line(line, rows):
+    """Returns what the movement of this line that leaves is worth."""
+    return next(value for it, value in rows if it.own_line() == line and it.side == LEAVES)
+
+
+def value_of(it, rows, charges):
+    """Returns what the movement is worth, after the rows."""
+    if it.side == LEAVES:
+        return cost_of_leaving(it, rows)
+    if it.target is not None:
+        back = sum(other.qty for other, _ in rows if other.target == it.target)
+        return part(cost_of_line(it.target, rows), back, it.qty, it.whole)
+    if any(other.own_line() == it.own_line() for other, _ in rows):
+        return cost_of_line(it.own_line(), rows)  # goods that arrive by a transfer
+    return it.amount + charges[it.own_line()]
+
+
+def valued(movements, charges):
+    """Returns the movements in posting order, each with its value, found from the rows before it and the landed charges."""
     rows = []
     for it in sorted(movements):
-        rows.append((it, it.amount if it.side == ENTERS else cost_of_issue(it, rows)))
+        rows.append((it, value_of(it, rows, charges)))
     return rows
 
 
@@ -208,16 +242,26 @@ def refused(fault, **data):
     return {"fault": fault, **data, "status": "refused"}
 
 
-def first_unknown(lines, field, known):
-    """Returns the number of the first line whose code in this field is not known; or None."""
-    return next((number for number, line in enumerate(lines, 1) if line[field] not in known), None)
+def first_of(things, test):
+    """Returns the number, from 1, of the first that passes the test; or None."""
+    return next((number for number, thing in enumerate(things, 1) if test(thing)), None)
+
+
+def target_of(line):
+    return line["record"], line["line"]
+
+
+def is_target_kind(it, kind):
+    """Whether a voucher is such that a return or a charge of this kind may name its lines."""
+    return it["do"] == "issue" and it["use"] == "sold" if kind == "customer-return" else it["do"] == "receipt"
 
 
 class Ledger:
     def __init__(self):
         self.items, self.stores = {}, {}  # the record's number by the code
         self.methods = {}  # by the item's number
-        self.records = self.covered = 0
+        self.accepted = []  # what was accepted, as it was posted
+        self.covered = 0
         self.movements = []
 
     def answer(self, line):
@@ -226,49 +270,115 @@ class Ledger:
         if it is None:
             return BAD
         if it["do"] == "settle":
-            self.covered = self.records
+            self.covered = len(self.accepted)
             return {"covered": self.covered, "status": "settled"}
         return self.report(it) if it["do"] == "report" else self.post(it)
 
     def masters_of(self, it):
         return {"item": self.items, "store": self.stores}.get(it["do"])
 
+    def line_at(self, target, kind):
+        """Returns the line of an accepted voucher that is named, where one of this kind may name it; or None."""
+        record, line = target
+        if record > len(self.accepted) or not is_target_kind(self.accepted[record - 1], kind):
+            return None
+        lines = self.accepted[record - 1]["lines"]
+        return lines[line - 1] if line <= len(lines) else None
+
+    def left_of(self, target):
+        """Returns how many units of a line were not returned."""
+        record, line = target
+        back = sum(it.qty for it in self.movements if it.target == target)
+        return self.accepted[record - 1]["lines"][line - 1]["qty"] - back
+
+    def line_fault(self, it):
+        """Returns the refusal for the first unknown item, the first unknown warehouse, or the first line that stays; or None."""
+        lines = it.get("lines", [])
+        for fault, test in (
+            ("unknown-item", lambda line: "item" in line and line["item"] not in self.items),
+            ("unknown-store", lambda line: any(line[field] not in self.stores for field in ("store", "from", "to") if field in line)),
+            ("same-store", lambda line: "from" in line and line["from"] == line["to"]),
+        ):
+            number = first_of(lines, test)
+            if number is not None:
+                return refused(fault, line=number)
+        return None
+
+    def target_fault(self, it):
+        """Returns the refusal for the first fault of the lines of earlier vouchers that are named; or None."""
+        if it["do"] not in ("customer-return", "supplier-return", "landed"):
+            return None
+        named = it.get("targets", it.get("lines"))
+        targets = [target_of(line) for line in named]
+        for fault, test in (
+            ("unknown-target", lambda line: self.line_at(target_of(line), it["do"]) is None),
+            ("link-later", lambda line: "at" in it and self.accepted[line["record"] - 1]["at"] > it["at"]),
+        ):
+            number = first_of(named, test)
+            if number is not None:
+                return refused(fault, line=number)
+        number = first_of(range(len(targets)), lambda index: targets[index] in targets[:index])
+        if number is not None:
+            return refused("repeated-target", line=number)
+        if it["do"] == "landed":
+            return refused("no-basis") if sum(self.weights(it)) == 0 else None
+        number = first_of(named, lambda line: line["qty"] > self.left_of(target_of(line)))
+        if number is None:
+            return None
+        return refused("over-return", asked=named[number - 1]["qty"], left=self.left_of(targets[number - 1]), line=number)
+
+    def weights(self, it):
+        return [self.line_at(target_of(target), "landed")[it["basis"]] for target in it["targets"]]
+
+    def charges(self, covered):
+        """Returns what the vouchers among the first so many charge to each line of a receipt."""
+        charges = collections.Counter()
+        for it in self.accepted[:covered]:
+            if it["do"] == "landed":
+                before, weights = 0, self.weights(it)
+                for target, weight in zip(it["targets"], weights):
+                    charges[target_of(target)] += part(it["charge"], before, weight, sum(weights))
+                    before += weight
+        return charges
+
     def voucher_fault(self, it):
         """Returns the refusal for the first fault of what is posted, whatever room and goods there are; or None."""
         masters = self.masters_of(it)
         if masters is not None:
             return refused("code-taken") if it["code"] in masters else None
-        for fault, field, known in (("unknown-item", "item", self.items), ("unknown-store", "store", self.stores)):
-            number = first_unknown(it["lines"], field, known)
-            if number is not None:
-                return refused(fault, line=number)
-        return None
+        return self.line_fault(it) or self.target_fault(it)
 
     def post(self, it):
         fault = self.voucher_fault(it)
         if fault is not None:
             return fault
-        new = [self.movement(it, number, line) for number, line in enumerate(it.get("lines", []), 1)]
-        if self.records >= MOST_RECORDS or len(self.movements) + len(new) > MOST_MOVEMENTS:
-            return refused("full", records=self.records, entries=len(self.movements))
+        new = [movement for number, line in enumerate(it.get("lines", []), 1) for movement in self.movements_of(it, number, line)]
+        if len(self.accepted) >= MOST_RECORDS or len(self.movements) + len(new) > MOST_MOVEMENTS:
+            return refused("full", records=len(self.accepted), entries=len(self.movements))
         found = first_shortage(self.movements + new)
         if found is not None:
             return self.short(*found)
         self.movements += new
-        self.records += 1
+        self.accepted.append(it)
         masters = self.masters_of(it)
         if masters is not None:
-            masters[it["code"]] = self.records
+            masters[it["code"]] = len(self.accepted)
         if it["do"] == "item":
-            self.methods[self.records] = it["method"]
-        return {"record": self.records, "status": "accepted"}
+            self.methods[len(self.accepted)] = it["method"]
+        return {"record": len(self.accepted), "status": "accepted"}
 
-    def movement(self, it, number, line):
-        """Returns the movement that the line with this number makes of the next record."""
-        side = ENTERS if it["do"] == "receipt" else LEAVES
-        item, store = self.items[line["item"]], self.stores[line["store"]]
-        place = it["at"], self.records + 1, number, side
-        return Movement(*place, item, store, line["qty"], line.get("amount", 0), self.methods[item])
+    def movements_of(self, it, number, line):
+        """Returns the movements that the line with this number makes of the next record."""
+        target = target_of(line) if "record" in line else None
+        whole = None if target is None else self.line_at(target, it["do"])
+        item = self.items[(line if target is None else whole)["item"]]
+        sides = {"receipt": [ENTERS], "customer-return": [ENTERS], "transfer": [LEAVES, ENTERS]}.get(it["do"], [LEAVES])
+        stores = [line["from"], line["to"]] if it["do"] == "transfer" else [line["store"]]
+        return [
+            Movement(it["at"], len(self.accepted) + 1, number, side, item, self.stores[store], line["qty"], line.get("amount", 0),
+                     self.methods[item], target, 0 if target is None else whole["qty"])
+            for side, store in zip(sides, stores)
+        ]
 
     def short(self, it, lacking):
         """Returns the refusal that names the movement with which so many units are lacking."""
@@ -282,11 +392,11 @@ class Ledger:
 
     def report(self, it):
         need = it.get("need", 0)
-        if need > self.records:
-            return {"accepted": self.records, "need": need, "status": "no-such-record"}
+        if need > len(self.accepted):
+            return {"accepted": len(self.accepted), "need": need, "status": "no-such-record"}
         if need > self.covered:
             return {"covered": self.covered, "need": need, "status": "pending"}
-        rows = valued([movement for movement in self.movements if movement.record <= self.covered])
+        rows = valued([movement for movement in self.movements if movement.record <= self.covered], self.charges(self.covered))
         shown = self.sheet(it, [row for row in rows if row[0].at <= it.get("until", row[0].at)])
         return {"covered": self.covered, "report": it["of"], "rows": shown, "status": "ok"}
 

@@ -1,0 +1,100 @@
+"""Makes the inputs of the runs with vouchers of all kinds: one in random order, and one for how settlements grow.
+
+Returns and landed charges name lines of vouchers that were accepted, mostly; the judge says which were.
+"""
+import datetime
+import json
+import random
+
+import plain_replay
+
+MOVEMENTS = 3_900
+SETTLES = 10
+STORES = ["MAIN", "SHOP", "VAN"]
+ITEMS = {"BOLT": "fifo", "NUT": "average", "OIL": "average", "TAPE": "fifo"}
+# By how much each kind is more frequent than the rarest.
+KINDS = {"receipt": 8, "issue": 7, "transfer": 6, "customer-return": 3, "supplier-return": 2, "landed": 2}
+
+
+class Maker:
+    def __init__(self, seed, moments):
+        self.chance = random.Random(seed)
+        start = datetime.datetime(2026, 1, 1)
+        # Few moments, so that many vouchers share a second.
+        self.moments = [(start + datetime.timedelta(seconds=self.chance.randrange(86_400 * 90))).isoformat() for _ in range(moments)]
+        self.ledger = plain_replay.Ledger()
+        self.lines = []
+        for number, code in enumerate(STORES):
+            self.post({"do": "store", "code": code, "account": 100 + number})
+        for code, method in ITEMS.items():
+            self.post({"do": "item", "code": code, "method": method})
+
+    def post(self, it):
+        """Adds a posting, and notes with the judge whether it is accepted."""
+        line = json.dumps(it, separators=(",", ":"))
+        self.lines.append(line)
+        self.ledger.answer(line.encode())
+
+    def movements(self):
+        return len(self.ledger.movements)
+
+    def target(self, kind):
+        """Returns the record and a line of an accepted voucher that this kind may name; one in nine is any record's."""
+        numbered = [number for number, it in enumerate(self.ledger.accepted, 1) if "lines" in it and plain_replay.is_target_kind(it, kind)]
+        if not numbered or self.chance.randrange(9) == 0:
+            return {"record": self.chance.randint(1, len(self.ledger.accepted) + 1), "line": self.chance.randint(1, 3)}
+        record = self.chance.choice(numbered)
+        return {"record": record, "line": self.chance.randint(1, len(self.ledger.accepted[record - 1]["lines"]))}
+
+    def line(self, kind):
+        chance = self.chance
+        if kind in ("customer-return", "supplier-return"):
+            return {**self.target(kind), "store": chance.choice(STORES), "qty": chance.randint(1, 4)}
+        if kind == "landed":
+            return self.target(kind)
+        item = {"item": chance.choice(list(ITEMS))}
+        if kind == "transfer":
+            return {**item, "from": chance.choice(STORES), "to": chance.choice(STORES), "qty": chance.randint(1, 9)}
+        if kind == "issue":
+            return {**item, "store": chance.choice(STORES), "qty": chance.randint(1, 11)}
+        return {**item, "store": chance.choice(STORES), "qty": chance.randint(1, 20), "amount": chance.choice([0, chance.randint(1, 9_999), chance.randint(1, 9_999)])}
+
+    def posting(self):
+        """Posts a voucher of some kind with up to three lines."""
+        chance = self.chance
+        kind = chance.choices(list(KINDS), list(KINDS.values()))[0]
+        lines = [self.line(kind) for _ in range(1 if chance.randrange(3) else chance.randint(2, 3))]
+        if kind == "landed":
+            self.post({"do": kind, "charge": chance.randint(0, 999), "basis": chance.choice(["qty", "amount"]), "targets": lines})
+            return
+        use = {"use": chance.choice(["sold", "sold", "used"])} if kind == "issue" else {}
+        self.post({"do": kind, "at": chance.choice(self.moments), **use, "lines": lines})
+
+
+def in_random_order():
+    """Returns the lines of the run in random order, with settles and reports spread among them."""
+    maker, asked = Maker(seed=31, moments=150), 0
+    while maker.movements() < MOVEMENTS:
+        maker.posting()
+        if maker.movements() * SETTLES >= (asked + 1) * MOVEMENTS:
+            asked += 1
+            maker.lines += [json.dumps(it, separators=(",", ":")) for it in (
+                {"do": "settle"}, {"do": "report", "of": "balance"}, {"do": "report", "of": "layers"},
+                {"do": "report", "of": "balance", "until": maker.chance.choice(maker.moments), "item": "NUT"},
+            )]
+    return maker.lines
+
+
+def parts_of(sizes, items):
+    """Returns pairs of lines: postings after which the accepted movements are at least so many, and so many new items, which move
+    nothing."""
+    maker, parts = Maker(seed=32, moments=40_000), []
+    for size in sizes:
+        while maker.movements() < size:
+            maker.posting()
+        postings, maker.lines = maker.lines, []
+        for number in range(items):
+            maker.post({"do": "item", "code": f"NEW-{size}-{number}", "method": "fifo"})
+        parts.append((postings, maker.lines))
+        maker.lines = []
+    return parts
