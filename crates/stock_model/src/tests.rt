@@ -22,12 +22,16 @@ const NINE: Moment = Moment {
     second: 32_400,
 };
 
-fn target(voucher: u32) -> Target {
-    Target {
-        voucher: RecordNo(voucher),
-        line: 1,
-    }
-}
+// The line of the receipt, and that of the sale.
+const BOUGHT: Target = Target {
+    voucher: RecordNo(4),
+    line: 1,
+};
+
+const SALE: Target = Target {
+    voucher: RecordNo(6),
+    line: 1,
+};
 
 fn item(alloc: Global) -> Result<Record, NoMemory> {
     Ok(Record {
@@ -94,20 +98,13 @@ fn sale(alloc: Global) -> Result<Record, NoMemory> {
     })
 }
 
-fn one_back(alloc: Global, voucher: u32, store: &str) -> Result<ReturnLine, NoMemory>
-    requires first { 1 ≤ voucher }
-    requires last { voucher ≤ 9 }
-{
-    Ok(ReturnLine {
-        target: target(voucher),
-        store: Code::of(alloc, store)?,
-        qty: Qty(1),
-    })
-}
-
 fn customer_return(alloc: Global) -> Result<Record, NoMemory> {
     let mut lines = Lines::new(alloc);
-    lines.push(one_back(alloc, 6, "W1")?)?;
+    lines.push(ReturnLine {
+        target: SALE,
+        store: Code::of(alloc, "W1")?,
+        qty: Qty(1),
+    })?;
     Ok(Record {
         desk: DeskNo(0),
         what: What::CustomerReturn { at: NINE, lines },
@@ -116,7 +113,11 @@ fn customer_return(alloc: Global) -> Result<Record, NoMemory> {
 
 fn supplier_return(alloc: Global) -> Result<Record, NoMemory> {
     let mut lines = Lines::new(alloc);
-    lines.push(one_back(alloc, 4, "W1")?)?;
+    lines.push(ReturnLine {
+        target: BOUGHT,
+        store: Code::of(alloc, "W1")?,
+        qty: Qty(1),
+    })?;
     Ok(Record {
         desk: DeskNo(0),
         what: What::SupplierReturn { at: NINE, lines },
@@ -125,10 +126,7 @@ fn supplier_return(alloc: Global) -> Result<Record, NoMemory> {
 
 fn landed(alloc: Global) -> Result<Record, NoMemory> {
     let mut targets = Lines::new(alloc);
-    targets.push(Target {
-        voucher: RecordNo(4),
-        line: 1,
-    })?;
+    targets.push(BOUGHT)?;
     Ok(Record {
         desk: DeskNo(0),
         what: What::Landed {
@@ -178,7 +176,7 @@ fn vouchers_of_all_kinds_are_read(rt: HostRuntime) -> Result<(), Fail> {
         (8, Side::Leaves, 2),
     ];
     assert_eq!(rt; moved.as_slice(), want.as_slice());
-    assert_eq!(rt; added(records, target(4)), 20);
+    assert_eq!(rt; added(records, BOUGHT), 20);
     Ok(())
 }
 
@@ -201,10 +199,10 @@ fn masters_are_found_and_records_copied(rt: HostRuntime) -> Result<(), Fail> {
         store_with(records, &second),
         Some((StoreNo(3), AccountNo(100)))
     );
-    let mut moves = 0;
+    let mut counts = Lines::new(alloc);
     for record in records {
-        moves += count(&record.copy(alloc)?);
+        counts.push(count(&record.copy(alloc)?))?;
     }
-    assert_eq!(rt; moves, 6);
+    assert_eq!(rt; counts.as_slice(), [0, 0, 0, 1, 2, 1, 1, 1, 0].as_slice());
     Ok(())
 }
