@@ -1,19 +1,15 @@
-//! A journal from its posting line to its balance sheet and its layers.
-ghost use Rattle.std.specs.Prelude.{◌^◌, ◌<◌, length, IsTrue, IfOk, IfSome};
+//! A book from its records to its balance sheet and its layers.
+ghost use Rattle.std.specs.Prelude.{◌<◌, IsTrue, IfOk};
 ghost use Rattle.stock_nums.specs.Calendar.{IsCalendarDate};
 ghost use Rattle.stock_model.specs.Bounds.{AreBounded};
 ghost use Rattle.stock_model.specs.Limits.{is_within_limits};
 
-use quantity_check::holdings::first_shortage;
+use crate::book::Book;
 use std::alloc::Global;
 use std::test::Fail;
-use stock_model::enough_laws::no_shortage_is_enough;
 use stock_model::layers::layers;
-use stock_model::masters::heads;
-use stock_model::posting::posting_line;
 use stock_model::queries::{Query, Selected, Sheet};
 use stock_model::records::Record;
-use stock_model::replay::replay;
 use stock_model::sheets::balance;
 use stock_model::vouchers::{IssueLine, Purpose, ReceiptLine, What};
 use stock_nums::cause::Method;
@@ -49,20 +45,25 @@ fn receipt(alloc: Global, date: u32, units: u8) -> Result<Record, NoMemory>
     Ok(record_of(What::Receipt { at, lines }))
 }
 
-fn journal(alloc: Global) -> Result<Lines<Record>, NoMemory> {
-    let mut records = Lines::new(alloc);
-    records.push(record_of(What::Item {
-        code: Code::of(alloc, "B")?,
-        method: Method::Average,
-    }))?;
-    records.push(record_of(What::Store {
-        code: Code::of(alloc, "W1")?,
-        account: AccountNo(100),
-    }))?;
-    records.push(receipt(alloc, 20_260_102, 10)?)?;
-    records.push(sale(alloc, 20_260_103)?)?;
-    records.push(receipt(alloc, 20_260_101, 5)?)?;
-    Ok(records)
+fn post_all(alloc: Global, book: &mut Book) -> Result<(), Fail> {
+    book.post(
+        alloc,
+        record_of(What::Item {
+            code: Code::of(alloc, "B")?,
+            method: Method::Average,
+        }),
+    )?;
+    book.post(
+        alloc,
+        record_of(What::Store {
+            code: Code::of(alloc, "W1")?,
+            account: AccountNo(100),
+        }),
+    )?;
+    book.post(alloc, receipt(alloc, 20_260_102, 10)?)?;
+    book.post(alloc, sale(alloc, 20_260_103)?)?;
+    book.post(alloc, receipt(alloc, 20_260_101, 5)?)?;
+    Ok(())
 }
 
 // One unit of B out of W1.
@@ -80,17 +81,14 @@ fn sale(alloc: Global, date: u32) -> Result<Record, NoMemory>
     Ok(record_of(What::Issue { at, purpose, lines }))
 }
 
-// The rows of the records, where these are few and there is always enough.
-fn rows_of_all(alloc: Global, records: &[Record]) -> Result<Option<Lines<Row>>, NoMemory>
-    requires { length records.now < 2 ^ 32 }
-    ensures { IfOk result (λ found. IfSome found AreBounded) }
+// What a report is made from after all of it was settled.
+fn settled(alloc: Global, query: &Query) -> Result<Selected, Fail>
+    ensures { IfOk result (λ chosen. AreBounded chosen.rows) }
 {
-    let line = posting_line(alloc, records)?;
-    if line.len() > 4000 || first_shortage(alloc, line.as_slice())?.is_some() {
-        return Ok(None);
-    }
-    no_shortage_is_enough();
-    Ok(Some(replay(alloc, records)?))
+    let mut book = Book::start(alloc);
+    post_all(alloc, &mut book)?;
+    book.settle_all(alloc)?;
+    Ok(book.select(alloc, query)?)
 }
 
 // The record of each movement, and its value.
@@ -104,21 +102,6 @@ fn told(rows: &[Row]) -> Option<[(u32, i64); 3]> {
 #[test]
 fn a_receipt_of_the_day_before(rt: HostRuntime) -> Result<(), Fail> {
     let alloc = rt.alloc();
-    let records = journal(alloc)?;
-    assert_eq!(rt; records.len(), 5);
-    let Some(rows) = rows_of_all(alloc, records.as_slice())? else {
-        assert!(rt; false);
-        return Ok(());
-    };
-    assert_eq!(rt;
-        told(rows.as_slice()),
-        Some([(5, 500), (3, 1000), (4, 100)])
-    );
-    let selected = Selected {
-        covered: RecordNo(5),
-        rows,
-        heads: heads(alloc, records.as_slice())?,
-    };
     let query = Query {
         sheet: Sheet::Balance,
         need: RecordNo(0),
@@ -126,6 +109,13 @@ fn a_receipt_of_the_day_before(rt: HostRuntime) -> Result<(), Fail> {
         item: Some(Code::of(alloc, "B")?),
         store: None,
     };
+    let selected = settled(alloc, &query)?;
+    assert_eq!(rt; selected.covered, RecordNo(5));
+    assert_eq!(rt; selected.heads.len(), 2);
+    assert_eq!(rt;
+        told(selected.rows.as_slice()),
+        Some([(5, 500), (3, 1000), (4, 100)])
+    );
     let sheet = balance(alloc, &query, &selected)?;
     assert_eq!(rt; sheet.len(), 1);
     let row = &sheet.as_slice()[0];
