@@ -21,29 +21,29 @@ pub enum PostFault {
     UnknownStore {
         line: u32,
     },
-    /// The line moves goods within one warehouse. No record of today has such a line.
+    /// The line moves goods within one warehouse.
     SameStore {
         line: u32,
     },
-    /// The line's target is no line of an accepted voucher of the right kind. No record of today has one.
+    /// The line's target is no line of an accepted voucher of the right kind.
     UnknownTarget {
         line: u32,
     },
-    /// The record's moment is before that of the line's target. No record of today has one.
+    /// The record's moment is before that of the line's target.
     LinkLater {
         line: u32,
     },
-    /// An earlier line has the same target. No record of today has one.
+    /// An earlier line has the same target.
     RepeatedTarget {
         line: u32,
     },
-    /// More is asked to be returned than is left of the target. No record of today has one.
+    /// More is asked to be returned than is left of the target.
     OverReturn {
         line: u32,
         asked: Qty,
         left: Qty,
     },
-    /// The weights of all targets sum to 0. No record of today has any.
+    /// The weights of all targets sum to 0.
     NoBasis,
     /// 50,000 records are held, or the movements held and the new ones are more than 4,000. The numbers
     /// are those held.
