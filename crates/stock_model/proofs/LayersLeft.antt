@@ -14,9 +14,8 @@ use Rattle.stock_nums.specs.declared.entry.Key.{Key}
 use Rattle.stock_nums.specs.declared.entry.Row.{Row}
 use Rattle.stock_nums.specs.declared.head.Head.{Head}
 use Rattle.stock_model.specs.declared.records.Record.{Record}
-use Rattle.stock_model.specs.Enough.{entry_key}
+use Rattle.stock_model.specs.Enough.{entry_key, IsEnough}
 use Rattle.stock_model.specs.Formulas.{HasFormula}
-use Rattle.stock_model.specs.Journals.{AreLegal}
 use Rattle.stock_model.specs.Layers.{formula_at, row_method, layers_at, layer_row, average_row, layer_rows_by, layer_rows, shown_units, shown_value}
 use Rattle.stock_model.specs.PostingOrder.{posting_line}
 use Rattle.stock_model.specs.Replay.{rows_of, replay}
@@ -24,8 +23,7 @@ use Rattle.stock_model.specs.Sums.{is_of, enters_at, leaves_at, units_of, value_
 use Rattle.stock_model.proofs.Enough.{is_same_key-true}
 use Rattle.stock_model.proofs.FirstOut.{IsFirstOutAt, IsFirstOut-all, units-some}
 use Rattle.stock_model.proofs.Formulas.{posting_line-formula}
-use Rattle.stock_model.proofs.LegalReplay.{IsLegalLine-journal}
-use Rattle.stock_model.proofs.Valuation.{IsCostedAt, Kept, Kept-covered, Kept-rows_of}
+use Rattle.stock_model.proofs.CostedRows.{IsCostedAt, AreCosted, AreCosted-rows_of}
 
 -- a sum over what is made of the elements
 sum_by-map : {X Y : Type 0} (f : Y → ℕ) (g : X → Y) (xs : List X) → sum_by f (map g xs) ≡ sum_by (λ x. f (g x)) xs
@@ -50,13 +48,13 @@ formula_at-is formula (row ∷ rows) key all is =
     step (is_of key row) refl is
 
 -- the units that the sheet shows
-units-by : (formula : ℕ → Method) (journal : List Record) (method : Method) (heads : List Head) (rows : List Row) (key : Key) → Kept formula journal rows
+units-by : (formula : ℕ → Method) (method : Method) (heads : List Head) (rows : List Row) (key : Key) → AreCosted formula rows
     → quantity_out rows key + sum_by shown_units (layer_rows_by method heads rows key) ≡ quantity_in rows key
-units-by formula journal Fifo heads rows key kept =
-    let left = layers_left-units units_of (filter (enters_at key) rows) (quantity_out rows key) (kept.held key) in
+units-by formula Fifo heads rows key are =
+    let left = layers_left-units units_of (filter (enters_at key) rows) (quantity_out rows key) (are.held key) in
     ap (λ (n : ℕ). quantity_out rows key + n) (sum_by-map shown_units (layer_row heads key) (layers_at rows key)) ∙ left
-units-by formula journal Average heads rows key kept =
-    let held = kept.held key in
+units-by formula Average heads rows key are =
+    let held = are.held key in
     let step : (b : Bool) → (stock_units rows key == 0) ≡ b → quantity_out rows key + sum_by shown_units (cond b [] (average_row heads rows key ∷ [])) ≡ quantity_in rows key =
     λ b. elim b as (λ v. (stock_units rows key == 0) ≡ v → quantity_out rows key + sum_by shown_units (cond v [] (average_row heads rows key ∷ [])) ≡ quantity_in rows key) [
       | true ↦ λ is. let none : stock_units rows key ≡ 0 = grind (arith, nat_tests) in omega (arith, none, held)
@@ -65,49 +63,49 @@ units-by formula journal Average heads rows key kept =
     step (stock_units rows key == 0) refl
 
 -- what the sheet says that they are worth
-value-by : (formula : ℕ → Method) (journal : List Record) (method : Method) (heads : List Head) (rows : List Row) (key : Key) → Kept formula journal rows → (method ≡ Fifo → formula key.item.0 ≡ Fifo)
+value-by : (formula : ℕ → Method) (method : Method) (heads : List Head) (rows : List Row) (key : Key) → AreCosted formula rows → (method ≡ Fifo → formula key.item.0 ≡ Fifo)
     → value_out rows key + sum_by shown_value (layer_rows_by method heads rows key) ≡ value_in rows key
-value-by formula journal Fifo heads rows key kept is_fifo =
-    let out : IsFirstOutAt rows key = subst (λ (m : Method). IsCostedAt m rows key) (is_fifo refl) (kept.costed key) in
-    let left = layers_left-value units_of value_of (filter (enters_at key) rows) (quantity_out rows key) (units-some (filter (enters_at key) rows)) (kept.held key) in
+value-by formula Fifo heads rows key are is_fifo =
+    let out : IsFirstOutAt rows key = subst (λ (m : Method). IsCostedAt m rows key) (is_fifo refl) (are.costed key) in
+    let left = layers_left-value units_of value_of (filter (enters_at key) rows) (quantity_out rows key) (units-some (filter (enters_at key) rows)) (are.held key) in
     ap (λ (n : ℕ). value_out rows key + n) (sum_by-map shown_value (layer_row heads key) (layers_at rows key))
     ∙ ap (λ (n : ℕ). n + sum_by (layer_value units_of value_of) (layers_at rows key)) out.cost
     ∙ left
-value-by formula journal Average heads rows key kept is_fifo =
-    let covered = Kept-covered formula journal rows key kept in
+value-by formula Average heads rows key are is_fifo =
+    let covered = are.covered key in
     let step : (b : Bool) → (stock_units rows key == 0) ≡ b → value_out rows key + sum_by shown_value (cond b [] (average_row heads rows key ∷ [])) ≡ value_in rows key =
     λ b. elim b as (λ v. (stock_units rows key == 0) ≡ v → value_out rows key + sum_by shown_value (cond v [] (average_row heads rows key ∷ [])) ≡ value_in rows key) [
       | true ↦ λ is.
           let none : stock_units rows key ≡ 0 = grind (arith, nat_tests) in
-          let all : value_in rows key ≡ value_out rows key = nothing-by (formula key.item.0) rows key (kept.costed key) (omega (arith, none, kept.held key)) in
+          let all : value_in rows key ≡ value_out rows key = nothing-by (formula key.item.0) rows key (are.costed key) (omega (arith, none, are.held key)) in
           omega (arith, all)
       | false ↦ λ is. omega (arith, covered, sum_by-cons shown_value (average_row heads rows key) [])
     ] in
     step (stock_units rows key == 0) refl
 
-Kept-replay : (journal : List Record) → AreLegal journal → Kept (posting_line-formula journal).0 journal (rows_of journal (posting_line journal))
-Kept-replay journal legal = Kept-rows_of (posting_line-formula journal).0 journal (posting_line journal) (IsLegalLine-journal journal legal)
+AreCosted-replay : (journal : List Record) → IsEnough (posting_line journal) → AreCosted (posting_line-formula journal).0 (rows_of journal (posting_line journal))
+AreCosted-replay journal enough = AreCosted-rows_of (posting_line-formula journal).0 journal (posting_line journal) (posting_line-formula journal).1 enough
 
-pub replay-units : (journal : List Record) (heads : List Head) (key : Key) → AreLegal journal
+pub replay-units : (journal : List Record) (heads : List Head) (key : Key) → IsEnough (posting_line journal)
     → quantity_out (replay journal) key + sum_by shown_units (layer_rows heads (replay journal) key) ≡ quantity_in (replay journal) key
 unfolding replay
-replay-units journal heads key legal =
+replay-units journal heads key enough =
     let rows = rows_of journal (posting_line journal) in
-    units-by (posting_line-formula journal).0 journal (formula_at rows key) heads rows key (Kept-replay journal legal)
+    units-by (posting_line-formula journal).0 (formula_at rows key) heads rows key (AreCosted-replay journal enough)
 
-pub replay-value : (journal : List Record) (heads : List Head) (key : Key) → AreLegal journal
+pub replay-value : (journal : List Record) (heads : List Head) (key : Key) → IsEnough (posting_line journal)
     → value_out (replay journal) key + sum_by shown_value (layer_rows heads (replay journal) key) ≡ value_in (replay journal) key
 unfolding replay
-replay-value journal heads key legal =
+replay-value journal heads key enough =
     let rows = rows_of journal (posting_line journal) in
     let formula = (posting_line-formula journal).0 in
-    let kept = Kept-replay journal legal in
-    value-by formula journal (formula_at rows key) heads rows key kept (formula_at-is formula rows key kept.formulas)
+    let are = AreCosted-replay journal enough in
+    value-by formula (formula_at rows key) heads rows key are (formula_at-is formula rows key are.formulas)
 
-pub replay-nothing : (journal : List Record) (key : Key) → AreLegal journal
+pub replay-nothing : (journal : List Record) (key : Key) → IsEnough (posting_line journal)
     → quantity_in (replay journal) key ≡ quantity_out (replay journal) key → value_in (replay journal) key ≡ value_out (replay journal) key
 unfolding replay
-replay-nothing journal key legal none =
+replay-nothing journal key enough none =
     let rows = rows_of journal (posting_line journal) in
     let formula = (posting_line-formula journal).0 in
-    nothing-by (formula key.item.0) rows key ((Kept-replay journal legal).costed key) none
+    nothing-by (formula key.item.0) rows key ((AreCosted-replay journal enough).costed key) none

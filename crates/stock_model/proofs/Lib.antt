@@ -14,6 +14,7 @@ pub mod TestedSums
 pub mod Linked
 pub mod Conserved
 pub mod Conserving
+pub mod CostedRows
 pub mod Totals
 pub mod Received
 pub mod LandedSums

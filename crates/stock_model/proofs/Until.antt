@@ -18,7 +18,7 @@ use Rattle.stock_model.specs.Replay.{rows_of, replay}
 use Rattle.stock_model.specs.Sums.{row_entry, value_in, value_out}
 use Rattle.stock_model.proofs.Pairwise.{Precedes, Pairwise, Pairwise-from_AllPairs}
 use Rattle.stock_model.proofs.PostingLine.{IsInPostingOrder-posting_line}
-use Rattle.stock_model.proofs.Valuation.{map-value_all}
+use Rattle.stock_model.proofs.CostedRows.{map-value_all}
 
 -- a test of all holds of the first ones
 list_all-take : {X : Type 0} (p : X → Bool) (k : ℕ) (xs : List X) → list_all p xs ≡ true → list_all p (take k xs) ≡ true
