@@ -10,7 +10,7 @@ use Rattle.stock_nums.specs.declared.head.Head.{Head}
 use Rattle.stock_nums.specs.FirstIn.{Layer, layers_left, layer_units, layer_value}
 use Rattle.stock_model.specs.declared.queries.Query.{Query}
 use Rattle.stock_model.specs.declared.queries.Selected.{Selected}
-use Rattle.stock_model.specs.declared.replies.LayerRow.{LayerRow}
+use Rattle.stock_model.specs.declared.sheet_rows.LayerRow.{LayerRow}
 use Rattle.stock_model.specs.Masters.{code_of}
 use Rattle.stock_model.specs.Sheets.{is_asked_key, keys_of}
 use Rattle.stock_model.specs.Sums.{is_of, enters_at, units_of, value_of, quantity_out, stock_units, stock_value}

@@ -17,7 +17,11 @@ pub mod Sheets
 pub mod Conservation
 pub mod Layers
 pub mod Formulas
+pub mod LedgerLines
+pub mod Accounts
+pub mod LedgerSheets
 pub mod Reports
+pub mod Books
 pub mod PostReplies
 pub mod InputLines
 pub mod Run

@@ -1,5 +1,5 @@
 -- What a report is answered at a point of the history: a function of the history and the request.
-use Rattle.std.specs.Prelude.{Bool, true, not, List, filter, nat_le, if◌then◌else◌, Option, Some, None}
+use Rattle.std.specs.Prelude.{ℕ, ◌≡◌, max, Bool, true, not, List, [], filter, nat_le, if◌then◌else◌, Option, Some, None}
 use Rattle.stock_nums.specs.Places.{is_later}
 use Rattle.stock_nums.specs.declared.entry.Row.{Row}
 use Rattle.stock_nums.specs.declared.moment.Moment.{Moment}
@@ -13,13 +13,12 @@ use Rattle.stock_model.specs.declared.queries.Need.{Need}
 use Rattle.stock_model.specs.declared.queries.Need.TheVariants as need
 use Rattle.stock_model.specs.declared.queries.SelectFault.{SelectFault}
 use Rattle.stock_model.specs.declared.queries.SelectFault.TheVariants as unmet
-use Rattle.stock_model.specs.declared.replies.Reply.{Reply}
-use Rattle.stock_model.specs.declared.replies.Reply.TheVariants.{Pending, NoSuchRecord, Balance, Layers}
+use Rattle.stock_model.specs.declared.answers.Answer.{Answer}
+use Rattle.stock_model.specs.declared.answers.Answer.TheVariants.{Told, Shown}
+use Rattle.stock_model.specs.declared.replies.Reply.TheVariants.{Pending, NoSuchRecord}
 use Rattle.stock_model.specs.Masters.{heads}
 use Rattle.stock_model.specs.Replay.{replay}
-use Rattle.stock_model.specs.History.{accepted, covered, covered_records}
-use Rattle.stock_model.specs.Sheets.{balance}
-use Rattle.stock_model.specs.Layers.{layers}
+use Rattle.stock_model.specs.History.{accepted, covered, covered_records, IsLegal}
 
 -- the movement's moment is not after this one, where there is one
 abbrev pub is_until : Option Moment → Row → Bool
@@ -36,9 +35,14 @@ selected history query =
       heads = heads (covered_records history);
     }
 
--- the record that a report has to cover, 0 for none
+-- the record that a sheet shows, 0 for none
+abbrev pub record_shown : Sheet → ℕ
+record_shown (sheet.Voucher voucher) = voucher.0
+record_shown _ = 0
+
+-- the record that a report has to cover, 0 for none: the greater of the one that is asked for and the one that is shown
 abbrev pub need_of : Query → RecordNo
-need_of query = query.need
+need_of query = record { 0 = max query.need.0 (record_shown query.sheet) }
 
 -- whether the reports cover the record that this one has to cover: it is covered, or accepted and not covered yet,
 -- or not accepted
@@ -55,16 +59,18 @@ unmet_need need.Ready = None
 unmet_need (need.Pending covered wanted) = Some (unmet.Pending covered wanted)
 unmet_need (need.NoSuchRecord accepted wanted) = Some (unmet.NoSuchRecord accepted wanted)
 
-abbrev pub sheet_reply : Query → Sheet → Selected → Reply
-sheet_reply query sheet.Balance chosen = Balance chosen.covered (balance query chosen)
-sheet_reply query sheet.Layers chosen = Layers chosen.covered (layers query chosen)
-
 -- the answer to a report whose need is so met
-abbrev pub report_by : Need → List Deed → Query → Reply
-report_by need.Ready history query = sheet_reply query query.sheet (selected history query)
-report_by (need.Pending covered wanted) history query = Pending covered wanted
-report_by (need.NoSuchRecord accepted wanted) history query = NoSuchRecord accepted wanted
+abbrev pub report_by : Need → List Deed → Query → Answer
+report_by need.Ready history query = Shown query (selected history query)
+report_by (need.Pending covered wanted) history query = Told (Pending covered wanted) []
+report_by (need.NoSuchRecord accepted wanted) history query = Told (NoSuchRecord accepted wanted) []
 
 -- the answer to a report
-abbrev pub report : List Deed → Query → Reply
+abbrev pub report : List Deed → Query → Answer
 report history query = report_by (need_at history query) history query
+
+-- this was selected for the query, from a book with a legal history
+pub record IsSelected (query : Query) (chosen : Selected) : Type 0 where
+  pub history : List Deed
+  pub legal : IsLegal history
+  pub is : chosen ≡ selected history query

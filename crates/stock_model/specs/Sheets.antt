@@ -7,7 +7,7 @@ use Rattle.stock_nums.specs.declared.entry.Row.{Row}
 use Rattle.stock_nums.specs.declared.head.Head.{Head}
 use Rattle.stock_model.specs.declared.queries.Query.{Query}
 use Rattle.stock_model.specs.declared.queries.Selected.{Selected}
-use Rattle.stock_model.specs.declared.replies.BalanceRow.{BalanceRow}
+use Rattle.stock_model.specs.declared.sheet_rows.BalanceRow.{BalanceRow}
 use Rattle.stock_model.specs.Enough.{entry_key}
 use Rattle.stock_model.specs.Masters.{code_of}
 use Rattle.stock_model.specs.Sums.{stock_units, stock_value}

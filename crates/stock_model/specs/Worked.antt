@@ -7,9 +7,10 @@ use Rattle.stock_nums.specs.declared.moment.Moment.{Moment}
 use Rattle.stock_model.specs.declared.deeds.Deed.{Deed}
 use Rattle.stock_model.specs.declared.deeds.Deed.TheVariants.{Kept}
 use Rattle.stock_model.specs.declared.queries.Query.{Query}
+use Rattle.stock_model.specs.declared.queries.Format.TheVariants.{Json}
 use Rattle.stock_model.specs.declared.queries.Sheet.TheVariants as sheet
 use Rattle.stock_model.specs.declared.records.Record.{Record}
-use Rattle.stock_model.specs.declared.replies.BalanceRow.{BalanceRow}
+use Rattle.stock_model.specs.declared.sheet_rows.BalanceRow.{BalanceRow}
 use Rattle.stock_model.specs.declared.vouchers.ReceiptLine.{ReceiptLine}
 use Rattle.stock_model.specs.declared.vouchers.What.TheVariants.{Item, Store, Receipt}
 
@@ -64,7 +65,7 @@ first_history = Kept item_b ∷ Kept store_w1 ∷ Kept (receipt_of (66 ∷ [])) 
 
 -- the balance sheet
 abbrev pub balance_sheet : Query
-balance_sheet = record { sheet = sheet.Balance; need = record { 0 = 0 }; until = None; item = None; store = None }
+balance_sheet = record { sheet = sheet.Balance; need = record { 0 = 0 }; until = None; item = None; store = None; format = Json }
 
 -- W1 holds 10 units of B worth 1000
 abbrev pub ten_b : BalanceRow

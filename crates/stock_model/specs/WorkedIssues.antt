@@ -9,9 +9,10 @@ use Rattle.stock_model.specs.declared.deeds.Deed.TheVariants.{Kept, Published}
 use Rattle.stock_model.specs.declared.faults.PostFault.{PostFault}
 use Rattle.stock_model.specs.declared.faults.PostFault.TheVariants.{Short}
 use Rattle.stock_model.specs.declared.queries.Query.{Query}
+use Rattle.stock_model.specs.declared.queries.Format.TheVariants.{Json}
 use Rattle.stock_model.specs.declared.queries.Sheet.TheVariants as sheet
 use Rattle.stock_model.specs.declared.records.Record.{Record}
-use Rattle.stock_model.specs.declared.replies.BalanceRow.{BalanceRow}
+use Rattle.stock_model.specs.declared.sheet_rows.BalanceRow.{BalanceRow}
 use Rattle.stock_model.specs.declared.vouchers.IssueLine.{IssueLine}
 use Rattle.stock_model.specs.declared.vouchers.Purpose.TheVariants.{Sold}
 use Rattle.stock_model.specs.declared.vouchers.ReceiptLine.{ReceiptLine}
@@ -121,4 +122,4 @@ published records n = kept_all records ++ Published (record { 0 = n }) ∷ []
 
 -- the balance sheet that has to cover a record
 abbrev pub balance_of : ℕ → Query
-balance_of need = record { sheet = sheet.Balance; need = record { 0 = need }; until = None; item = None; store = None }
+balance_of need = record { sheet = sheet.Balance; need = record { 0 = need }; until = None; item = None; store = None; format = Json }

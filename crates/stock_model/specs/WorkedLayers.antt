@@ -5,9 +5,10 @@ use Rattle.stock_nums.specs.Quantities.{IsLineQuantity, is_line_amount}
 use Rattle.stock_nums.specs.declared.cause.Method.TheVariants.{Fifo}
 use Rattle.stock_nums.specs.declared.moment.Moment.{Moment}
 use Rattle.stock_model.specs.declared.queries.Query.{Query}
+use Rattle.stock_model.specs.declared.queries.Format.TheVariants.{Json}
 use Rattle.stock_model.specs.declared.queries.Sheet.TheVariants as sheet
 use Rattle.stock_model.specs.declared.records.Record.{Record}
-use Rattle.stock_model.specs.declared.replies.LayerRow.{LayerRow}
+use Rattle.stock_model.specs.declared.sheet_rows.LayerRow.{LayerRow}
 use Rattle.stock_model.specs.declared.vouchers.Purpose.TheVariants.{Sold}
 use Rattle.stock_model.specs.declared.vouchers.ReceiptLine.{ReceiptLine}
 use Rattle.stock_model.specs.declared.vouchers.What.TheVariants.{Item, Receipt, Issue}
@@ -55,7 +56,7 @@ late = bought_at first (bought_line 4 100 (lit< tt, lit≤ tt) refl)
 
 -- the sheets of all records
 abbrev pub layers_sheet : Query
-layers_sheet = record { sheet = sheet.Layers; need = record { 0 = 0 }; until = None; item = None; store = None }
+layers_sheet = record { sheet = sheet.Layers; need = record { 0 = 0 }; until = None; item = None; store = None; format = Json }
 
 -- units of A in W1 that are left of the first line of this record
 abbrev pub left_of : (voucher qty value : ℕ) → LayerRow

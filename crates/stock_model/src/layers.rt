@@ -8,7 +8,7 @@ ghost use Rattle.stock_model.specs.Sums.{enters_at, units_of};
 
 use crate::masters::code_of;
 use crate::queries::{Query, Selected};
-use crate::replies::LayerRow;
+use crate::sheet_rows::LayerRow;
 use crate::sheets::{is_asked_key, keys_of};
 use crate::sums::{enters_at, is_of, quantity_out, stock_units, stock_value};
 use std::alloc::Global;

@@ -2,6 +2,7 @@
 //! contracts of every crate above cite.
 #![tactic(auto)]
 
+pub mod answers;
 pub mod conservation_laws;
 pub mod deeds;
 pub mod enough_laws;
@@ -11,6 +12,7 @@ pub mod landed_weights;
 pub mod laws;
 pub mod layer_laws;
 pub mod layers;
+pub mod ledger_lines;
 pub mod line_faults;
 pub mod line_views;
 pub mod masters;
@@ -25,6 +27,7 @@ pub mod replay;
 pub mod replies;
 pub mod requests;
 pub mod seen;
+pub mod sheet_rows;
 pub mod sheets;
 pub mod shortages;
 pub mod sums;

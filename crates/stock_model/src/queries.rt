@@ -14,13 +14,28 @@ pub enum Sheet {
     Balance,
     /// The layers of each item in each warehouse that have units left.
     Layers,
+    /// The movements of each item in each warehouse, with what is held after each.
+    Ledger,
+    /// The balance of each account of the general ledger.
+    Accounts,
+    /// The lines of the general ledger that the record with this number makes.
+    Voucher(RecordNo),
+}
+
+/// How the rows of a sheet are written.
+#[derive(Clone, Copy, Debug, PartialEq, Eq)]
+pub enum Format {
+    /// As objects of JSON.
+    Json,
+    /// As fields that are parted by commas (RFC 4180), after a line with their names.
+    Csv,
 }
 
 /// What a report asks for.
 #[derive(Drop)]
 pub struct Query {
     pub sheet: Sheet,
-    /// The record that the report has to cover. 0 asks for none.
+    /// The record that the report has to cover, beside the one that its sheet shows. 0 asks for none.
     pub need: RecordNo,
     /// The last moment whose movements are shown, or all of them.
     pub until: Option<Moment>,
@@ -28,6 +43,7 @@ pub struct Query {
     pub item: Option<Code>,
     /// The code of the one warehouse that is shown, or all.
     pub store: Option<Code>,
+    pub format: Format,
 }
 
 /// Whether a report covers the record that it has to cover.

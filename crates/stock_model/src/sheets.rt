@@ -8,7 +8,7 @@ ghost use Rattle.stock_model.specs.Sheets.{IsKeyBefore, HasKey, is_key_before, p
 
 use crate::masters::code_of;
 use crate::queries::{Query, Selected};
-use crate::replies::BalanceRow;
+use crate::sheet_rows::BalanceRow;
 use crate::shortages::entry_key;
 use crate::sums::{stock_units, stock_value};
 use std::alloc::Global;

@@ -4,11 +4,11 @@ ghost use Rattle.std.specs.Prelude.{◌≡◌, ◌-◌, [], ◌∷◌, ◌++◌,
 ghost use Rattle.stock_nums.specs.HalfUp.{half_up};
 ghost use Rattle.stock_model.specs.declared.deeds.Deed.TheVariants.{Published};
 ghost use Rattle.stock_model.specs.declared.faults.PostFault.TheVariants.{CodeTaken, UnknownItem};
-ghost use Rattle.stock_model.specs.declared.replies.Reply.TheVariants.{Balance};
 ghost use Rattle.stock_model.specs.InputLines.{lines_of, asked_lines};
 ghost use Rattle.stock_model.specs.Faults.{fault};
 ghost use Rattle.stock_model.specs.History.{settled};
-ghost use Rattle.stock_model.specs.Reports.{report};
+ghost use Rattle.stock_model.specs.Reports.{selected};
+ghost use Rattle.stock_model.specs.Sheets.{balance};
 ghost use Rattle.stock_model.specs.Worked.{item_b, store_w1, receipt_of, first_journal, first_history, balance_sheet, ten_b};
 
 /// The empty input has no line to answer.
@@ -40,9 +40,9 @@ pub fn first_refusals()
 /// The balance sheet before and after the three records are published.
 #[tactic(auto, unfolding(crate::specs::Reports::selected, crate::specs::Replay::replay, crate::specs::PostingOrder::posting_line, crate::specs::Entries::all_entries, crate::specs::Sheets::balance))]
 pub fn first_reports()
-    ensures before { report first_history balance_sheet ≡ Balance (record { 0 = 0 }) [] }
+    ensures before { balance balance_sheet (selected first_history balance_sheet) ≡ [] }
     ensures published { settled first_history ≡ first_history ++ Published (record { 0 = 3 }) ∷ [] }
-    ensures after { report (settled first_history) balance_sheet ≡ Balance (record { 0 = 3 }) (ten_b ∷ []) }
+    ensures after { balance balance_sheet (selected (settled first_history) balance_sheet) ≡ ten_b ∷ [] }
 {}
 
 /// The cost of three single units that cost 100 together, and of parts of two other purchases.

@@ -1,17 +1,19 @@
 //! Worked examples of issues by moving average, each a law without a premise.
 ghost use Rattle.std.specs.Prelude.{◌≡◌, [], ◌∷◌, ◌++◌, take, Some, None};
 ghost use Rattle.stock_model.specs.declared.deeds.Deed.TheVariants.{Kept};
-ghost use Rattle.stock_model.specs.declared.replies.Reply.TheVariants.{Balance, Pending, NoSuchRecord};
-ghost use Rattle.stock_model.specs.Reports.{report};
+ghost use Rattle.stock_model.specs.declared.replies.Reply.TheVariants.{Pending, NoSuchRecord};
+ghost use Rattle.stock_model.specs.declared.answers.Answer.TheVariants.{Told, Shown};
+ghost use Rattle.stock_model.specs.Reports.{report, selected};
+ghost use Rattle.stock_model.specs.Sheets.{balance};
 ghost use Rattle.stock_model.specs.Faults.{fault};
 ghost use Rattle.stock_model.specs.WorkedIssues.{first, third, fourth, fifth, bought, sold_at, sales, lacks_one, holds, published, balance_of};
 
 /// Three units that cost 100 together are sold one a day, at 33, 34 and 33.
 #[tactic(auto, unfolding(crate::specs::Reports::selected, crate::specs::Replay::replay, crate::specs::PostingOrder::posting_line, crate::specs::Entries::all_entries, crate::specs::Sheets::balance))]
 pub fn balances_of_sales()
-    ensures one { report (published (take 4 sales) 4) (balance_of 0) ≡ Balance (record { 0 = 4 }) (holds 2 67) }
-    ensures two { report (published (take 5 sales) 5) (balance_of 0) ≡ Balance (record { 0 = 5 }) (holds 1 33) }
-    ensures three { report (published sales 6) (balance_of 0) ≡ Balance (record { 0 = 6 }) (holds 0 0) }
+    ensures one { balance (balance_of 0) (selected (published (take 4 sales) 4) (balance_of 0)) ≡ holds 2 67 }
+    ensures two { balance (balance_of 0) (selected (published (take 5 sales) 5) (balance_of 0)) ≡ holds 1 33 }
+    ensures three { balance (balance_of 0) (selected (published sales 6) (balance_of 0)) ≡ holds 0 0 }
 {}
 
 /// A further sale on the third is short at the sale of the fifth, and one before anything was bought is
@@ -26,7 +28,7 @@ pub fn late_sales()
 /// A report that has to cover a record is answered, pending, or of no such record.
 #[tactic(auto, unfolding(crate::specs::Reports::selected, crate::specs::Replay::replay, crate::specs::PostingOrder::posting_line, crate::specs::Entries::all_entries, crate::specs::Sheets::balance))]
 pub fn needs()
-    ensures covered { report (published sales 6 ++ Kept bought ∷ []) (balance_of 6) ≡ Balance (record { 0 = 6 }) (holds 0 0) }
-    ensures pending { report (published sales 6 ++ Kept bought ∷ []) (balance_of 7) ≡ Pending (record { 0 = 6 }) (record { 0 = 7 }) }
-    ensures none { report (published sales 6 ++ Kept bought ∷ []) (balance_of 8) ≡ NoSuchRecord (record { 0 = 7 }) (record { 0 = 8 }) }
+    ensures covered { report (published sales 6 ++ Kept bought ∷ []) (balance_of 6) ≡ Shown (balance_of 6) (selected (published sales 6 ++ Kept bought ∷ []) (balance_of 6)) }
+    ensures pending { report (published sales 6 ++ Kept bought ∷ []) (balance_of 7) ≡ Told (Pending (record { 0 = 6 }) (record { 0 = 7 })) [] }
+    ensures none { report (published sales 6 ++ Kept bought ∷ []) (balance_of 8) ≡ Told (NoSuchRecord (record { 0 = 7 }) (record { 0 = 8 })) [] }
 {}

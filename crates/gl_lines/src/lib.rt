@@ -1,0 +1,7 @@
+//! The general ledger: the lines that a valued movement makes, and the balances of the accounts.
+#![tactic(auto)]
+
+pub mod balances;
+pub mod lines;
+
+pub use stock_model::ledger_lines::{Balance, GlLine};

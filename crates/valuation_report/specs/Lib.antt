@@ -1,0 +1,2 @@
+pub mod SheetRows
+pub mod SheetTexts
