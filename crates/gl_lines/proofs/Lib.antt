@@ -1,0 +1,2 @@
+pub mod AccountTotals
+pub mod HeadAccounts

@@ -3,5 +3,7 @@
 
 pub mod balances;
 pub mod lines;
+mod store_accounts;
+mod totals;
 
 pub use stock_model::ledger_lines::{Balance, GlLine};

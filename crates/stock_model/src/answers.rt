@@ -10,13 +10,7 @@ use stock_nums::lines::Lines;
 #[derive(Drop)]
 pub enum Answer {
     /// A reply, with the items and warehouses that it may name.
-    Told {
-        reply: Reply,
-        heads: Lines<Head>,
-    },
+    Told { reply: Reply, heads: Lines<Head> },
     /// The sheet that this query asks for, made of what was selected.
-    Shown {
-        query: Query,
-        selected: Selected,
-    },
+    Shown { query: Query, selected: Selected },
 }
