@@ -30,7 +30,7 @@ use Rattle.stock_model.proofs.Totals.{any_key, entering-all, leaving-all, arrive
 use Rattle.stock_model.proofs.Valuation.{Kept, Kept-take, rows_of-take}
 
 -- the key is one of these
-abbrev is_one_of : List Key → Key → Bool
+abbrev pub is_one_of : List Key → Key → Bool
 is_one_of keys key = list_any (is_same_key key) keys
 
 same_key_not-before : (a b : Key) → IsKeyBefore a b → is_same_key a b ≡ false
@@ -72,7 +72,7 @@ none-out_of_nil [] = refl
 none-out_of_nil (row ∷ rows) = none-out_of_nil rows
 
 -- the stocks of different keys are together what entered of them less what left
-stocks : (rows : List Row) (keys : List Key) → Pairwise IsKeyBefore keys → ((key : Key) → value_out rows key ≤ value_in rows key)
+pub stocks : (rows : List Row) (keys : List Key) → Pairwise IsKeyBefore keys → ((key : Key) → value_out rows key ≤ value_in rows key)
     → sum_by (stock_value rows) keys + key_out (is_one_of keys) rows ≡ key_in (is_one_of keys) rows
 stocks rows [] order covered = omega (arith, none-of_nil rows, none-out_of_nil rows)
 stocks rows (key ∷ keys) order covered =
@@ -101,11 +101,11 @@ one_of-Contains (k ∷ keys) key c =
       ]
     ] refl
 
-abbrev HasKeyOf : List Key → Entry → Type 0
+abbrev pub HasKeyOf : List Key → Entry → Type 0
 HasKeyOf keys e = is_one_of keys (entry_key e) ≡ true
 
 -- each row has one of the keys
-rows-keyed : (all rows : List Row) → ((row : Row) → Contains rows row → Contains all row) → Each (HasKeyOf (keys_of all)) (map row_entry rows)
+pub rows-keyed : (all rows : List Row) → ((row : Row) → Contains rows row → Contains all row) → Each (HasKeyOf (keys_of all)) (map row_entry rows)
 rows-keyed all [] within = tt
 rows-keyed all (row ∷ rows) within = (
   one_of-Contains (keys_of all) (entry_key row.entry) (keys_of-complete all (entry_key row.entry) (row, within row (Contains-first row rows), refl)),
@@ -122,7 +122,7 @@ all-out rows =
     tested-same_of row_entry value_of (leaves_where (is_one_of (keys_of rows))) (leaves_where any_key) (HasKeyOf (keys_of rows))
     (λ row has. ap (λ (b : Bool). b && not (is_entering row.entry.place.side)) has) rows (rows-keyed rows rows (λ row c. c))
 
-in_stock-is : (rows : List Row) → Conserved rows → in_stock rows + key_out any_key rows ≡ key_in any_key rows
+pub in_stock-is : (rows : List Row) → Conserved rows → in_stock rows + key_out any_key rows ≡ key_in any_key rows
 in_stock-is rows conserved =
     let order = Pairwise-from_AllPairs IsKeyBefore (keys_of rows) (keys_of-ascending rows) in
     omega (arith, stocks rows (keys_of rows) order (value_out-le_in rows conserved.keys), all-in rows, all-out rows)

@@ -11,7 +11,7 @@ use Rattle.stock_model.specs.declared.vouchers.What.TheVariants.{Item, Store, Re
 use Rattle.stock_model.specs.Masters.{heads, head_made, head_numbered, has_number, head_code, code_of, code_made, record_code, record_at}
 
 -- the heads of records that are numbered from k on
-abbrev heads_from : ℕ → List Record → List Head
+abbrev pub heads_from : ℕ → List Record → List Head
 heads_from k records = filter_map head_numbered (enumerate_from k records)
 
 differ : (k n : ℕ) → n < k → nat_eq k n ≡ false

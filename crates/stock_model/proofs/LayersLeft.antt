@@ -36,7 +36,7 @@ nothing-by Fifo rows key costed none = IsFirstOut-all (filter (enters_at key) ro
 nothing-by Average rows key costed none = costed none
 
 -- the first movement of a key says the formula of its item
-formula_at-is : (formula : ℕ → Method) (rows : List Row) (key : Key) → All (λ row. HasFormula formula row.entry) rows → formula_at rows key ≡ Fifo → formula key.item.0 ≡ Fifo
+pub formula_at-is : (formula : ℕ → Method) (rows : List Row) (key : Key) → All (λ row. HasFormula formula row.entry) rows → formula_at rows key ≡ Fifo → formula key.item.0 ≡ Fifo
 formula_at-is formula [] key all is = cc
 formula_at-is formula (row ∷ rows) key all is =
     let has = All-head (λ row. HasFormula formula row.entry) row rows all in
@@ -63,7 +63,7 @@ units-by formula Average heads rows key are =
     step (stock_units rows key == 0) refl
 
 -- what the sheet says that they are worth
-value-by : (formula : ℕ → Method) (method : Method) (heads : List Head) (rows : List Row) (key : Key) → AreCosted formula rows → (method ≡ Fifo → formula key.item.0 ≡ Fifo)
+pub value-by : (formula : ℕ → Method) (method : Method) (heads : List Head) (rows : List Row) (key : Key) → AreCosted formula rows → (method ≡ Fifo → formula key.item.0 ≡ Fifo)
     → value_out rows key + sum_by shown_value (layer_rows_by method heads rows key) ≡ value_in rows key
 value-by formula Fifo heads rows key are is_fifo =
     let out : IsFirstOutAt rows key = subst (λ (m : Method). IsCostedAt m rows key) (is_fifo refl) (are.costed key) in

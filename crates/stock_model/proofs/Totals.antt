@@ -41,7 +41,7 @@ leaving-by TransferEnters n = refl
 leaving-by (CustomerReturn target issued) n = refl
 leaving-by (SupplierReturn target amount received) n = omega arith
 
-row-side : (row : Row) → is_entering row.entry.place.side ≡ enters_by row.entry.cause
+pub row-side : (row : Row) → is_entering row.entry.place.side ≡ enters_by row.entry.cause
 row-side row = side-is (enters_by row.entry.cause) row.entry.place.side row.entry.sides
 
 -- all that entered was received, or arrived by a transfer, or was given back by customers
@@ -79,7 +79,7 @@ leaving-all (row ∷ rows) =
       leaving-all rows,
     )
 
-any-passes : (b : Bool) (n : ℕ) → counted (b && true) n ≡ counted b n
+pub any-passes : (b : Bool) (n : ℕ) → counted (b && true) n ≡ counted b n
 any-passes true n = refl
 any-passes false n = refl
 

@@ -46,7 +46,7 @@ AreBounded-take rows k bounded =
     }
 
 -- where one fails the test, each later one does
-abbrev FailsOn : {X : Type 0} → (X → Bool) → X → X → Type 0
+abbrev pub FailsOn : {X : Type 0} → (X → Bool) → X → X → Type 0
 FailsOn p a b = p a ≡ false → p b ≡ false
 
 none_pass : {X : Type 0} (p : X → Bool) (x : X) (xs : List X) → p x ≡ false → Precedes (FailsOn p) x xs → filter p xs ≡ []
@@ -55,7 +55,7 @@ none_pass p x (y ∷ ys) fails later =
     ap (λ (b : Bool). cond b (y ∷ filter p ys) (filter p ys)) (later.0 fails) ∙ none_pass p x ys fails later.1
 
 -- then those that pass are the first ones
-filter-front : {X : Type 0} (p : X → Bool) (xs : List X) → Pairwise (FailsOn p) xs → (k : ℕ) × (filter p xs ≡ take k xs)
+pub filter-front : {X : Type 0} (p : X → Bool) (xs : List X) → Pairwise (FailsOn p) xs → (k : ℕ) × (filter p xs ≡ take k xs)
 filter-front p [] order = (0, refl)
 filter-front p (x ∷ xs) order =
     let step : (b : Bool) → p x ≡ b → (k : ℕ) × (cond b (x ∷ filter p xs) (filter p xs) ≡ take k (x ∷ xs)) =
@@ -69,7 +69,7 @@ Precedes-map : {X Y : Type 0} (f : X → Y) (R : Y → Y → Type 0) (S : X → 
 Precedes-map f R S to x [] h = tt
 Precedes-map f R S to x (y ∷ ys) h = (to x y h.0, Precedes-map f R S to x ys h.1)
 
-Pairwise-map : {X Y : Type 0} (f : X → Y) (R : Y → Y → Type 0) (S : X → X → Type 0) → ((a b : X) → R (f a) (f b) → S a b) → (xs : List X) → Pairwise R (map f xs) → Pairwise S xs
+pub Pairwise-map : {X Y : Type 0} (f : X → Y) (R : Y → Y → Type 0) (S : X → X → Type 0) → ((a b : X) → R (f a) (f b) → S a b) → (xs : List X) → Pairwise R (map f xs) → Pairwise S xs
 Pairwise-map f R S to [] h = tt
 Pairwise-map f R S to (x ∷ xs) h = (Precedes-map f R S to x xs h.0, Pairwise-map f R S to xs h.1)
 
@@ -77,7 +77,7 @@ Pairwise-map f R S to (x ∷ xs) h = (Precedes-map f R S to x xs h.0, Pairwise-m
 is_later-IsBefore : (a b : Entry) (until : Moment) → IsBefore a b → is_later a.place.moment until ≡ true → is_later b.place.moment until ≡ true
 is_later-IsBefore a b until before later = grind (arith, nat_tests)
 
-not_until : (until : Option Moment) (a b : Row) → IsBefore a.entry b.entry → is_until until a ≡ false → is_until until b ≡ false
+pub not_until : (until : Option Moment) (a b : Row) → IsBefore a.entry b.entry → is_until until a ≡ false → is_until until b ≡ false
 not_until None a b before fails = fails
 not_until (Some until) a b before fails =
     let later : is_later a.entry.place.moment until ≡ true = grind arith in
