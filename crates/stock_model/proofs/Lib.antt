@@ -36,3 +36,9 @@ pub mod LegalReplay
 pub mod Conservation
 pub mod MovementCount
 pub mod SheetKeys
+pub mod Selections
+pub mod HeadOrder
+pub mod AccountSums
+pub mod AccountStocks
+pub mod RowShares
+pub mod SmallBalances

@@ -30,6 +30,7 @@ pub mod seen;
 pub mod sheet_rows;
 pub mod sheets;
 pub mod shortages;
+pub mod stock_account_laws;
 pub mod sums;
 pub mod target_faults;
 pub mod target_lines;
