@@ -42,3 +42,10 @@ pub mod AccountSums
 pub mod AccountStocks
 pub mod RowShares
 pub mod SmallBalances
+pub mod ReplayRows
+pub mod ToldRows
+pub mod RowLines
+pub mod TransferSides
+pub mod TransferWorth
+pub mod BalanceSums
+pub mod LedgerBalance
