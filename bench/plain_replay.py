@@ -5,7 +5,9 @@ answer to the next but the masters, the accepted vouchers and movements, and how
 and goes through all movements, and each report values them from nothing.
 """
 import collections
+import csv
 import datetime
+import io
 import json
 import re
 import sys
@@ -69,10 +71,16 @@ FORMS = {
     "supplier-return": RETURN,
     "landed": {"charge": whole(0, 10**12), "basis": text("qty", "amount"), "targets": lines_of(TARGET)},
     "settle": {},
-    "report": {"of": text("balance", "layers")},
 }
-LEFT_OUT = {
-    "report": {"need": whole(0, 2**32 - 1), "until": is_moment, "item": is_text, "store": is_text, "as": text("json")},
+# The forms of reports, by their sheets: what has to be there, and what may be left out.
+ANY_SHEET = {"need": whole(0, 2**32 - 1), "as": text("json", "csv")}
+OF_KEYS = ({}, {**ANY_SHEET, "until": is_moment, "item": is_text, "store": is_text})
+REPORTS = {
+    "balance": OF_KEYS,
+    "layers": OF_KEYS,
+    "ledger": OF_KEYS,
+    "accounts": ({}, {**ANY_SHEET, "until": is_moment}),
+    "voucher": ({"record": whole(1, 2**32 - 1)}, ANY_SHEET),
 }
 
 
@@ -100,10 +108,19 @@ def request_of(line):
         it = json.loads(line.decode(), parse_int=read_whole, parse_float=read_float, parse_constant=read_word)
     except (ValueError, RecursionError):
         return None
-    if type(it) is not dict or type(it.get("do")) is not str or it["do"] not in FORMS:
-        return None
-    kind = it["do"]
-    return it if has_form(it, {"do": text(kind), **FORMS[kind]}, LEFT_OUT.get(kind, {})) else None
+    form, left_out = form_of(it)
+    return it if form is not None and has_form(it, form, left_out) else None
+
+
+def form_of(it):
+    """Returns the fields that a request of its kind has to have, and those that it may have; or None and nothing."""
+    kind, sheet = (it.get(name) if type(it) is dict else None for name in ("do", "of"))
+    if type(kind) is str and kind in FORMS:
+        return {"do": text(kind), **FORMS[kind]}, {}
+    if kind == "report" and type(sheet) is str and sheet in REPORTS:
+        required, left_out = REPORTS[sheet]
+        return {"do": text(kind), "of": text(sheet), **required}, left_out
+    return None, {}
 
 
 # Movements. The first four fields are the place; movements are compared by it, since no two have the same. A moment is text
@@ -232,7 +249,67 @@ def layers_of(rows, key):
     return shown
 
 
-SHEETS = {"balance": balance_of, "layers": layers_of}
+def ledger_of(rows, key):
+    """Returns each row of the item in the warehouse, with what is held after it."""
+    shown, own = [], []
+    for it, value in rows:
+        if it.key() == key:
+            own.append((it, value))
+            stock, worth = stock_and_worth(own, key)
+            side = "in" if it.side == ENTERS else "out"
+            shown.append({"at": it.at, "record": it.record, "line": it.line, "side": side, "qty": it.qty, "value": value,
+                          "stock": stock, "worth": worth})
+    return shown
+
+
+SHEETS = {"balance": balance_of, "layers": layers_of, "ledger": ledger_of}
+COLUMNS = {
+    "balance": ["item", "store", "qty", "value"],
+    "layers": ["item", "store", "record", "line", "qty", "value"],
+    "ledger": ["item", "store", "at", "record", "line", "side", "qty", "value", "stock", "worth"],
+    "accounts": ["account", "balance"],
+    "voucher": ["line", "account", "debit", "credit"],
+}
+
+
+def csv_of(sheet, rows):
+    """Returns the rows of a sheet as a text of CSV, the names of its columns first."""
+    out = io.StringIO()
+    written = csv.DictWriter(out, COLUMNS[sheet], lineterminator="\n")
+    written.writeheader()
+    written.writerows(rows)
+    return out.getvalue()
+
+
+# The lines of the general ledger: an account, and an amount that is a debit above 0 and a credit below.
+
+NOT_BILLED, COST_OF_SALES, ADJUSTMENT, LANDED = 1, 2, 3, 4
+
+
+def share_of(it, before, charges):
+    """Returns what of a movement's value is landed charges, or the price of what goes back to a supplier."""
+    if it.side == ENTERS:
+        return charges[it.own_line()] if it.target is None else 0
+    if it.target is None:
+        return 0
+    back = sum(other.qty for other, _ in before if other.target == it.target)
+    price = next(other.amount for other, _ in before if other.own_line() == it.target)
+    return part(price, back, it.qty, it.whole)
+
+
+def posted(it, value, share, kind, account):
+    """Returns the lines of a movement of a voucher of this kind, into or out of a warehouse with this account."""
+    enters = [(account, value)]
+    leaves = [(account, -value)]
+    lines = {
+        "receipt": enters + [(NOT_BILLED, share - value), (LANDED, -share)],
+        "sold": leaves + [(COST_OF_SALES, value)],
+        "used": leaves + [(ADJUSTMENT, value)],
+        "transfer": enters if it.side == ENTERS else leaves,
+        "customer-return": enters + [(COST_OF_SALES, -value)],
+        "supplier-return": leaves + [(NOT_BILLED, share), (ADJUSTMENT, value - share)],
+    }[kind]
+    return [(account, amount) for account, amount in lines if amount != 0]
 
 
 # The ledger.
@@ -260,6 +337,7 @@ class Ledger:
     def __init__(self):
         self.items, self.stores = {}, {}  # the record's number by the code
         self.methods = {}  # by the item's number
+        self.accounts = {}  # by the warehouse's number
         self.accepted = []  # what was accepted, as it was posted
         self.covered = 0
         self.movements = []
@@ -365,6 +443,8 @@ class Ledger:
             masters[it["code"]] = len(self.accepted)
         if it["do"] == "item":
             self.methods[len(self.accepted)] = it["method"]
+        if it["do"] == "store":
+            self.accounts[len(self.accepted)] = it["account"]
         return {"record": len(self.accepted), "status": "accepted"}
 
     def movements_of(self, it, number, line):
@@ -391,16 +471,23 @@ class Ledger:
                 {number: code for code, number in self.stores.items()}[store])
 
     def report(self, it):
-        need = it.get("need", 0)
+        need = max(it.get("need", 0), it.get("record", 0))
         if need > len(self.accepted):
             return {"accepted": len(self.accepted), "need": need, "status": "no-such-record"}
         if need > self.covered:
             return {"covered": self.covered, "need": need, "status": "pending"}
-        rows = valued([movement for movement in self.movements if movement.record <= self.covered], self.charges(self.covered))
-        shown = self.sheet(it, [row for row in rows if row[0].at <= it.get("until", row[0].at)])
-        return {"covered": self.covered, "report": it["of"], "rows": shown, "status": "ok"}
+        charges = self.charges(self.covered)
+        rows = valued([movement for movement in self.movements if movement.record <= self.covered], charges)
+        shown = self.sheet(it, [row for row in rows if row[0].at <= it.get("until", row[0].at)], charges)
+        written = {"csv": csv_of(it["of"], shown)} if it.get("as") == "csv" else {"rows": shown}
+        return {"covered": self.covered, "report": it["of"], **written, "status": "ok"}
 
-    def sheet(self, asked, rows):
+    def sheet(self, asked, rows, charges):
+        if asked["of"] == "accounts":
+            return self.balances(rows, charges)
+        return self.voucher(asked["record"], rows, charges) if asked["of"] == "voucher" else self.of_keys(asked, rows)
+
+    def of_keys(self, asked, rows):
         """Returns what the sheet shows of the rows, by the item's number and then by the warehouse's."""
         shown = []
         for key in sorted({it.key() for it, _ in rows}):
@@ -408,6 +495,29 @@ class Ledger:
             if asked.get("item", item) == item and asked.get("store", store) == store:
                 shown += [{"item": item, "store": store, **part} for part in SHEETS[asked["of"]](rows, key)]
         return shown
+
+    def lines_of(self, index, rows, charges):
+        """Returns the lines of the general ledger that the row at this index makes."""
+        it, value = rows[index]
+        voucher = self.accepted[it.record - 1]
+        kind = voucher["use"] if voucher["do"] == "issue" else voucher["do"]
+        return posted(it, value, share_of(it, rows[:index], charges), kind, self.accounts[it.store])
+
+    def balances(self, rows, charges):
+        """Returns the balance of each account that has a line."""
+        balances = {}
+        for index in range(len(rows)):
+            for account, amount in self.lines_of(index, rows, charges):
+                balances[account] = balances.get(account, 0) + amount
+        return [{"account": account, "balance": balance} for account, balance in sorted(balances.items())]
+
+    def voucher(self, record, rows, charges):
+        """Returns the lines of the general ledger that a record makes."""
+        return [
+            {"line": row[0].line, "account": account, "debit": max(0, amount), "credit": max(0, -amount)}
+            for index, row in enumerate(rows) if row[0].record == record
+            for account, amount in self.lines_of(index, rows, charges)
+        ]
 
 
 def replies(given):

@@ -31,8 +31,10 @@ use Rattle.stock_model.specs.Enough.{IsEnough, shortage}
 use Rattle.stock_model.specs.Faults.{fault, fault_but_short, full, short, short_of}
 use Rattle.stock_nums.specs.declared.limits.TheConstants.{MAX_RECORDS, MAX_ENTRIES}
 use Rattle.stock_model.specs.declared.queries.Query.{Query}
+use Rattle.stock_model.specs.declared.queries.Need.{Need}
 use Rattle.stock_model.specs.declared.queries.Need.TheVariants as need
-use Rattle.stock_model.specs.Reports.{need_at}
+use Rattle.std.specs.Prelude.{nat_le, if◌then◌else◌}
+use Rattle.stock_model.specs.Reports.{need_of, need_at}
 use Rattle.stock_model.specs.PostingOrder.{put_all, posting_line}
 use Rattle.stock_model.specs.Journals.{AreLegal}
 use Rattle.stock_model.specs.Replay.{replay}
@@ -225,13 +227,24 @@ fault-lacks journal item f none is =
     step (shortage (posting_line (journal ++ item ∷ []))) refl is
 
 -- whether what a report needs is covered, is accepted, or isn't
-pub need_at-ready : (told : List Deed) (query : Query) (c : ℕ) → history.covered told ≡ c → query.need.0 ≤ c → need_at told query ≡ need.Ready
-need_at-ready told query c covers within = rw covers (grind (arith, nat_tests))
+abbrev need_by : RecordNo → List Deed → Need
+need_by wanted told =
+    if nat_le wanted.0 (history.covered told) then need.Ready
+    else (if nat_le wanted.0 (history.accepted told) then need.Pending (record { 0 = history.covered told }) wanted else need.NoSuchRecord (record { 0 = history.accepted told }) wanted)
 
-pub need_at-pending : (told : List Deed) (query : Query) (c a : ℕ) → history.covered told ≡ c → history.accepted told ≡ a → c < query.need.0 → query.need.0 ≤ a
-    → need_at told query ≡ need.Pending (record { 0 = c }) query.need
-need_at-pending told query c a covers all beyond within = rw (covers, all) (grind (arith, nat_tests))
+pub need_at-ready : (told : List Deed) (query : Query) (wanted : RecordNo) (c : ℕ) → wanted ≡ need_of query → history.covered told ≡ c → wanted.0 ≤ c → need_at told query ≡ need.Ready
+need_at-ready told query wanted c is covers within =
+    let ready : need_by wanted told ≡ need.Ready = rw covers (grind (arith, nat_tests)) in
+    ap (λ (w : RecordNo). need_by w told) (sym is) ∙ ready
 
-pub need_at-none : (told : List Deed) (query : Query) (c a : ℕ) → history.covered told ≡ c → history.accepted told ≡ a → c < query.need.0 → a < query.need.0
-    → need_at told query ≡ need.NoSuchRecord (record { 0 = a }) query.need
-need_at-none told query c a covers all beyond out = rw (covers, all) (grind (arith, nat_tests))
+pub need_at-pending : (told : List Deed) (query : Query) (wanted : RecordNo) (c a : ℕ) → wanted ≡ need_of query → history.covered told ≡ c → history.accepted told ≡ a → c < wanted.0 → wanted.0 ≤ a
+    → need_at told query ≡ need.Pending (record { 0 = c }) wanted
+need_at-pending told query wanted c a is covers all beyond within =
+    let pending : need_by wanted told ≡ need.Pending (record { 0 = c }) wanted = rw (covers, all) (grind (arith, nat_tests)) in
+    ap (λ (w : RecordNo). need_by w told) (sym is) ∙ pending
+
+pub need_at-none : (told : List Deed) (query : Query) (wanted : RecordNo) (c a : ℕ) → wanted ≡ need_of query → history.covered told ≡ c → history.accepted told ≡ a → c < wanted.0 → a < wanted.0
+    → need_at told query ≡ need.NoSuchRecord (record { 0 = a }) wanted
+need_at-none told query wanted c a is covers all beyond out =
+    let none : need_by wanted told ≡ need.NoSuchRecord (record { 0 = a }) wanted = rw (covers, all) (grind (arith, nat_tests)) in
+    ap (λ (w : RecordNo). need_by w told) (sym is) ∙ none

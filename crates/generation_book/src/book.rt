@@ -3,9 +3,8 @@
 ghost use Rattle.std.specs.Prelude.{◌≡◌, ◌⊎◌, ◌<◌, ◌≤◌, [], ◌∷◌, ◌++◌, filter, IfOk, OnOk, OnErr, IfErr, Some, None};
 ghost use Rattle.std.specs.Option.{option_copied};
 ghost use Rattle.stock_model.specs.declared.deeds.Deed.TheVariants as deed;
-ghost use Rattle.stock_model.specs.Reports.{need_at, unmet_need, is_until, selected};
+ghost use Rattle.stock_model.specs.Reports.{need_at, unmet_need, is_until, selected, IsSelected};
 ghost use Rattle.stock_nums.specs.Places.{is_later};
-ghost use Rattle.stock_model.specs.Bounds.{AreBounded};
 ghost use Rattle.stock_model.specs.Entries.{entries};
 ghost use Rattle.stock_model.specs.Faults.{voucher_fault, full, fault_but_short, fault};
 ghost use Rattle.stock_model.specs.History as history;
@@ -167,7 +166,7 @@ impl Book {
     pub fn test(&self, query: &Query) -> Need
         ensures { result ≡ need_at self.now.history query.now }
     {
-        let wanted = query.need;
+        let wanted = query.need_of();
         let (covered, accepted) = (self.covered, RecordNo(self.journal.count()));
         if wanted.0 <= covered.0 {
             Need::Ready
@@ -182,7 +181,7 @@ impl Book {
     pub fn select(&self, alloc: Global, query: &Query) -> Result<Selected, SelectFault>
         ensures ready { OnOk result (need_at self.now.history query.now ≡ Need.Ready) }
         ensures selected { IfOk result (λ chosen. chosen ≡ selected self.now.history query.now) }
-        ensures bounded { IfOk result (λ chosen. AreBounded chosen.rows) }
+        ensures of_book { IfOk result (IsSelected query.now) }
         ensures fault { IfErr result (λ f. (f ≡ SelectFault.NoMemory) × (need_at self.now.history query.now ≡ Need.Ready)
             ⊎ (unmet_need (need_at self.now.history query.now) ≡ Some f)) }
     {
@@ -198,7 +197,7 @@ impl Book {
     /// What a report whose need is met is made from.
     fn generation(&self, alloc: Global, query: &Query) -> Result<Selected, SelectFault>
         ensures selected { IfOk result (λ chosen. chosen ≡ selected self.now.history query.now) }
-        ensures bounded { IfOk result (λ chosen. AreBounded chosen.rows) }
+        ensures of_book { IfOk result (IsSelected query.now) }
         ensures memory { IfErr result (λ f. f ≡ SelectFault.NoMemory) }
     {
         let records = self.journal.records();
@@ -292,7 +291,7 @@ fn fault_of(short: Short) -> PostFault
 mod tests {
     use super::*;
     use std::test::Fail;
-    use stock_model::queries::Sheet;
+    use stock_model::queries::{Format, Sheet};
     use stock_model::vouchers::{IssueLine, Purpose, ReceiptLine, What};
     use stock_nums::cause::Method;
     use stock_nums::code::Code;
@@ -381,6 +380,7 @@ mod tests {
             until: None,
             item: None,
             store: None,
+            format: Format::Json,
         };
         book.select(alloc, &query)
     }
@@ -430,6 +430,7 @@ mod tests {
                 until: None,
                 item: None,
                 store: None,
+                format: Format::Json,
             })
         })
     }

@@ -1,7 +1,7 @@
 //! The book: the journal, the generation that reports are made from, and the one history of both.
 #![tactic(auto)]
 
-pub use stock_model::queries::{Need, Query, SelectFault, Selected, Sheet};
+pub use stock_model::queries::{Format, Need, Query, SelectFault, Selected, Sheet};
 
 pub mod book;
 pub mod events;

@@ -8,8 +8,9 @@ use crate::book::Book;
 use std::alloc::Global;
 use std::test::Fail;
 use stock_model::layers::layers;
-use stock_model::queries::{Query, Selected, Sheet};
+use stock_model::queries::{Format, Query, Selected, Sheet};
 use stock_model::records::Record;
+use stock_model::selected_laws::all_can_be_shown;
 use stock_model::sheets::balance;
 use stock_model::vouchers::{IssueLine, Purpose, ReceiptLine, What};
 use stock_nums::cause::Method;
@@ -88,6 +89,7 @@ fn settled(alloc: Global, query: &Query) -> Result<Selected, Fail>
     let mut book = Book::start(alloc);
     post_all(alloc, &mut book)?;
     book.settle_all(alloc)?;
+    all_can_be_shown();
     Ok(book.select(alloc, query)?)
 }
 
@@ -108,6 +110,7 @@ fn a_receipt_of_the_day_before(rt: HostRuntime) -> Result<(), Fail> {
         until: None,
         item: Some(Code::of(alloc, "B")?),
         store: None,
+        format: Format::Json,
     };
     let selected = settled(alloc, &query)?;
     assert_eq!(rt; selected.covered, RecordNo(5));

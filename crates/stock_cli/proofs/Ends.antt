@@ -11,6 +11,8 @@ use Rattle.stock_cli.specs.declared.end.End.{End}
 use Rattle.stock_cli.specs.declared.end.End.TheVariants.{Done, NoMemory, ReadFailed, WriteFailed, TooLong}
 use Rattle.stock_cli.specs.Statuses.{HasCause, IsReadToEnd, max_input}
 use Rattle.stock_cli.specs.Replies.{Answered}
+use Rattle.std.proofs.lemmas.List.Elements.{All-nil}
+use Rattle.stock_cli.specs.Answers.{ShowsKeptStock}
 use Rattle.stock_cli.specs.Batches.{StandsFor, GoesOn}
 use Rattle.stock_cli.specs.Ran.{Ran, UnderWay, TakesPiece, Stops, Finishes, IsOutputEnd, IsLastEnd}
 use Rattle.stock_cli.proofs.Batches.{Answered-whole}
@@ -97,7 +99,7 @@ consumed_all (Some xs) (Some ys) taken took at_end = sym (took ∙ ap (λ (rest 
 
 -- nothing is answered where nothing was taken
 pub Answered-nothing : Answered [] []
-Answered-nothing = record { replies = []; history = []; run = refl; legal = tt; text_is = refl }
+Answered-nothing = record { answers = []; history = []; run = refl; legal = tt; keeps = All-nil ShowsKeptStock; text_is = refl }
 
 module _ {S O : Type 0} (left : S → Option (List ℕ)) (taken read_faults : S → ℕ) (written : O → Option (List ℕ)) (write_faults : O → ℕ) where
   -- a run for which memory is wanting before it begins

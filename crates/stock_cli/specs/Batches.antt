@@ -1,9 +1,9 @@
 -- What a batch under way stands for.
-use Rattle.std.specs.Prelude.{ℕ, ◌≡◌, List, [], ◌++◌}
+use Rattle.std.specs.Prelude.{ℕ, ◌≡◌, List, All, [], ◌++◌}
 use Rattle.std.specs.List.{flat_map}
-use Rattle.stock_model.specs.declared.replies.Reply.{Reply}
+use Rattle.stock_model.specs.declared.answers.Answer.{Answer}
 use Rattle.stock_model.specs.History.{IsLegal}
-use Rattle.voucher_json.specs.ReplyText.{reply_line}
+use Rattle.stock_cli.specs.Answers.{answer_line, ShowsKeptStock}
 use Rattle.stock_cli.specs.declared.batch.Batch.{Batch}
 use Rattle.stock_cli.specs.InputParts.{Parted}
 use Rattle.stock_cli.specs.OpenLines.{StandsForLine}
@@ -14,12 +14,13 @@ use Rattle.stock_cli.specs.Replies.{RunsOver}
 pub record StandsFor (batch : Batch) (taken written : List ℕ) : Type 0 where
   pub whole : List (List ℕ)
   pub rest : List ℕ
-  pub replies : List Reply
+  pub answers : List Answer
   pub parted : Parted taken whole rest
   pub under_way : StandsForLine batch.line rest
-  pub run : RunsOver whole [] replies batch.book.history
+  pub run : RunsOver whole [] answers batch.book.history
   pub legal : IsLegal batch.book.history
-  pub text_is : written ++ batch.waiting.items ≡ flat_map reply_line replies
+  pub keeps : All ShowsKeptStock answers
+  pub text_is : written ++ batch.waiting.items ≡ flat_map answer_line answers
 
 -- after these further bytes were taken, and nothing written
 abbrev pub GoesOn : Batch → List ℕ → Batch → Type 0

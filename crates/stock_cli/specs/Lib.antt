@@ -1,5 +1,6 @@
 pub mod InputParts
 pub mod OpenLines
+pub mod Answers
 pub mod Replies
 pub mod Batches
 pub mod Statuses

@@ -1,69 +1,72 @@
 //! The answer to a request, over the book.
-ghost use Rattle.std.specs.Prelude.{◌≡◌, ℕ, List, IfOk, OnErr, IsTrue, false};
+ghost use Rattle.std.specs.Prelude.{◌≡◌, ℕ, List, [], IfOk, OnErr, IsTrue, false};
 ghost use Rattle.stock_model.specs.Limits.{is_within_limits};
-ghost use Rattle.stock_model.specs.Reports.{sheet_reply};
-ghost use Rattle.stock_model.specs.Bounds.{AreBounded};
+ghost use Rattle.stock_model.specs.declared.replies.Reply.TheVariants as reply;
 ghost use Rattle.stock_model.specs.History.{IsLegal};
-ghost use Rattle.stock_model.specs.Run.{IsReplyTo, Step};
+ghost use Rattle.stock_model.specs.Run.{IsAnswerTo, Step};
 ghost use Rattle.voucher_json.specs.Requests.{IsReadAs, IsWithinLimits};
-ghost use Rattle.voucher_json.specs.ReplyText.{IsPrinted};
+ghost use Rattle.stock_cli.specs.Answers.{HasText, ShowsKeptStock};
 ghost use Rattle.stock_cli.specs.OpenLines.{StandsForLine};
 ghost use Rattle.stock_cli.specs.Replies.{state_of};
 
 use crate::open_line::OpenLine;
-use crate::refusing::{bad, refused};
+use crate::refusing::{bad, refused, told};
 use generation_book::book::Book;
 use std::alloc::Global;
-use stock_model::queries::{Query, SelectFault, Selected, Sheet};
+use stock_model::answers::Answer;
+use stock_model::queries::{Query, SelectFault};
 use stock_model::records::Record;
 use stock_model::replies::Reply;
 use stock_model::requests::Request;
 use stock_model::vouchers::What;
-use stock_model::{layers, sheets};
+use stock_model::selected_laws::the_ledger_keeps_the_stock;
 use stock_nums::memory::NoMemory;
 use stock_nums::numbers::DeskNo;
 use voucher_json::reading::read_request;
 
-/// The reply to a line that is not blank, as the answer at this point of the book's history. A long line
+/// The answer to a line that is not blank, at this point of the book's history. A long line
 /// takes no memory.
 ///
 /// # Errors
 ///
 /// `NoMemory`: the book is unchanged.
-pub fn reply_to(alloc: Global, book: &mut Book, line: &OpenLine) -> Result<Reply, NoMemory>
-    ensures step { IfOk result (λ reply. (text : List ℕ) → StandsForLine line.now text → Step (IsReadAs false) (state_of book.old.history) text reply (state_of book.new.history)) }
-    ensures printed { IfOk result IsPrinted }
+pub fn answer_to(alloc: Global, book: &mut Book, line: &OpenLine) -> Result<Answer, NoMemory>
+    ensures step { IfOk result (λ answer. (text : List ℕ) → StandsForLine line.now text → Step (IsReadAs false) (state_of book.old.history) text answer (state_of book.new.history)) }
+    ensures text { IfOk result HasText }
+    ensures keeps { IfOk result ShowsKeptStock }
     ensures legal { IfOk result (λ _. IsLegal book.old.history → IsLegal book.new.history) }
     ensures unchanged { OnErr result (book.new ≡ book.old) }
-    ensures long { IsTrue line.now.long → result ≡ Ok Reply.Long }
+    ensures long { IsTrue line.now.long → result ≡ Ok (Answer.Told reply.Long []) }
 {
     if line.long {
-        return Ok(Reply::Long);
+        return Ok(told(alloc, Reply::Long));
     }
     match read_request(alloc, line.bytes.as_slice(), false) {
         Ok(request) => answer(alloc, book, request),
-        Err(fault) => bad(fault),
+        Err(fault) => bad(alloc, fault),
     }
 }
 
-fn answer(alloc: Global, book: &mut Book, request: Request) -> Result<Reply, NoMemory>
+fn answer(alloc: Global, book: &mut Book, request: Request) -> Result<Answer, NoMemory>
     requires { IsWithinLimits request }
-    ensures answers { IfOk result (λ reply. IsReplyTo book.old.history request reply book.new.history) }
-    ensures printed { IfOk result IsPrinted }
+    ensures answers { IfOk result (λ answer. IsAnswerTo book.old.history request answer book.new.history) }
+    ensures text { IfOk result HasText }
+    ensures keeps { IfOk result ShowsKeptStock }
     ensures legal { IfOk result (λ _. IsLegal book.old.history → IsLegal book.new.history) }
     ensures unchanged { OnErr result (book.new ≡ book.old) }
 {
     match request {
         Request::Post(what) => post(alloc, book, what),
         Request::Settle => settle(alloc, book),
-        Request::Report(query) => report(alloc, book, &query),
+        Request::Report(query) => report(alloc, book, query),
     }
 }
 
-fn post(alloc: Global, book: &mut Book, what: What) -> Result<Reply, NoMemory>
+fn post(alloc: Global, book: &mut Book, what: What) -> Result<Answer, NoMemory>
     requires { IsTrue (is_within_limits what) }
-    ensures answers { IfOk result (λ reply. IsReplyTo book.old.history (Request.Post what) reply book.new.history) }
-    ensures printed { IfOk result IsPrinted }
+    ensures answers { IfOk result (λ answer. IsAnswerTo book.old.history (Request.Post what) answer book.new.history) }
+    ensures text { IfOk result HasText }
+    ensures keeps { IfOk result ShowsKeptStock }
     ensures legal { IfOk result (λ _. IsLegal book.old.history → IsLegal book.new.history) }
     ensures unchanged { OnErr result (book.new ≡ book.old) }
 {
@@ -72,47 +75,36 @@ fn post(alloc: Global, book: &mut Book, what: What) -> Result<Reply, NoMemory>
         what,
     };
     match book.post(alloc, item) {
-        Ok(number) => Ok(Reply::Accepted(number)),
+        Ok(number) => Ok(told(alloc, Reply::Accepted(number))),
         Err(fault) => refused(alloc, book, fault),
     }
 }
 
-fn settle(alloc: Global, book: &mut Book) -> Result<Reply, NoMemory>
-    ensures answers { IfOk result (λ reply. IsReplyTo book.old.history Request.Settle reply book.new.history) }
-    ensures printed { IfOk result IsPrinted }
+fn settle(alloc: Global, book: &mut Book) -> Result<Answer, NoMemory>
+    ensures answers { IfOk result (λ answer. IsAnswerTo book.old.history Request.Settle answer book.new.history) }
+    ensures text { IfOk result HasText }
+    ensures keeps { IfOk result ShowsKeptStock }
     ensures legal { IfOk result (λ _. IsLegal book.old.history → IsLegal book.new.history) }
     ensures unchanged { OnErr result (book.new ≡ book.old) }
 {
-    Ok(Reply::Settled(book.settle_all(alloc)?))
+    let covered = book.settle_all(alloc)?;
+    Ok(told(alloc, Reply::Settled(covered)))
 }
 
-fn report(alloc: Global, book: &Book, query: &Query) -> Result<Reply, NoMemory>
-    ensures answers { IfOk result (λ reply. IsReplyTo book.now.history (Request.Report query.now) reply book.now.history) }
-    ensures printed { IfOk result IsPrinted }
+fn report(alloc: Global, book: &Book, query: Query) -> Result<Answer, NoMemory>
+    ensures answers { IfOk result (λ answer. IsAnswerTo book.now.history (Request.Report query) answer book.now.history) }
+    ensures text { IfOk result HasText }
+    ensures keeps { IfOk result ShowsKeptStock }
 {
-    match book.select(alloc, query) {
-        Ok(chosen) => sheet(alloc, query, &chosen),
-        Err(SelectFault::Pending { covered, wanted }) => Ok(Reply::Pending { covered, wanted }),
+    the_ledger_keeps_the_stock();
+    match book.select(alloc, &query) {
+        Ok(selected) => Ok(Answer::Shown { query, selected }),
+        Err(SelectFault::Pending { covered, wanted }) => {
+            Ok(told(alloc, Reply::Pending { covered, wanted }))
+        }
         Err(SelectFault::NoSuchRecord { accepted, wanted }) => {
-            Ok(Reply::NoSuchRecord { accepted, wanted })
+            Ok(told(alloc, Reply::NoSuchRecord { accepted, wanted }))
         }
         Err(SelectFault::NoMemory) => Err(NoMemory),
-    }
-}
-
-fn sheet(alloc: Global, query: &Query, chosen: &Selected) -> Result<Reply, NoMemory>
-    requires { AreBounded chosen.now.rows }
-    ensures reply { IfOk result (λ reply. reply ≡ sheet_reply query.now query.now.sheet chosen.now) }
-    ensures printed { IfOk result IsPrinted }
-{
-    match query.sheet {
-        Sheet::Balance => Ok(Reply::Balance {
-            covered: chosen.covered,
-            rows: sheets::balance(alloc, query, chosen)?,
-        }),
-        Sheet::Layers => Ok(Reply::Layers {
-            covered: chosen.covered,
-            rows: layers::layers(alloc, query, chosen)?,
-        }),
     }
 }

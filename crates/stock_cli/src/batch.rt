@@ -1,9 +1,9 @@
 //! A batch under way: bytes of the input go in as they come, and the replies to whole lines wait to be written.
 
-use crate::answering::reply_to;
+use crate::answering::answer_to;
 use crate::open_line::OpenLine;
 use crate::split::split_line;
-use crate::waiting::append_reply;
+use crate::waiting::append_answer;
 use generation_book::book::Book;
 use std::alloc::Global;
 use stock_io::failed::Failed;
@@ -108,7 +108,7 @@ impl Batch {
         if self.line.blank {
             return Ok(());
         }
-        let reply = reply_to(alloc, &mut self.book, &self.line)?;
-        append_reply(alloc, &mut self.waiting, &reply)
+        let answer = answer_to(alloc, &mut self.book, &self.line)?;
+        append_answer(alloc, &mut self.waiting, &answer)
     }
 }

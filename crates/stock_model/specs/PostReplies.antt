@@ -1,24 +1,37 @@
 -- What the posting of a record is answered at a point of the history.
-use Rattle.std.specs.Prelude.{◌+◌, ◌≡◌, List, ◌∷◌, [], ◌++◌, MatchOption}
+use Rattle.std.specs.Prelude.{ℕ, ◌+◌, ◌≡◌, Option, List, ◌∷◌, [], ◌++◌, filter_map, MatchOption}
+use Rattle.std.specs.Option.{option_and_then}
+use Rattle.stock_nums.specs.declared.head.Head.{Head}
 use Rattle.stock_model.specs.declared.records.Record.{Record}
 use Rattle.stock_model.specs.declared.deeds.Deed.{Deed}
 use Rattle.stock_model.specs.declared.deeds.Deed.TheVariants.{Kept}
-use Rattle.stock_model.specs.declared.replies.Reply.{Reply}
-use Rattle.stock_model.specs.declared.replies.Reply.TheVariants.{Accepted, Refused}
+use Rattle.stock_model.specs.declared.faults.PostFault.{PostFault}
+use Rattle.stock_model.specs.declared.faults.PostFault.TheVariants.{Short, KeeperFailed}
+use Rattle.stock_model.specs.declared.replies.Reply.TheVariants.{Accepted, Refused, StoreFailed}
 use Rattle.stock_model.specs.declared.answers.Answer.{Answer}
 use Rattle.stock_model.specs.declared.answers.Answer.TheVariants.{Told}
-use Rattle.stock_model.specs.Masters.{heads}
+use Rattle.stock_model.specs.Masters.{record_at, head_made}
 use Rattle.stock_model.specs.Faults.{fault}
 use Rattle.stock_model.specs.History.{records, accepted}
 
--- a reply about a record that comes next, which may name the items and warehouses that there are
-abbrev pub told_after : List Deed → Reply → Answer
-told_after old reply = Told reply (heads (records old))
+-- the item or warehouse with this number, if there is one
+abbrev pub head_at : List Record → ℕ → Option Head
+head_at journal n = option_and_then (λ item. head_made n item.what) (record_at journal n)
+
+-- the numbers of the item and the warehouse that a fault names
+abbrev pub named : PostFault → List ℕ
+named (Short place item store lacking) = item.0 ∷ store.0 ∷ []
+named _ = []
+
+-- the answer to a record with this fault, with the item and the warehouse that it names
+abbrev pub refusal : List Record → PostFault → Answer
+refusal journal KeeperFailed = Told StoreFailed []
+refusal journal f = Told (Refused f) (filter_map (head_at journal) (named f))
 
 -- the answer to a record that is posted, and the history after it: refused for its first fault and nothing
 -- changed, or accepted under the next number and kept
 abbrev pub IsPostAnswer : List Deed → Record → Answer → List Deed → Type 0
 IsPostAnswer old item answer new =
     MatchOption (fault (records old) item)
-    ((answer ≡ told_after old (Accepted (record { 0 = accepted old + 1 }))) × (new ≡ old ++ Kept item ∷ []))
-    (λ f. (answer ≡ told_after old (Refused f)) × (new ≡ old))
+    ((answer ≡ Told (Accepted (record { 0 = accepted old + 1 })) []) × (new ≡ old ++ Kept item ∷ []))
+    (λ f. (answer ≡ refusal (records old) f) × (new ≡ old))

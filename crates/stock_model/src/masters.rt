@@ -76,7 +76,8 @@ pub fn heads(alloc: Global, records: &[Record]) -> Result<Lines<Head>, NoMemory>
     Ok(found)
 }
 
-fn head_made(alloc: Global, number: u32, what: &What) -> Result<Option<Head>, NoMemory>
+/// The head of what the record with this number makes, if it makes an item or a warehouse.
+pub fn head_made(alloc: Global, number: u32, what: &What) -> Result<Option<Head>, NoMemory>
     ensures { IfOk result (λ found. found ≡ head_made number what.now) }
 {
     match what {

@@ -1,4 +1,6 @@
 //! What a report asks for.
+ghost use Rattle.std.specs.Prelude.{◌≡◌};
+ghost use Rattle.stock_model.specs.Reports.{need_of};
 
 use stock_nums::code::Code;
 use stock_nums::entry::Row;
@@ -44,6 +46,19 @@ pub struct Query {
     /// The code of the one warehouse that is shown, or all.
     pub store: Option<Code>,
     pub format: Format,
+}
+
+impl Query {
+    /// The record that the report has to cover, 0 for none: the greater of the one that is asked for and the one that its
+    /// sheet shows.
+    pub fn need_of(&self) -> RecordNo
+        ensures { result ≡ need_of self.now }
+    {
+        match self.sheet {
+            Sheet::Voucher(shown) if self.need.0 < shown.0 => shown,
+            _ => self.need,
+        }
+    }
 }
 
 /// Whether a report covers the record that it has to cover.

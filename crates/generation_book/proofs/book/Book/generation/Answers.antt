@@ -1,10 +1,9 @@
 -- The rows of the generation are the replay of the covered records.
-use Rattle.std.proofs.Common.{◌≡◌, filter, take, sym, ap, ◌∙◌, subst, refl}
+use Rattle.std.proofs.Common.{◌≡◌, filter, ap, ◌∙◌, subst, refl}
 use Rattle.generation_book.specs.State.{BookState}
 use Rattle.generation_book.specs.Book.{deeds}
 use Rattle.stock_model.specs.Reports.{is_until, selected}
-use Rattle.stock_model.specs.Bounds.{AreBounded}
-use Rattle.stock_model.proofs.Until.{AreBounded-until}
+use Rattle.stock_model.specs.History.{IsLegal}
 use Rattle.generation_book.proofs.Books.{history-records, history-covered}
 use Rattle.generation_book.proofs.book.Book.generation.Goals as goal
 
@@ -17,8 +16,11 @@ returns-clause-selected c =
     let rows = c.in-Ok.ensures ∙ ap (filter (is_until c.args.query.now.until)) (c.as_slice.ensures ∙ c.self.invariant.valued) in
     rw (held, covers, rows, c.in-Ok-heads.ensures, c.records-records.ensures.records) refl
 
-pub returns-clause-bounded : goal.returns-clause-bounded
-returns-clause-bounded c =
-    let rows = c.in-Ok.ensures ∙ ap (filter (is_until c.args.query.now.until)) (c.as_slice.ensures ∙ c.self.invariant.valued) in
-    subst AreBounded (sym rows)
-    (AreBounded-until (take c.self.inside.covered.0 c.self.inside.journal) c.args.query.now.until (subst AreBounded c.self.invariant.valued c.self.invariant.bounded))
+pub returns-clause-of_book : goal.returns-clause-of_book
+returns-clause-of_book c =
+    let told : deeds c.self.inside.events.items c.self.inside.journal ≡ c.args.self.now.history = ap (λ (b : BookState). b.history) c.self.view_is in
+    record {
+      history = c.args.self.now.history;
+      legal = subst IsLegal told c.self.invariant.legal;
+      is = returns-clause-selected c;
+    }

@@ -1,4 +1,4 @@
--- The line is asked, and its one reply waits.
+-- The line is asked, and its one answer waits.
 use Rattle.std.proofs.Common.{sym, ◌∙◌}
 use Rattle.std.proofs.lemmas.Result.{on_ok_weaker}
 use Rattle.stock_cli.proofs.Batches.{AnswersLine-asked}
@@ -6,6 +6,6 @@ use Rattle.stock_cli.proofs.batch.Batch.answer_line.Goals as goal
 
 pub returns-clause-answers : goal.returns-clause-answers
 returns-clause-answers c =
-    on_ok_weaker c.append_reply.result
-    (λ e line stands. AnswersLine-asked line _ _ _ _ c.in_ok-reply.reply (sym stands.blank ∙ c.if-self.false) (c.in_ok-reply.ensures.step line stands) e)
-    c.append_reply.ensures
+    on_ok_weaker c.append_answer.result
+    (λ e line stands. AnswersLine-asked line _ _ _ _ c.in_ok-answer.answer (sym stands.blank ∙ c.if-self.false) (c.in_ok-answer.ensures.step line stands) c.in_ok-answer.ensures.keeps e)
+    c.append_answer.ensures
