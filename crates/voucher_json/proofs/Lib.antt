@@ -8,7 +8,6 @@ pub mod PlainTexts
 pub mod PlainTokens
 pub mod RecordUtf8
 pub mod RecordWalks
-pub mod ReplyTexts
 pub mod StoredRecords
 pub mod TargetRanges
 pub mod Texts

@@ -9,6 +9,8 @@ use Rattle.stock_nums.specs.Targets.{is_target}
 use Rattle.stock_nums.specs.declared.moment.Moment.{Moment}
 use Rattle.stock_nums.proofs.MomentSpelling.{one_moment}
 use Rattle.stock_model.specs.Limits.{is_within_limits}
+use Rattle.stock_model.specs.declared.queries.Sheet.{Sheet}
+use Rattle.stock_model.specs.declared.queries.Sheet.TheVariants.{Balance, Layers, Ledger}
 use Rattle.stock_model.specs.declared.read_faults.FieldName.{FieldName}
 use Rattle.stock_model.specs.declared.read_faults.FieldName.TheVariants as field
 use Rattle.stock_model.specs.declared.read_faults.ReadFault.{ReadFault}
@@ -21,7 +23,7 @@ use Rattle.voucher_json.specs.Walks.{GoesOn, Then, Ends, Yields, found_or_bad, I
 use Rattle.voucher_json.specs.FieldNames.{field_text}
 use Rattle.voucher_json.specs.Fields.{IsObject, IsText, choose, IsWord, items_count, has_other, number_outcome, IsNumber, IsMomentText, IsMoment, list_outcome, IsList, NoOther}
 use Rattle.voucher_json.specs.Records.{record_kinds, methods, purposes, bases, IsItem, IsStore, receipt_line, issue_line, transfer_line, return_line, target_line, IsVoucher, IsIssue, IsLanded, IsWhat}
-use Rattle.voucher_json.specs.Requests.{kinds, sheets, formats, IsReport, IsOfKind, IsRequest, IsReadAs}
+use Rattle.voucher_json.specs.Requests.{kinds, sheets, formats, IsByKey, IsOfAccounts, IsOfVoucher, IsScope, fields_of, IsReport, IsOfKind, IsRequest, IsReadAs}
 use Rattle.voucher_json.specs.StoredRecords.{record_fields, IsRecord, IsRecordReadAs}
 use Rattle.voucher_json.specs.Tables.{IsMoney, Cell, a_text, a_number, an_amount, IsCell, Values, LineTable, names_of, Cells, IsLine}
 use Rattle.voucher_json.specs.Texts.{IsJson, IsWalked}
@@ -29,6 +31,8 @@ use Rattle.voucher_json.specs.declared.kinds.Kind.{Kind}
 use Rattle.voucher_json.specs.declared.kinds.Kind.TheVariants as kind_of
 use Rattle.voucher_json.specs.declared.kinds.RecordKind.{RecordKind}
 use Rattle.voucher_json.specs.declared.kinds.RecordKind.TheVariants as record_of
+use Rattle.voucher_json.specs.declared.kinds.SheetKind.{SheetKind}
+use Rattle.voucher_json.specs.declared.kinds.SheetKind.TheVariants as sheet_of
 use Rattle.voucher_json.proofs.LineFacts.{LineFacts, always, made-same, receipt_line-facts, issue_line-facts, transfer_line-facts, return_line-facts, target_line-facts}
 use denote.Struct.Props.{props}
 
@@ -237,15 +241,36 @@ one_landed shared value =
     both _ _ (one_field (IsList (IsLine target_line)) (one_list (IsLine target_line) (one_line target_line is_target target_line-facts)) field.Targets 0 value) (λ targets.
     both _ _ (no_other (shared ++ field.Charge ∷ field.Basis ∷ field.Targets ∷ []) 0 value) (λ none. ends _))))
 
-one_report : (value : Data) → IsDecided (IsReport value)
-one_report value =
-    both _ _ (one_field (IsWord sheets) (one_word sheets) field.Of 0 value) (λ sheet.
-    both _ _ (optional (IsNumber 0 4_294_967_295) (one_number 0 4_294_967_295) field.Need value) (λ need.
+-- a sheet by items and warehouses
+one_by_key : (sheet : Sheet) (value : Data) → IsDecided (IsByKey sheet value)
+one_by_key sheet value =
     both _ _ (optional IsMoment one_moment_in field.Until value) (λ until.
     both _ _ (optional IsText one_text field.Item value) (λ code.
-    both _ _ (optional IsText one_text field.Store value) (λ store.
+    both _ _ (optional IsText one_text field.Store value) (λ store. ends _)))
+
+-- the sheet of the accounts
+one_of_accounts : (value : Data) → IsDecided (IsOfAccounts value)
+one_of_accounts value = both _ _ (optional IsMoment one_moment_in field.Until value) (λ until. ends _)
+
+-- the sheet of a record
+one_of_voucher : (value : Data) → IsDecided (IsOfVoucher value)
+one_of_voucher value = both _ _ (one_field (IsNumber 1 4_294_967_295) (one_number 1 4_294_967_295) field.Record 0 value) (λ number. ends _)
+
+-- what a sheet of each kind shows
+one_scope : (kind : SheetKind) (value : Data) → IsDecided (IsScope kind value)
+one_scope sheet_of.Balance value = one_by_key Balance value
+one_scope sheet_of.Layers value = one_by_key Layers value
+one_scope sheet_of.Ledger value = one_by_key Ledger value
+one_scope sheet_of.Accounts value = one_of_accounts value
+one_scope sheet_of.Voucher value = one_of_voucher value
+
+one_report : (value : Data) → IsDecided (IsReport value)
+one_report value =
+    both _ _ (one_field (IsWord sheets) (one_word sheets) field.Of 0 value) (λ kind.
+    both _ _ (optional (IsNumber 0 4_294_967_295) (one_number 0 4_294_967_295) field.Need value) (λ need.
+    both _ _ (one_scope kind value) (λ scope.
     both _ _ (optional (IsWord formats) (one_word formats) field.As value) (λ format.
-    both _ _ (no_other (field.Do ∷ field.Of ∷ field.Need ∷ field.Until ∷ field.Item ∷ field.Store ∷ field.As ∷ []) 0 value) (λ none. ends _)))))))
+    both _ _ (no_other (fields_of kind) 0 value) (λ none. ends _)))))
 
 one_what : (shared : List FieldName) (kind : RecordKind) (value : Data) → IsDecided (IsWhat shared kind value)
 one_what shared record_of.Item value = one_item shared value

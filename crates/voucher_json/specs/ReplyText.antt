@@ -1,48 +1,21 @@
--- The texts of the replies: JSON objects with no space, their members in byte order of their keys.
-use Rattle.std.specs.Prelude.{ℕ, ℤ, List, [], ◌∷◌, ◌++◌, map, codes}
-use Rattle.serde_json.specs.Data.{Data, null, string, number, unsigned, array, object, Items, Members, no_members, member}
-use Rattle.serde_json.specs.Find.{of_integer}
+-- The texts of the replies: JSON objects with no space, their members in byte order of their keys. A shortage
+-- is told by the codes of its item and warehouse, which are found among the heads.
+use Rattle.std.specs.Prelude.{ℕ, List, [], ◌∷◌, ◌++◌, codes}
+use Rattle.json_texts.specs.Members.{text, count, status, object_of}
+use Rattle.serde_json.specs.Data.{Data, null}
 use Rattle.serde_json.specs.Written.{compact_text}
-use Rattle.serde_json.specs.View.{items_of}
 use Rattle.stock_nums.specs.MomentText.{moment_text}
+use Rattle.stock_nums.specs.declared.head.Head.{Head}
 use Rattle.stock_nums.specs.declared.place.Place.{Place}
+use Rattle.stock_model.specs.Masters.{code_of}
 use Rattle.stock_model.specs.declared.faults.PostFault.{PostFault}
 use Rattle.stock_model.specs.declared.faults.PostFault.TheVariants as fault_of
 use Rattle.stock_model.specs.declared.read_faults.FieldName.{FieldName}
 use Rattle.stock_model.specs.declared.read_faults.ReadFault.{ReadFault}
 use Rattle.stock_model.specs.declared.read_faults.ReadFault.TheVariants as unread
-use Rattle.stock_model.specs.declared.replies.BalanceRow.{BalanceRow}
-use Rattle.stock_model.specs.declared.replies.LayerRow.{LayerRow}
 use Rattle.stock_model.specs.declared.replies.Reply.{Reply}
-use Rattle.stock_model.specs.declared.replies.Reply.TheVariants.{Accepted, Refused, Short, Pending, NoSuchRecord, Worked, Settled, Balance, Layers, Long, Bad, StoreFailed, MemoryFailed, Http}
+use Rattle.stock_model.specs.declared.replies.Reply.TheVariants.{Accepted, Refused, Pending, NoSuchRecord, Worked, Settled, Long, Bad, StoreFailed, MemoryFailed, Http}
 use Rattle.voucher_json.specs.FieldNames.{field_text}
-
--- a field of an object: its name, and a text, a count, a signed amount, or a list
-abbrev pub Member : Type 0
-Member = List ℕ × Data
-
-abbrev pub text : List ℕ → List ℕ → Member
-text name value = (name, string value)
-
-abbrev pub count : List ℕ → ℕ → Member
-count name n = (name, number (unsigned n))
-
-abbrev pub amount : List ℕ → ℤ → Member
-amount name z = (name, number (of_integer z))
-
-abbrev pub rows : Items → Member
-rows values = (codes "rows", array values)
-
-abbrev pub status : List ℕ → Member
-status value = text (codes "status") value
-
-abbrev pub members_of : List Member → Members
-members_of [] = no_members
-members_of (m ∷ ms) = member m.0 m.1 (members_of ms)
-
--- the object with these fields, in this order
-abbrev pub object_of : List Member → Data
-object_of ms = object (members_of ms)
 
 -- a fault and the status alone
 abbrev pub fault_data : List ℕ → List ℕ → Data
@@ -67,23 +40,31 @@ abbrev pub full_data : ℕ → ℕ → Data
 full_data records entries =
     object_of (count (codes "entries") entries ∷ text (codes "fault") (codes "full") ∷ count (codes "records") records ∷ status (codes "refused") ∷ [])
 
--- a shortage has a reply of its own, and a failed keeper and want of memory have no refusal
-abbrev pub refusal_data : PostFault → Data
-refusal_data fault_of.CodeTaken = record_fault_data (codes "code-taken")
-refusal_data fault_of.CodeShape = record_fault_data (codes "code-shape")
-refusal_data fault_of.AccountRange = record_fault_data (codes "account-range")
-refusal_data (fault_of.UnknownItem line) = line_fault_data (codes "unknown-item") line
-refusal_data (fault_of.UnknownStore line) = line_fault_data (codes "unknown-store") line
-refusal_data (fault_of.SameStore line) = line_fault_data (codes "same-store") line
-refusal_data (fault_of.UnknownTarget line) = line_fault_data (codes "unknown-target") line
-refusal_data (fault_of.LinkLater line) = line_fault_data (codes "link-later") line
-refusal_data (fault_of.RepeatedTarget line) = line_fault_data (codes "repeated-target") line
-refusal_data (fault_of.OverReturn line asked left) = over_return_data line asked.0 left.0
-refusal_data fault_of.NoBasis = record_fault_data (codes "no-basis")
-refusal_data (fault_of.Full records entries) = full_data records entries
-refusal_data (fault_of.Short place item store lacking) = null
-refusal_data fault_of.KeeperFailed = null
-refusal_data fault_of.NoMemory = null
+-- at this place so many units of the item are lacking in the warehouse
+abbrev pub short_data : Place → List ℕ → List ℕ → ℕ → Data
+short_data place item store lacking =
+    object_of
+    (text (codes "at") (moment_text place.moment) ∷ text (codes "fault") (codes "short") ∷ text (codes "item") item
+    ∷ count (codes "lacking") lacking ∷ count (codes "line") place.line ∷ count (codes "record") place.voucher.0
+    ∷ status (codes "refused") ∷ text (codes "store") store ∷ [])
+
+-- a refusal of a record; a failed keeper and want of memory have none
+abbrev pub refusal_data : List Head → PostFault → Data
+refusal_data heads fault_of.CodeTaken = record_fault_data (codes "code-taken")
+refusal_data heads fault_of.CodeShape = record_fault_data (codes "code-shape")
+refusal_data heads fault_of.AccountRange = record_fault_data (codes "account-range")
+refusal_data heads (fault_of.UnknownItem line) = line_fault_data (codes "unknown-item") line
+refusal_data heads (fault_of.UnknownStore line) = line_fault_data (codes "unknown-store") line
+refusal_data heads (fault_of.SameStore line) = line_fault_data (codes "same-store") line
+refusal_data heads (fault_of.UnknownTarget line) = line_fault_data (codes "unknown-target") line
+refusal_data heads (fault_of.LinkLater line) = line_fault_data (codes "link-later") line
+refusal_data heads (fault_of.RepeatedTarget line) = line_fault_data (codes "repeated-target") line
+refusal_data heads (fault_of.OverReturn line asked left) = over_return_data line asked.0 left.0
+refusal_data heads fault_of.NoBasis = record_fault_data (codes "no-basis")
+refusal_data heads (fault_of.Full records entries) = full_data records entries
+refusal_data heads (fault_of.Short place item store lacking) = short_data place (code_of heads item.0) (code_of heads store.0) lacking.0
+refusal_data heads fault_of.KeeperFailed = null
+refusal_data heads fault_of.NoMemory = null
 
 -- a field of a line of input is wrong; the line is 0 for a field of the outer object
 abbrev pub field_fault_data : List ℕ → FieldName → ℕ → Data
@@ -97,72 +78,41 @@ bad_data (unread.BadField name line) = field_fault_data (codes "bad-field") name
 bad_data (unread.Limit name line) = field_fault_data (codes "limit") name line
 bad_data unread.NoMemory = null
 
--- at this place so many units of the item are lacking in the warehouse
-abbrev pub short_data : Place → List ℕ → List ℕ → ℕ → Data
-short_data place item store lacking =
-    object_of
-    (text (codes "at") (moment_text place.moment) ∷ text (codes "fault") (codes "short") ∷ text (codes "item") item
-    ∷ count (codes "lacking") lacking ∷ count (codes "line") place.line ∷ count (codes "record") place.voucher.0
-    ∷ status (codes "refused") ∷ text (codes "store") store ∷ [])
-
--- a row of the balance
-abbrev pub row_data : BalanceRow → Data
-row_data row =
-    object_of
-    (text (codes "item") row.item ∷ count (codes "qty") row.qty.0 ∷ text (codes "store") row.store ∷ amount (codes "value") row.value.0 ∷ [])
-
--- the rows, one after another
-abbrev pub rows_data : List BalanceRow → Items
-rows_data shown = items_of (map row_data shown)
-
--- a row of the layers
-abbrev pub layer_data : LayerRow → Data
-layer_data row =
-    object_of
-    (text (codes "item") row.item ∷ count (codes "line") row.line ∷ count (codes "qty") row.qty.0
-    ∷ count (codes "record") row.voucher.0 ∷ text (codes "store") row.store ∷ amount (codes "value") row.value.0 ∷ [])
-
--- the layers, one after another
-abbrev pub layers_data : List LayerRow → Items
-layers_data shown = items_of (map layer_data shown)
-
--- a sheet of this name
-abbrev pub sheet_data : List ℕ → ℕ → Items → Data
-sheet_data name covered shown =
-    object_of (count (codes "covered") covered ∷ text (codes "report") name ∷ rows shown ∷ status (codes "ok") ∷ [])
-
 -- how many records are covered, and the status
 abbrev pub covered_data : ℕ → List ℕ → Data
 covered_data covered outcome = object_of (count (codes "covered") covered ∷ status outcome ∷ [])
 
+-- the wanted record is not covered yet
+abbrev pub pending_data : ℕ → ℕ → Data
+pending_data covered wanted = object_of (count (codes "covered") covered ∷ count (codes "need") wanted ∷ status (codes "pending") ∷ [])
+
+-- there is no such record as the wanted one
+abbrev pub missing_data : ℕ → ℕ → Data
+missing_data accepted wanted = object_of (count (codes "accepted") accepted ∷ count (codes "need") wanted ∷ status (codes "no-such-record") ∷ [])
+
 -- the JSON value of a reply
-abbrev pub reply_data : Reply → Data
-reply_data (Accepted record_no) = object_of (count (codes "record") record_no.0 ∷ status (codes "accepted") ∷ [])
-reply_data (Refused fault) = refusal_data fault
-reply_data (Short place item store lacking) = short_data place item store lacking.0
-reply_data (Pending covered wanted) =
-    object_of (count (codes "covered") covered.0 ∷ count (codes "need") wanted.0 ∷ status (codes "pending") ∷ [])
-reply_data (NoSuchRecord accepted wanted) =
-    object_of (count (codes "accepted") accepted.0 ∷ count (codes "need") wanted.0 ∷ status (codes "no-such-record") ∷ [])
-reply_data (Worked covered) = covered_data covered.0 (codes "worked")
-reply_data (Settled covered) = covered_data covered.0 (codes "settled")
-reply_data (Balance covered shown) = sheet_data (codes "balance") covered.0 (rows_data shown)
-reply_data (Layers covered shown) = sheet_data (codes "layers") covered.0 (layers_data shown)
-reply_data Long = fault_data (codes "long") (codes "bad")
-reply_data (Bad fault) = bad_data fault
-reply_data StoreFailed = fault_data (codes "store") (codes "failed")
-reply_data MemoryFailed = fault_data (codes "memory") (codes "failed")
-reply_data Http = fault_data (codes "http") (codes "bad")
+abbrev pub reply_data : List Head → Reply → Data
+reply_data heads (Accepted record_no) = object_of (count (codes "record") record_no.0 ∷ status (codes "accepted") ∷ [])
+reply_data heads (Refused fault) = refusal_data heads fault
+reply_data heads (Pending covered wanted) = pending_data covered.0 wanted.0
+reply_data heads (NoSuchRecord accepted wanted) = missing_data accepted.0 wanted.0
+reply_data heads (Worked covered) = covered_data covered.0 (codes "worked")
+reply_data heads (Settled covered) = covered_data covered.0 (codes "settled")
+reply_data heads Long = fault_data (codes "long") (codes "bad")
+reply_data heads (Bad fault) = bad_data fault
+reply_data heads StoreFailed = fault_data (codes "store") (codes "failed")
+reply_data heads MemoryFailed = fault_data (codes "memory") (codes "failed")
+reply_data heads Http = fault_data (codes "http") (codes "bad")
 
 -- the text of a reply
-abbrev pub reply_text : Reply → List ℕ
-reply_text reply = compact_text (reply_data reply)
+abbrev pub reply_text : List Head → Reply → List ℕ
+reply_text heads reply = compact_text (reply_data heads reply)
 
 -- the line of a reply: its text and a line feed
-abbrev pub reply_line : Reply → List ℕ
-reply_line reply = reply_text reply ++ 10 ∷ []
+abbrev pub reply_line : List Head → Reply → List ℕ
+reply_line heads reply = reply_text heads reply ++ 10 ∷ []
 
--- every fault is told but a shortage, which has a reply of its own, a failed keeper and want of memory
+-- every fault is told but a failed keeper and want of memory
 abbrev pub IsTold : PostFault → Type 0
 IsTold fault_of.CodeTaken = Unit {0}
 IsTold fault_of.CodeShape = Unit {0}
@@ -176,7 +126,7 @@ IsTold (fault_of.RepeatedTarget line) = Unit {0}
 IsTold (fault_of.OverReturn line asked left) = Unit {0}
 IsTold fault_of.NoBasis = Unit {0}
 IsTold (fault_of.Full records entries) = Unit {0}
-IsTold (fault_of.Short place item store lacking) = ⊥
+IsTold (fault_of.Short place item store lacking) = Unit {0}
 IsTold fault_of.KeeperFailed = ⊥
 IsTold fault_of.NoMemory = ⊥
 
@@ -191,13 +141,10 @@ IsReadFaultTold unread.NoMemory = ⊥
 abbrev pub IsPrinted : Reply → Type 0
 IsPrinted (Accepted number_of_it) = Unit {0}
 IsPrinted (Refused fault) = IsTold fault
-IsPrinted (Short place item store lacking) = Unit {0}
 IsPrinted (Pending covered wanted) = Unit {0}
 IsPrinted (NoSuchRecord accepted wanted) = Unit {0}
 IsPrinted (Worked covered) = Unit {0}
 IsPrinted (Settled covered) = Unit {0}
-IsPrinted (Balance covered rows) = Unit {0}
-IsPrinted (Layers covered rows) = Unit {0}
 IsPrinted Long = Unit {0}
 IsPrinted (Bad fault) = IsReadFaultTold fault
 IsPrinted StoreFailed = Unit {0}

@@ -1,10 +1,13 @@
 -- How a text is read: as the request that it is, or with the first fault of the walk over its fields.
-use Rattle.std.specs.Prelude.{ℕ, Bool, true, false, List, [], ◌∷◌, map, codes, unwrap_or, Result, IsTrue, ⊤}
+use Rattle.std.specs.Prelude.{ℕ, Bool, true, false, None, List, [], ◌∷◌, ◌++◌, map, codes, unwrap_or, Result, IsTrue, ⊤}
 use Rattle.serde_json.specs.Data.{Data}
 use Rattle.stock_model.specs.Limits.{is_within_limits}
+use Rattle.stock_model.specs.declared.queries.Format.{Format}
+use Rattle.stock_model.specs.declared.queries.Format.TheVariants.{Json, Csv}
 use Rattle.stock_model.specs.declared.queries.Query.{Query}
 use Rattle.stock_model.specs.declared.queries.Sheet.{Sheet}
-use Rattle.stock_model.specs.declared.queries.Sheet.TheVariants.{Balance, Layers}
+use Rattle.stock_model.specs.declared.queries.Sheet.TheVariants.{Balance, Layers, Ledger, Accounts, Voucher}
+use Rattle.stock_model.specs.declared.read_faults.FieldName.{FieldName}
 use Rattle.stock_model.specs.declared.read_faults.FieldName.TheVariants as field
 use Rattle.stock_model.specs.declared.read_faults.ReadFault.{ReadFault}
 use Rattle.stock_model.specs.declared.requests.Request.{Request}
@@ -15,8 +18,9 @@ use Rattle.voucher_json.specs.Records.{record_kinds, IsWhat}
 use Rattle.voucher_json.specs.Texts.{IsWalked}
 use Rattle.voucher_json.specs.declared.kinds.Kind.{Kind}
 use Rattle.voucher_json.specs.declared.kinds.Kind.TheVariants as kind_of
-use Rattle.voucher_json.specs.declared.kinds.Format.{Format}
-use Rattle.voucher_json.specs.declared.kinds.Format.TheVariants.{Json}
+use Rattle.voucher_json.specs.declared.kinds.SheetKind.{SheetKind}
+use Rattle.voucher_json.specs.declared.kinds.SheetKind.TheVariants as sheet_of
+use Rattle.voucher_json.specs.declared.report_reading.Scope.{Scope}
 
 -- the words of `do`; a desk may not settle
 abbrev pub desk_kinds : List (List ℕ × Kind)
@@ -27,24 +31,75 @@ kinds true = desk_kinds
 kinds false = (codes "settle", kind_of.Settle) ∷ desk_kinds
 
 -- the words of `of`
-abbrev pub sheets : List (List ℕ × Sheet)
-sheets = (codes "balance", Balance) ∷ (codes "layers", Layers) ∷ []
+abbrev pub sheets : List (List ℕ × SheetKind)
+sheets =
+    (codes "balance", sheet_of.Balance)
+    ∷ (codes "layers", sheet_of.Layers)
+    ∷ (codes "ledger", sheet_of.Ledger)
+    ∷ (codes "accounts", sheet_of.Accounts)
+    ∷ (codes "voucher", sheet_of.Voucher)
+    ∷ []
 
 -- the words of `as`
 abbrev pub formats : List (List ℕ × Format)
-formats = (codes "json", Json) ∷ []
+formats = (codes "json", Json) ∷ (codes "csv", Csv) ∷ []
 
--- `of` says which sheet; a `need` that is missing is 0; `until`, `item`, `store` and `as` may be missing too
-abbrev pub IsReport : Data → Result Query ReadFault → Type 0
-IsReport value =
-    Then (Field (IsWord sheets) field.Of 0 value) (λ sheet.
-    Then (Optional (IsNumber 0 4_294_967_295) field.Need value) (λ need.
+-- a sheet by items and warehouses: `until`, `item` and `store` may be missing, which leaves nothing out
+abbrev pub IsByKey : Sheet → Data → Result Scope ReadFault → Type 0
+IsByKey sheet value =
     Then (Optional IsMoment field.Until value) (λ until.
     Then (Optional IsText field.Item value) (λ item.
     Then (Optional IsText field.Store value) (λ store.
+    Ends (record { sheet = sheet; until = until; item = item; store = store }))))
+
+-- the accounts, where `until` may be missing
+abbrev pub IsOfAccounts : Data → Result Scope ReadFault → Type 0
+IsOfAccounts value =
+    Then (Optional IsMoment field.Until value) (λ until.
+    Ends (record { sheet = Accounts; until = until; item = None; store = None }))
+
+-- the lines of one record, whose number is from 1 to 2^32 - 1
+abbrev pub IsOfVoucher : Data → Result Scope ReadFault → Type 0
+IsOfVoucher value =
+    Then (Field (IsNumber 1 4_294_967_295) field.Record 0 value) (λ number.
+    Ends (record { sheet = Voucher (record { 0 = number }); until = None; item = None; store = None }))
+
+-- what a sheet of each kind shows
+abbrev pub IsScope : SheetKind → Data → Result Scope ReadFault → Type 0
+IsScope sheet_of.Balance = IsByKey Balance
+IsScope sheet_of.Layers = IsByKey Layers
+IsScope sheet_of.Ledger = IsByKey Ledger
+IsScope sheet_of.Accounts = IsOfAccounts
+IsScope sheet_of.Voucher = IsOfVoucher
+
+-- the fields that a sheet of each kind has of its own
+abbrev pub own_fields : SheetKind → List FieldName
+own_fields sheet_of.Balance = field.Until ∷ field.Item ∷ field.Store ∷ []
+own_fields sheet_of.Layers = field.Until ∷ field.Item ∷ field.Store ∷ []
+own_fields sheet_of.Ledger = field.Until ∷ field.Item ∷ field.Store ∷ []
+own_fields sheet_of.Accounts = field.Until ∷ []
+own_fields sheet_of.Voucher = field.Record ∷ []
+
+-- the fields that a report on a sheet of each kind may have
+abbrev pub fields_of : SheetKind → List FieldName
+fields_of kind = field.Do ∷ field.Of ∷ field.Need ∷ (own_fields kind ++ field.As ∷ [])
+
+-- `of` says which sheet; a `need` that is missing is 0, and an `as` that is missing is `json`
+abbrev pub IsReport : Data → Result Query ReadFault → Type 0
+IsReport value =
+    Then (Field (IsWord sheets) field.Of 0 value) (λ kind.
+    Then (Optional (IsNumber 0 4_294_967_295) field.Need value) (λ need.
+    Then (IsScope kind value) (λ scope.
     Then (Optional (IsWord formats) field.As value) (λ format.
-    Then (NoOther (field.Do ∷ field.Of ∷ field.Need ∷ field.Until ∷ field.Item ∷ field.Store ∷ field.As ∷ []) 0 value) (λ none.
-    Ends (record { sheet = sheet; need = record { 0 = unwrap_or need 0 }; until = until; item = item; store = store }))))))))
+    Then (NoOther (fields_of kind) 0 value) (λ none.
+    Ends (record {
+      sheet = scope.sheet;
+      need = record { 0 = unwrap_or need 0 };
+      until = scope.until;
+      item = scope.item;
+      store = scope.store;
+      format = unwrap_or format Json;
+    }))))))
 
 -- a settlement has no field but `do`
 abbrev pub IsSettle : Data → Result ⊤ ReadFault → Type 0

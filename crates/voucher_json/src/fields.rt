@@ -13,12 +13,12 @@ ghost use Rattle.voucher_json.specs.Requests.{kinds, sheets, formats};
 use crate::field_names::field_text;
 use crate::forms::{code_in, moment_in, number_in};
 use crate::kinds::{
-    Format, Kind, RecordKind, basis_named, format_named, kind_named, method_named, purpose_named,
-    record_kind_named, sheet_named,
+    Kind, RecordKind, SheetKind, basis_named, format_named, kind_named, method_named,
+    purpose_named, record_kind_named, sheet_kind_named,
 };
 use serde_json::Value;
 use std::alloc::Global;
-use stock_model::queries::Sheet;
+use stock_model::queries::Format;
 use stock_model::read_faults::{FieldName, ReadFault};
 use stock_model::vouchers::{Basis, Purpose};
 use stock_nums::cause::Method;
@@ -187,12 +187,12 @@ pub fn basis_field(object: &Value) -> Result<Basis, ReadFault>
         })
 }
 
-/// The sheet that the report shows.
-pub fn sheet_field(object: &Value) -> Result<Sheet, ReadFault>
+/// What the sheet of the report is of.
+pub fn sheet_kind_field(object: &Value) -> Result<SheetKind, ReadFault>
     ensures { Field (IsWord sheets) FieldName.Of 0 (view object.now) result }
 {
     text_at(object, FieldName::Of)
-        .and_then(sheet_named)
+        .and_then(sheet_kind_named)
         .ok_or(ReadFault::BadField {
             name: FieldName::Of,
             line: 0,

@@ -4,7 +4,7 @@ ghost use Rattle.voucher_json.specs.Fields.{choose};
 ghost use Rattle.voucher_json.specs.Records.{record_kinds, methods, purposes, bases};
 ghost use Rattle.voucher_json.specs.Requests.{desk_kinds, kinds, sheets, formats};
 
-use stock_model::queries::Sheet;
+use stock_model::queries::Format;
 use stock_model::vouchers::{Basis, Purpose};
 use stock_nums::cause::Method;
 
@@ -30,10 +30,14 @@ pub enum Kind {
     Report,
 }
 
-/// How the rows of a report are written.
+/// What the sheet of a report is of. The fields of the report depend on it.
 #[derive(Clone, Copy, Debug, PartialEq, Eq)]
-pub enum Format {
-    Json,
+pub enum SheetKind {
+    Balance,
+    Layers,
+    Ledger,
+    Accounts,
+    Voucher,
 }
 
 /// The kind that a word of `do` means.
@@ -120,14 +124,20 @@ pub fn basis_named(word: &str) -> Option<Basis>
     }
 }
 
-/// The sheet that a word of `of` means.
-pub fn sheet_named(word: &str) -> Option<Sheet>
+/// The kind of a sheet that a word of `of` means.
+pub fn sheet_kind_named(word: &str) -> Option<SheetKind>
     ensures { result ≡ choose sheets word.now }
 {
     if word == "balance" {
-        Some(Sheet::Balance)
+        Some(SheetKind::Balance)
     } else if word == "layers" {
-        Some(Sheet::Layers)
+        Some(SheetKind::Layers)
+    } else if word == "ledger" {
+        Some(SheetKind::Ledger)
+    } else if word == "accounts" {
+        Some(SheetKind::Accounts)
+    } else if word == "voucher" {
+        Some(SheetKind::Voucher)
     } else {
         None
     }
@@ -139,6 +149,8 @@ pub fn format_named(word: &str) -> Option<Format>
 {
     if word == "json" {
         Some(Format::Json)
+    } else if word == "csv" {
+        Some(Format::Csv)
     } else {
         None
     }

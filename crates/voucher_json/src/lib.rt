@@ -17,6 +17,7 @@ pub mod record_reading;
 mod record_tests;
 pub mod record_texts;
 pub mod replying;
+mod report_reading;
 mod text_fronts;
 mod usual_lines;
 mod usual_requests;

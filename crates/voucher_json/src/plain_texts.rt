@@ -29,6 +29,33 @@ pub fn numbered(
     Ok(text)
 }
 
+/// The text of the refusal for this fault of the whole record.
+pub fn record_fault_text(alloc: Global, fault: &str) -> Result<Vec<u8>, AllocError>
+    ensures { IfOk result (λ text. text.items
+        ≡ codes "{\"fault\":\"" ++ (fault.now ++ codes "\",\"status\":\"refused\"}")) }
+{
+    let mut text = Vec::with_capacity(alloc, ROOM)?;
+    text.extend_from_slice(br#"{"fault":""#)?;
+    text.extend_from_slice(fault.as_bytes())?;
+    text.extend_from_slice(br#"","status":"refused"}"#)?;
+    Ok(text)
+}
+
+/// The text of the refusal for this fault of a line, from 1.
+pub fn line_fault_text(alloc: Global, fault: &str, line: u32) -> Result<Vec<u8>, AllocError>
+    ensures { IfOk result (λ text. text.items
+        ≡ codes "{\"fault\":\"" ++ (fault.now ++ (codes "\",\"line\":" ++ (decimal line ++ codes ",\"status\":\"refused\"}")))) }
+{
+    let mut digits = Buffer::new();
+    let mut text = Vec::with_capacity(alloc, ROOM)?;
+    text.extend_from_slice(br#"{"fault":""#)?;
+    text.extend_from_slice(fault.as_bytes())?;
+    text.extend_from_slice(br#"","line":"#)?;
+    text.extend_from_slice(digits.format(line).as_bytes())?;
+    text.extend_from_slice(br#","status":"refused"}"#)?;
+    Ok(text)
+}
+
 /// The text of the reply to a text that is no request.
 pub fn bad_text(alloc: Global, fault: ReadFault) -> Result<Vec<u8>, AllocError>
     requires { IsReadFaultTold fault }

@@ -4,23 +4,20 @@ ghost use Rattle.serde_json.specs.View.{view};
 ghost use Rattle.stock_model.specs.declared.read_faults.ReadFault.{ReadFault};
 ghost use Rattle.stock_model.specs.declared.requests.Request.{Request};
 ghost use Rattle.voucher_json.specs.Walks.{OrNoMemory};
-ghost use Rattle.voucher_json.specs.Requests.{IsReport, IsOfKind, IsRequest, IsReadAs, IsWithinLimits};
+ghost use Rattle.voucher_json.specs.Requests.{IsOfKind, IsRequest, IsReadAs, IsWithinLimits};
 
-use crate::fields::{
-    format_field, kind_field, optional_code, optional_moment, optional_number, sheet_field,
-};
+use crate::fields::kind_field;
 use crate::forms::{check_object, no_other};
 use crate::json_values::json_value;
 use crate::kinds::Kind;
+use crate::report_reading::read_report;
 use crate::usual_requests::read_usual;
 use crate::whats::read_what;
 use serde_json::Value;
 use std::alloc::Global;
-use stock_model::queries::Query;
 use stock_model::read_faults::{FieldName, ReadFault};
 use stock_model::requests::Request;
 use stock_nums::memory::NoMemory;
-use stock_nums::numbers::RecordNo;
 
 /// The request that a text is, or the first fault of the walk over its fields. A desk may not settle.
 pub fn read_request(alloc: Global, bytes: &[u8], at_desk: bool) -> Result<Request, ReadFault>
@@ -74,32 +71,4 @@ fn read_kind(alloc: Global, object: &Value, kind: Kind) -> Result<Request, ReadF
         }
         Kind::Report => Ok(Request::Report(read_report(alloc, object)?)),
     }
-}
-
-/// The report that an object asks for.
-fn read_report(alloc: Global, object: &Value) -> Result<Query, ReadFault>
-    ensures { OrNoMemory (IsReport (view object.now)) result }
-{
-    let sheet = sheet_field(object)?;
-    let need = optional_number(object, FieldName::Need, 0, 4_294_967_295)?;
-    let until = optional_moment(object, FieldName::Until)?;
-    let item = optional_code(alloc, object, FieldName::Item)?;
-    let store = optional_code(alloc, object, FieldName::Store)?;
-    format_field(object)?;
-    let own = [
-        FieldName::Of,
-        FieldName::Need,
-        FieldName::Until,
-        FieldName::Item,
-        FieldName::Store,
-        FieldName::As,
-    ];
-    no_other(object, &[FieldName::Do], &own, 0)?;
-    Ok(Query {
-        sheet,
-        need: RecordNo(need.unwrap_or(0) as u32),
-        until,
-        item,
-        store,
-    })
 }

@@ -2,6 +2,7 @@ use crate::field_names::field_text;
 use crate::reading::read_request;
 use crate::usual_requests::read_usual;
 use std::alloc::Global;
+use std::process::Abort;
 use std::test::Fail;
 use stock_model::queries::Query;
 use stock_model::read_faults::ReadFault;
@@ -57,7 +58,8 @@ fn told_targets(alloc: Global, text: &mut String, targets: &[Target]) -> Result<
 }
 
 fn told_query(alloc: Global, query: &Query) -> Result<String, Fail> {
-    let mut text = format!(in alloc; "report {:?} {}", query.sheet, query.need.0)?;
+    let (sheet, format) = (query.sheet, query.format);
+    let mut text = format!(in alloc; "report {sheet:?} {format:?} {}", query.need.0)?;
     if let Some(until) = &query.until {
         text.push_str(format!(in alloc; " until {} {}", until.date, until.second)?.as_str())?;
     }
@@ -149,15 +151,6 @@ fn reads_each_kind(rt: HostRuntime) -> Result<(), Fail> {
         (r#" {"account":0, "do":"store","code":""} "#, "store  0"),
         (r#"{"do":"settle"}"#, "settle"),
         (r#"{"do":"fly","do":"settle"}"#, "settle"),
-        (r#"{"of":"balance","do":"report"}"#, "report Balance 0"),
-        (
-            r#"{"do":"report","of":"layers","need":7,"as":"json"}"#,
-            "report Layers 7",
-        ),
-        (
-            r#"{"do":"report","of":"balance","need":4294967295,"until":"2026-01-03T07:08:09","item":"B","store":"W1","as":"json"}"#,
-            "report Balance 4294967295 until 20260103 25689 item B store W1",
-        ),
         (
             r#"{"do":"receipt","at":"2026-01-03T07:08:09","lines":[{"item":"B","store":"W1","qty":1,"amount":0},{"item":"C","store":"W2","qty":1000000000,"amount":1000000000000}]}"#,
             "receipt 20260103 25689, B W1 1 0, C W2 1000000000 1000000000000",
@@ -315,28 +308,6 @@ fn tells_the_first_fault(rt: HostRuntime) -> Result<(), Fail> {
             r#"{"do":"issue","at":"2026-02-03T00:00:00","use":"lost","lines":[]}"#,
             "bad use 0",
         ),
-        (r#"{"do":"report","of":"ledger","need":null}"#, "bad of 0"),
-        (
-            r#"{"do":"report","of":"balance","need":null}"#,
-            "bad need 0",
-        ),
-        (
-            r#"{"do":"report","of":"balance","need":-1}"#,
-            "limit need 0",
-        ),
-        (
-            r#"{"do":"report","of":"balance","until":null,"record":1}"#,
-            "bad until 0",
-        ),
-        (
-            r#"{"do":"report","of":"balance","item":null}"#,
-            "bad item 0",
-        ),
-        (r#"{"do":"report","of":"balance","as":"csv"}"#, "bad as 0"),
-        (
-            r#"{"do":"report","of":"balance","record":1}"#,
-            "bad other 0",
-        ),
     ];
     for (text, want) in table {
         let found = read(rt.alloc(), text.as_bytes(), false)?;
@@ -345,6 +316,106 @@ fn tells_the_first_fault(rt: HostRuntime) -> Result<(), Fail> {
     let at_desk = read(rt.alloc(), br#"{"do":"settle"}"#, true)?;
     assert_eq!(rt; at_desk.as_str(), "bad do 0");
     Ok(())
+}
+
+/// Each of these lists of fields makes a report with this fault.
+fn check_reports(rt: &impl Abort, alloc: Global, table: &[(&str, &str)]) -> Result<(), Fail> {
+    for (fields, want) in table {
+        let text = format!(in alloc; "{{\"do\":\"report\",{fields}}}")?;
+        let found = read(alloc, text.as_bytes(), true)?;
+        assert_eq!(rt; found.as_str(), *want, "{fields}");
+    }
+    Ok(())
+}
+
+#[test]
+fn reads_reports(rt: HostRuntime) -> Result<(), Fail> {
+    let table = [
+        (r#"{"of":"balance","do":"report"}"#, "report Balance Json 0"),
+        (
+            r#"{"do":"report","of":"layers","need":7,"as":"json"}"#,
+            "report Layers Json 7",
+        ),
+        (
+            r#"{"do":"report","of":"balance","need":4294967295,"until":"2026-01-03T07:08:09","item":"B","store":"W1","as":"json"}"#,
+            "report Balance Json 4294967295 until 20260103 25689 item B store W1",
+        ),
+        (
+            r#"{"do":"report","of":"ledger","until":"2026-01-03T07:08:09","item":"B","store":"W1","as":"csv"}"#,
+            "report Ledger Csv 0 until 20260103 25689 item B store W1",
+        ),
+        (
+            r#"{"do":"report","of":"voucher","of":"ledger"}"#,
+            "report Ledger Json 0",
+        ),
+        (
+            r#"{"do":"report","of":"accounts"}"#,
+            "report Accounts Json 0",
+        ),
+        (
+            r#"{"do":"report","of":"accounts","need":2,"until":"2026-01-03T07:08:09","as":"csv"}"#,
+            "report Accounts Csv 2 until 20260103 25689",
+        ),
+        (
+            r#"{"do":"report","of":"voucher","record":1}"#,
+            "report Voucher(RecordNo(1)) Json 0",
+        ),
+        (
+            r#"{"as":"csv","record":4294967295,"of":"voucher","need":3,"do":"report"}"#,
+            "report Voucher(RecordNo(4294967295)) Csv 3",
+        ),
+    ];
+    for (text, want) in table {
+        let found = read(rt.alloc(), text.as_bytes(), true)?;
+        assert_eq!(rt; found.as_str(), want, "{text}");
+    }
+    Ok(())
+}
+
+#[test]
+fn tells_faults_of_reports(rt: HostRuntime) -> Result<(), Fail> {
+    let table = [
+        (r#""of":"stock","need":null"#, "bad of 0"),
+        (r#""of":"balance","need":null"#, "bad need 0"),
+        (r#""of":"balance","need":-1"#, "limit need 0"),
+        (r#""of":"voucher","need":4294967296"#, "limit need 0"),
+        (r#""of":"balance","until":null,"record":1"#, "bad until 0"),
+        (
+            r#""of":"ledger","store":1,"item":2,"until":3"#,
+            "bad until 0",
+        ),
+        (r#""of":"ledger","as":0,"store":1,"item":2"#, "bad item 0"),
+        (r#""of":"ledger","as":0,"store":1"#, "bad store 0"),
+        (r#""of":"ledger","as":"xml","x":1"#, "bad as 0"),
+        (r#""of":"ledger","as":null"#, "bad as 0"),
+        (r#""of":"balance","record":1"#, "bad other 0"),
+        (r#""of":"accounts","until":1,"item":"B""#, "bad until 0"),
+        (r#""of":"accounts","item":"B""#, "bad other 0"),
+        (r#""of":"accounts","store":1"#, "bad other 0"),
+        (r#""of":"accounts","record":1"#, "bad other 0"),
+    ];
+    check_reports(&rt, rt.alloc(), &table)
+}
+
+#[test]
+fn tells_faults_of_reports_of_a_record(rt: HostRuntime) -> Result<(), Fail> {
+    let table = [
+        (r#""of":"voucher""#, "bad record 0"),
+        (r#""of":"voucher","until":1"#, "bad record 0"),
+        (r#""of":"voucher","record":null"#, "bad record 0"),
+        (r#""of":"voucher","record":"1""#, "bad record 0"),
+        (r#""of":"voucher","record":1.0"#, "bad record 0"),
+        (r#""of":"voucher","record":0,"as":"xml""#, "limit record 0"),
+        (r#""of":"voucher","record":-1"#, "limit record 0"),
+        (r#""of":"voucher","record":4294967296"#, "limit record 0"),
+        (r#""of":"voucher","record":1,"as":"xml","x":1"#, "bad as 0"),
+        (
+            r#""of":"voucher","record":1,"until":"2026-01-03T07:08:09""#,
+            "bad other 0",
+        ),
+        (r#""of":"voucher","record":1,"item":"B""#, "bad other 0"),
+    ];
+    check_reports(&rt, rt.alloc(), &table)
 }
 
 #[test]

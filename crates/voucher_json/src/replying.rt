@@ -1,46 +1,43 @@
 //! The texts of the replies.
-ghost use Rattle.std.specs.Prelude.{◌≡◌, map, false, IfOk};
+ghost use Rattle.std.specs.Prelude.{◌≡◌, false, IfOk};
 ghost use Rattle.serde_json.specs.Written.{has_float, compact_text};
-ghost use Rattle.serde_json.specs.View.{view, items_view};
-ghost use Rattle.stock_model.specs.declared.replies.Reply.{Reply};
-ghost use Rattle.voucher_json.specs.ReplyText.{refusal_data, short_data, row_data, layer_data, sheet_data, reply_data, reply_text, over_return_data, full_data, IsTold, IsPrinted};
+ghost use Rattle.serde_json.specs.View.{view};
+ghost use Rattle.stock_model.specs.Masters.{code_of};
+ghost use Rattle.voucher_json.specs.ReplyText.{over_return_data, full_data, short_data, refusal_data, pending_data, missing_data, reply_text, IsTold, IsPrinted};
 
 use crate::moment_strings::moment_string;
-use crate::plain_texts::{bad_text, numbered};
+use crate::plain_texts::{bad_text, line_fault_text, numbered, record_fault_text};
 use serde_json::{Value, json};
 use std::alloc::{AllocError, Global};
 use stock_model::faults::PostFault;
-use stock_model::replies::{BalanceRow, LayerRow, Reply};
+use stock_model::masters::code_of;
+use stock_model::replies::Reply;
 use stock_nums::code::Code;
+use stock_nums::head::Head;
 use stock_nums::lines::Lines;
 use stock_nums::memory::NoMemory;
-use stock_nums::numbers::{Qty, RecordNo};
+use stock_nums::numbers::{ItemNo, Qty, RecordNo, StoreNo};
 use stock_nums::place::Place;
 
-/// The text of a reply, with no line feed.
-pub fn reply_text(alloc: Global, reply: &Reply) -> Result<Lines<u8>, NoMemory>
+/// The text of a reply, with no line feed. A shortage is told by the codes of its item and warehouse, which
+/// are found among the heads.
+pub fn reply_text(alloc: Global, reply: &Reply, heads: &[Head]) -> Result<Lines<u8>, NoMemory>
     requires { IsPrinted reply.now }
-    ensures { IfOk result (λ text. text ≡ reply_text reply.now) }
+    ensures { IfOk result (λ text. text ≡ reply_text heads.now reply.now) }
 {
-    Ok(Lines::from_vec(reply_bytes(alloc, reply)?))
+    Ok(Lines::from_vec(reply_bytes(alloc, reply, heads)?))
 }
 
 /// The bytes of a reply. The commonest ones are written with no JSON value in between.
-fn reply_bytes(alloc: Global, reply: &Reply) -> Result<Vec<u8>, AllocError>
+fn reply_bytes(alloc: Global, reply: &Reply, heads: &[Head]) -> Result<Vec<u8>, AllocError>
     requires { IsPrinted reply.now }
-    ensures { IfOk result (λ text. text.items ≡ reply_text reply.now) }
+    ensures { IfOk result (λ text. text.items ≡ reply_text heads.now reply.now) }
 {
     match reply {
         Reply::Accepted(number) => {
             numbered(alloc, r#"{"record":"#, number.0, r#","status":"accepted"}"#)
         }
-        Reply::Refused(fault) => refusal_text(alloc, *fault),
-        Reply::Short {
-            place,
-            item,
-            store,
-            lacking,
-        } => value_text(alloc, short_value(alloc, *place, item, store, *lacking)?),
+        Reply::Refused(fault) => refusal_text(alloc, *fault, heads),
         Reply::Pending { covered, wanted } => {
             value_text(alloc, pending_value(alloc, *covered, *wanted)?)
         }
@@ -58,12 +55,6 @@ fn reply_bytes(alloc: Global, reply: &Reply) -> Result<Vec<u8>, AllocError>
                 r#","status":"settled"}"#,
             )
         }
-        Reply::Balance { covered, rows } => {
-            value_text(alloc, balance_value(alloc, *covered, rows.as_slice())?)
-        }
-        Reply::Layers { covered, rows } => {
-            value_text(alloc, layers_value(alloc, *covered, rows.as_slice())?)
-        }
         Reply::Long => Vec::from_slice(alloc, br#"{"fault":"long","status":"bad"}"#),
         Reply::Bad(fault) => bad_text(alloc, *fault),
         Reply::StoreFailed => Vec::from_slice(alloc, br#"{"fault":"store","status":"failed"}"#),
@@ -80,55 +71,35 @@ fn value_text(alloc: Global, value: Value) -> Result<Vec<u8>, AllocError>
     Ok(value.to_string(alloc)?.into_bytes())
 }
 
-/// How the text of a refusal with a line ends.
-const REFUSED: &str = r#","status":"refused"}"#;
-
 /// The text of a refusal.
-fn refusal_text(alloc: Global, fault: PostFault) -> Result<Vec<u8>, AllocError>
+fn refusal_text(alloc: Global, fault: PostFault, heads: &[Head]) -> Result<Vec<u8>, AllocError>
     requires { IsTold fault }
-    ensures { IfOk result (λ text. text.items ≡ compact_text (refusal_data fault)) }
+    ensures { IfOk result (λ text. text.items ≡ compact_text (refusal_data heads.now fault)) }
 {
     match fault {
-        PostFault::CodeTaken => {
-            Vec::from_slice(alloc, br#"{"fault":"code-taken","status":"refused"}"#)
-        }
-        PostFault::CodeShape => {
-            Vec::from_slice(alloc, br#"{"fault":"code-shape","status":"refused"}"#)
-        }
-        PostFault::AccountRange => {
-            Vec::from_slice(alloc, br#"{"fault":"account-range","status":"refused"}"#)
-        }
-        PostFault::UnknownItem { line } => {
-            numbered(alloc, r#"{"fault":"unknown-item","line":"#, line, REFUSED)
-        }
-        PostFault::UnknownStore { line } => {
-            numbered(alloc, r#"{"fault":"unknown-store","line":"#, line, REFUSED)
-        }
-        PostFault::SameStore { line } => {
-            numbered(alloc, r#"{"fault":"same-store","line":"#, line, REFUSED)
-        }
-        PostFault::UnknownTarget { line } => {
-            numbered(alloc, r#"{"fault":"unknown-target","line":"#, line, REFUSED)
-        }
-        PostFault::LinkLater { line } => {
-            numbered(alloc, r#"{"fault":"link-later","line":"#, line, REFUSED)
-        }
-        PostFault::RepeatedTarget { line } => {
-            numbered(
-                alloc,
-                r#"{"fault":"repeated-target","line":"#,
-                line,
-                REFUSED,
-            )
-        }
+        PostFault::CodeTaken => record_fault_text(alloc, "code-taken"),
+        PostFault::CodeShape => record_fault_text(alloc, "code-shape"),
+        PostFault::AccountRange => record_fault_text(alloc, "account-range"),
+        PostFault::UnknownItem { line } => line_fault_text(alloc, "unknown-item", line),
+        PostFault::UnknownStore { line } => line_fault_text(alloc, "unknown-store", line),
+        PostFault::SameStore { line } => line_fault_text(alloc, "same-store", line),
+        PostFault::UnknownTarget { line } => line_fault_text(alloc, "unknown-target", line),
+        PostFault::LinkLater { line } => line_fault_text(alloc, "link-later", line),
+        PostFault::RepeatedTarget { line } => line_fault_text(alloc, "repeated-target", line),
         PostFault::OverReturn { line, asked, left } => {
             value_text(alloc, over_return_value(alloc, line, asked, left)?)
         }
-        PostFault::NoBasis => Vec::from_slice(alloc, br#"{"fault":"no-basis","status":"refused"}"#),
+        PostFault::NoBasis => record_fault_text(alloc, "no-basis"),
         PostFault::Full { records, entries } => {
             value_text(alloc, full_value(alloc, records, entries)?)
         }
-        PostFault::Short { .. } | PostFault::KeeperFailed | PostFault::NoMemory => unreachable!(),
+        PostFault::Short {
+            place,
+            item,
+            store,
+            lacking,
+        } => short_text(alloc, heads, place, item, store, lacking),
+        PostFault::KeeperFailed | PostFault::NoMemory => unreachable!(),
     }
 }
 
@@ -146,7 +117,34 @@ fn full_value(alloc: Global, records: u32, entries: u32) -> Result<Value, AllocE
     json!(in alloc; {"entries": entries, "fault": "full", "records": records, "status": "refused"})
 }
 
-/// The JSON value of a shortage.
+/// The text of the refusal for a shortage.
+fn short_text(
+    alloc: Global,
+    heads: &[Head],
+    place: Place,
+    item: ItemNo,
+    store: StoreNo,
+    lacking: Qty,
+) -> Result<Vec<u8>, AllocError>
+    ensures { IfOk result (λ text. text.items
+        ≡ compact_text (short_data place (code_of heads.now item.0) (code_of heads.now store.0) lacking.0)) }
+{
+    let item = code_numbered(alloc, heads, item.0)?;
+    let store = code_numbered(alloc, heads, store.0)?;
+    value_text(alloc, short_value(alloc, place, &item, &store, lacking)?)
+}
+
+/// The code of the item or warehouse with this number.
+fn code_numbered(alloc: Global, heads: &[Head], number: u32) -> Result<Code, AllocError>
+    ensures { IfOk result (λ code. code ≡ code_of heads.now number) }
+{
+    match code_of(alloc, heads, number) {
+        Ok(code) => Ok(code),
+        Err(NoMemory) => Err(AllocError),
+    }
+}
+
+/// The JSON value of the refusal for a shortage.
 fn short_value(
     alloc: Global,
     place: Place,
@@ -171,92 +169,16 @@ fn short_value(
 
 /// The JSON value of the reply that the wanted record is not covered yet.
 fn pending_value(alloc: Global, covered: RecordNo, wanted: RecordNo) -> Result<Value, AllocError>
-    ensures { IfOk result (λ value. view value ≡ reply_data (Reply.Pending covered wanted)) }
+    ensures { IfOk result (λ value. view value ≡ pending_data covered.0 wanted.0) }
 {
     json!(in alloc; {"covered": covered.0, "need": wanted.0, "status": "pending"})
 }
 
 /// The JSON value of the reply that there is no such record as the wanted one.
 fn missing_value(alloc: Global, accepted: RecordNo, wanted: RecordNo) -> Result<Value, AllocError>
-    ensures { IfOk result (λ value. view value ≡ reply_data (Reply.NoSuchRecord accepted wanted)) }
+    ensures { IfOk result (λ value. view value ≡ missing_data accepted.0 wanted.0) }
 {
     json!(in alloc; {"accepted": accepted.0, "need": wanted.0, "status": "no-such-record"})
-}
-
-/// The JSON value of a balance sheet.
-fn balance_value(alloc: Global, covered: RecordNo, rows: &[BalanceRow]) -> Result<Value, AllocError>
-    ensures { IfOk result (λ value. view value ≡ reply_data (Reply.Balance covered rows.now)) }
-{
-    let rows = rows_value(alloc, rows)?;
-    sheet_value(alloc, "balance", covered, rows)
-}
-
-/// The JSON value of a layers sheet.
-fn layers_value(alloc: Global, covered: RecordNo, rows: &[LayerRow]) -> Result<Value, AllocError>
-    ensures { IfOk result (λ value. view value ≡ reply_data (Reply.Layers covered rows.now)) }
-{
-    let rows = layer_rows_value(alloc, rows)?;
-    sheet_value(alloc, "layers", covered, rows)
-}
-
-/// The JSON value of a sheet of this name.
-fn sheet_value(
-    alloc: Global,
-    name: &str,
-    covered: RecordNo,
-    rows: Vec<Value>,
-) -> Result<Value, AllocError>
-    ensures { IfOk result (λ value. view value ≡ sheet_data name.now covered.0 (items_view rows.items)) }
-{
-    json!(in alloc; {"covered": covered.0, "report": name, "rows": rows, "status": "ok"})
-}
-
-/// The JSON values of the rows of a balance sheet.
-fn rows_value(alloc: Global, rows: &[BalanceRow]) -> Result<Vec<Value>, AllocError>
-    ensures { IfOk result (λ values. map view values.items ≡ map row_data rows.now) }
-{
-    let mut values = Vec::new(alloc);
-    for row in rows {
-        values.push(row_value(alloc, row)?)?;
-    }
-    Ok(values)
-}
-
-/// The JSON value of a row of a balance sheet.
-fn row_value(alloc: Global, row: &BalanceRow) -> Result<Value, AllocError>
-    ensures { IfOk result (λ value. view value ≡ row_data row.now) }
-{
-    json!(in alloc; {
-        "item": row.item.text(),
-        "qty": row.qty.0,
-        "store": row.store.text(),
-        "value": row.value.0
-    })
-}
-
-/// The JSON values of the rows of a layers sheet.
-fn layer_rows_value(alloc: Global, rows: &[LayerRow]) -> Result<Vec<Value>, AllocError>
-    ensures { IfOk result (λ values. map view values.items ≡ map layer_data rows.now) }
-{
-    let mut values = Vec::new(alloc);
-    for row in rows {
-        values.push(layer_value(alloc, row)?)?;
-    }
-    Ok(values)
-}
-
-/// The JSON value of a row of a layers sheet.
-fn layer_value(alloc: Global, row: &LayerRow) -> Result<Value, AllocError>
-    ensures { IfOk result (λ value. view value ≡ layer_data row.now) }
-{
-    json!(in alloc; {
-        "item": row.item.text(),
-        "line": row.line,
-        "qty": row.qty.0,
-        "record": row.voucher.0,
-        "store": row.store.text(),
-        "value": row.value.0
-    })
 }
 
 #[cfg(test)]
@@ -266,13 +188,12 @@ mod tests {
     use std::test::Fail;
     use stock_model::read_faults::{FieldName, ReadFault};
     use stock_nums::moment::Moment;
-    use stock_nums::numbers::Minor;
     use stock_nums::place::Side;
 
     fn check(rt: &impl Abort, alloc: Global, reply: &Reply, want: &str) -> Result<(), Fail>
         requires { IsPrinted reply.now }
     {
-        let text = reply_text(alloc, reply)?;
+        let text = reply_text(alloc, reply, &[])?;
         assert!(rt; text.as_slice() == want.as_bytes());
         Ok(())
     }
@@ -388,6 +309,14 @@ mod tests {
     #[test]
     fn prints_a_shortage(rt: HostRuntime) -> Result<(), Fail> {
         let alloc = rt.alloc();
+        let mut heads = Lines::new(alloc);
+        for (number, code) in [(2, "B"), (3, "A"), (5, "W1")] {
+            heads.push(Head {
+                number: RecordNo(number),
+                code: Code::of(alloc, code)?,
+                account: None,
+            })?;
+        }
         let place = Place {
             moment: Moment {
                 date: 20_260_105,
@@ -397,62 +326,16 @@ mod tests {
             line: 1,
             side: Side::Leaves,
         };
-        let short = Reply::Short {
+        let short = PostFault::Short {
             place,
-            item: Code::of(alloc, "A")?,
-            store: Code::of(alloc, "W1")?,
+            item: ItemNo(3),
+            store: StoreNo(5),
             lacking: Qty(1),
         };
-        check(
-            &rt,
-            alloc,
-            &short,
-            r#"{"at":"2026-01-05T09:00:00","fault":"short","item":"A","lacking":1,"line":1,"record":6,"status":"refused","store":"W1"}"#,
-        )
-    }
-
-    #[test]
-    fn prints_a_balance(rt: HostRuntime) -> Result<(), Fail> {
-        let alloc = rt.alloc();
-        let mut rows = Lines::new(alloc);
-        for (item, value) in [("B", 1000), ("C", -3)] {
-            rows.push(BalanceRow {
-                item: Code::of(alloc, item)?,
-                store: Code::of(alloc, "W1")?,
-                qty: Qty(10),
-                value: Minor(value),
-            })?;
-        }
-        let balance = Reply::Balance {
-            covered: RecordNo(3),
-            rows,
-        };
-        check(
-            &rt,
-            alloc,
-            &balance,
-            r#"{"covered":3,"report":"balance","rows":[{"item":"B","qty":10,"store":"W1","value":1000},{"item":"C","qty":10,"store":"W1","value":-3}],"status":"ok"}"#,
-        )
-    }
-
-    #[test]
-    fn prints_layers(rt: HostRuntime) -> Result<(), Fail> {
-        let alloc = rt.alloc();
-        let mut rows = Lines::new(alloc);
-        rows.push(LayerRow {
-            item: Code::of(alloc, "A")?,
-            store: Code::of(alloc, "W1")?,
-            voucher: RecordNo(4),
-            line: 1,
-            qty: Qty(9),
-            value: Minor(1170),
-        })?;
-        let covered = RecordNo(6);
-        check(
-            &rt,
-            alloc,
-            &Reply::Layers { covered, rows },
-            r#"{"covered":6,"report":"layers","rows":[{"item":"A","line":1,"qty":9,"record":4,"store":"W1","value":1170}],"status":"ok"}"#,
-        )
+        let text = reply_text(alloc, &Reply::Refused(short), heads.as_slice())?;
+        let want =
+            r#"{"at":"2026-01-05T09:00:00","fault":"short","item":"A","lacking":1,"line":1,"record":6,"status":"refused","store":"W1"}"#;
+        assert!(rt; text.as_slice() == want.as_bytes());
+        Ok(())
     }
 }

@@ -1,14 +1,7 @@
 use Rattle.std.proofs.Common.{◌∙◌}
 use Rattle.std.proofs.lemmas.Result.{IfOk-weaker}
 use Rattle.voucher_json.proofs.PlainTexts.{accepted-text, worked-text, settled-text, long-text, store-text, memory-text, http-text}
-use Rattle.voucher_json.proofs.ReplyTexts.{has_float-rows, has_float-layers}
 use Rattle.voucher_json.proofs.replying.reply_bytes.Goals as goal
-
-pub value_text-requires-in-Balance : goal.value_text-requires-in-Balance
-value_text-requires-in-Balance c = rw c.in_ok-balance_value-in-Balance.ensures (rw (has_float-rows _))
-
-pub value_text-requires-in-Layers : goal.value_text-requires-in-Layers
-value_text-requires-in-Layers c = rw c.in_ok-layers_value-in-Layers.ensures (rw (has_float-layers _))
 
 pub returns-in-Accepted : goal.returns-in-Accepted
 returns-in-Accepted c = rw c.in-Accepted.is (IfOk-weaker c.numbered.result _ _ (λ text is. is ∙ accepted-text c.in-Accepted.number.0) c.numbered.ensures)
