@@ -59,6 +59,15 @@ class Maker:
             return {**item, "store": chance.choice(STORES), "qty": chance.randint(1, 11)}
         return {**item, "store": chance.choice(STORES), "qty": chance.randint(1, 20), "amount": chance.choice([0, chance.randint(1, 9_999), chance.randint(1, 9_999)])}
 
+    def reports(self):
+        """Returns reports on all sheets, some up to a moment or of one item, one of them in CSV."""
+        chance, until = self.chance, {"until": self.chance.choice(self.moments)}
+        asked = [
+            {"of": "balance"}, {"of": "layers"}, {"of": "balance", **until, "item": "NUT"}, {"of": "ledger", **until},
+            {"of": "accounts"}, {"of": "accounts", **until}, {"of": "voucher", "record": chance.randint(1, len(self.ledger.accepted))},
+        ]
+        return [{"do": "report", **it, "as": chance.choice(["json", "csv"])} for it in asked]
+
     def posting(self):
         """Posts a voucher of some kind with up to three lines."""
         chance = self.chance
@@ -79,8 +88,7 @@ def in_random_order():
         if maker.movements() * SETTLES >= (asked + 1) * MOVEMENTS:
             asked += 1
             maker.lines += [json.dumps(it, separators=(",", ":")) for it in (
-                {"do": "settle"}, {"do": "report", "of": "balance"}, {"do": "report", "of": "layers"},
-                {"do": "report", "of": "balance", "until": maker.chance.choice(maker.moments), "item": "NUT"},
+                {"do": "settle"}, *maker.reports(),
             )]
     return maker.lines
 
