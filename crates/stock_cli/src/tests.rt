@@ -105,6 +105,34 @@ const KINDS_REPLIES: &str = r#"{"record":1,"status":"accepted"}
 {"covered":10,"report":"balance","rows":[{"item":"B","qty":1,"store":"W1","value":50},{"item":"B","qty":0,"store":"W2","value":0}],"status":"ok"}
 "#;
 
+const SHEETS: &str = r#"{"do":"item","code":"B","method":"fifo"}
+{"do":"store","code":"W1","account":100}
+{"do":"receipt","at":"2026-01-02T09:00:00","lines":[{"item":"B","store":"W1","qty":10,"amount":1000}]}
+{"do":"settle"}
+{"do":"report","of":"ledger"}
+{"do":"report","of":"ledger","as":"csv"}
+{"do":"report","of":"accounts"}
+{"do":"report","of":"accounts","as":"csv"}
+{"do":"report","of":"voucher","record":3}
+{"do":"report","of":"voucher","record":3,"as":"csv"}
+{"do":"report","of":"layers","as":"csv"}
+{"do":"report","of":"balance","as":"csv"}
+"#;
+
+const SHEETS_REPLIES: &str = r#"{"record":1,"status":"accepted"}
+{"record":2,"status":"accepted"}
+{"record":3,"status":"accepted"}
+{"covered":3,"status":"settled"}
+{"covered":3,"report":"ledger","rows":[{"at":"2026-01-02T09:00:00","item":"B","line":1,"qty":10,"record":3,"side":"in","stock":10,"store":"W1","value":1000,"worth":1000}],"status":"ok"}
+{"covered":3,"csv":"item,store,at,record,line,side,qty,value,stock,worth\nB,W1,2026-01-02T09:00:00,3,1,in,10,1000,10,1000\n","report":"ledger","status":"ok"}
+{"covered":3,"report":"accounts","rows":[{"account":1,"balance":-1000},{"account":100,"balance":1000}],"status":"ok"}
+{"covered":3,"csv":"account,balance\n1,-1000\n100,1000\n","report":"accounts","status":"ok"}
+{"covered":3,"report":"voucher","rows":[{"account":100,"credit":0,"debit":1000,"line":1},{"account":1,"credit":1000,"debit":0,"line":1}],"status":"ok"}
+{"covered":3,"csv":"line,account,debit,credit\n1,100,1000,0\n1,1,0,1000\n","report":"voucher","status":"ok"}
+{"covered":3,"csv":"item,store,record,line,qty,value\nB,W1,3,1,10,1000\n","report":"layers","status":"ok"}
+{"covered":3,"csv":"item,store,qty,value\nB,W1,10,1000\n","report":"balance","status":"ok"}
+"#;
+
 const SETTLE: &str = r#"{"do":"settle"}"#;
 
 const SETTLED: &str = "{\"covered\":0,\"status\":\"settled\"}\n";
@@ -131,7 +159,7 @@ const LIMITED: &str = r#"{"record":1,"status":"accepted"}
 "#;
 
 /// The most bytes that a test writes.
-const ROOM: usize = 1000;
+const ROOM: usize = 2000;
 
 /// A sink of which the call with this number fails, from 1, or none.
 fn sink(alloc: Global, failing: Option<u64>) -> Result<MemSink, NoMemory> {
@@ -172,6 +200,7 @@ fn a_batch_is_answered(rt: HostRuntime) -> Result<(), Fail> {
         (SALES, SALES_REPLIES),
         (FIRST_OUT, FIRST_OUT_REPLIES),
         (KINDS, KINDS_REPLIES),
+        (SHEETS, SHEETS_REPLIES),
     ] {
         check(&rt, alloc, input.as_bytes(), want)?;
     }
