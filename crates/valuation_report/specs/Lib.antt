@@ -1,2 +1,10 @@
 pub mod SheetRows
 pub mod SheetTexts
+pub mod Adding
+pub mod Grouping
+pub mod GroupRows
+pub mod Groups
+pub mod Holdings
+pub mod Pieces
+pub mod SheetPieces
+pub mod AccountPieces

@@ -1,6 +1,6 @@
 -- A row of each sheet: as an object of JSON, its members in byte order of their names; and as the fields of a record of CSV.
-use Rattle.std.specs.Prelude.{ℕ, ℤ, List, [], ◌∷◌, codes, decimal}
-use Rattle.core.specs.Fmt.{signed_decimal}
+use Rattle.std.specs.Prelude.{ℕ, List, [], ◌∷◌, codes, decimal}
+use Rattle.std.specs.Fmt.{signed_decimal}
 use Rattle.serde_json.specs.Data.{Data}
 use Rattle.json_texts.specs.Members.{text, count, amount, object_of}
 use Rattle.stock_nums.specs.MomentText.{moment_text}
