@@ -1,6 +1,6 @@
 //! The text of a report.
 ghost use Rattle.std.specs.Prelude.{◌≡◌, IfOk};
-ghost use Rattle.stock_model.specs.Books.{CanBeShown};
+ghost use Rattle.stock_model.specs.Books.{CanBeShown, KeepsStock};
 ghost use Rattle.stock_model.specs.Reports.{IsSelected};
 ghost use Rattle.valuation_report.specs.SheetTexts.{report_text};
 
@@ -8,20 +8,23 @@ use crate::ledger_sheets::{accounts_text, voucher_text};
 use crate::sheets::grouped_text;
 use std::alloc::Global;
 use stock_model::queries::{Query, Selected, Sheet};
-use stock_model::selected_laws::all_can_be_shown;
+use stock_model::selected_laws::{all_can_be_shown, the_ledger_keeps_the_stock};
 use stock_nums::lines::Lines;
 use stock_nums::memory::NoMemory;
 
 /// The text of the sheet that a query asks for, in its format, with how many records it covers. It is made in one pass over
-/// what was selected, and shows amounts in minor units and quantities in smallest units.
+/// what was selected, and shows amounts in minor units and quantities in smallest units. The ledger keeps the stock that was
+/// selected: the accounts of warehouses are what they hold (IAS 2), and all balances sum to nothing.
 ///
 /// # Errors
 ///
 /// `NoMemory`: memory was wanting.
 pub fn report_text(alloc: Global, selected: &Selected, query: &Query) -> Result<Lines<u8>, NoMemory>
     requires { IsSelected query.now selected.now }
-    ensures { IfOk result (λ text. text ≡ report_text query.now selected.now) }
+    ensures text { IfOk result (λ text. text ≡ report_text query.now selected.now) }
+    ensures keeps { KeepsStock selected.now }
 {
+    the_ledger_keeps_the_stock();
     all_can_be_shown();
     Ok(Lines::from_vec(text_of(alloc, selected, query)?))
 }
