@@ -13,9 +13,28 @@ use crate::grouping::{Group, groups};
 use crate::layer_texts::push_layers;
 use crate::ledger_texts::push_ledger;
 use std::alloc::Global;
-use stock_model::queries::{Query, Selected, Sheet};
+use stock_model::queries::{Format, Query, Selected, Sheet};
 use stock_nums::head::Head;
 use stock_nums::memory::NoMemory;
+
+// Room for a row in each format. Most rows take less.
+const JSON_ROOM: usize = 192;
+
+const CSV_ROOM: usize = 96;
+
+// About how many bytes the rows of the groups take. A text that has room for them does not move as it grows.
+fn room_for(query: &Query, groups: &[Group]) -> usize {
+    let mut rows = groups.len();
+    if query.sheet == Sheet::Ledger {
+        for group in groups {
+            rows = rows.saturating_add(group.rows.len());
+        }
+    }
+    rows.saturating_mul(match query.format {
+        Format::Json => JSON_ROOM,
+        Format::Csv => CSV_ROOM,
+    })
+}
 
 // Adds the rows of one item in one warehouse. The other sheets have none.
 fn push_group(
@@ -66,7 +85,10 @@ pub(crate) fn push_groups(
         (sheet_pieces query.now.format query.now.sheet query.now selected.now)) }
 {
     let groups = groups(alloc, query, selected)?;
-    push_each(text, query, selected.heads.as_slice(), groups.as_slice())
+    let shown = groups.as_slice();
+    let heads = selected.heads.as_slice();
+    let _ = text.reserve(room_for(query, shown));
+    push_each(text, query, heads, shown)
 }
 
 /// The text of a report that shows one of these sheets.
