@@ -19,8 +19,8 @@ use Rattle.stock_model.specs.declared.records.Record.{Record}
 use Rattle.stock_model.specs.declared.vouchers.Basis.{Basis}
 use Rattle.stock_model.specs.declared.vouchers.What.{What}
 use Rattle.stock_model.specs.declared.vouchers.What.TheVariants.{Item, Store, Receipt, Issue, Transfer, CustomerReturn, SupplierReturn, Landed}
-use Rattle.stock_model.proofs.LandedSums.{weight-le}
-use Rattle.stock_model.proofs.Received.{amount-le}
+use Rattle.stock_laws.proofs.LandedSums.{weight-le}
+use Rattle.stock_laws.proofs.Received.{amount-le}
 use Rattle.landed_cost.specs.Charges.{minors}
 use Rattle.cost_links.specs.Charged.{amount, charged_to}
 

@@ -29,7 +29,7 @@ use Rattle.stock_model.proofs.Growth.{all_entries-snoc}
 use Rattle.stock_model.proofs.NoFaults.{NoFaults, NoFaults-from}
 use Rattle.stock_model.proofs.Numbered.{Fails, first_line-none}
 use Rattle.stock_model.proofs.Pairwise.{Each}
-use Rattle.stock_model.proofs.RecordsAt.{target_line-append}
+use Rattle.stock_laws.proofs.RecordsAt.{target_line-append}
 use Rattle.stock_model.proofs.TargetItems.{some-from}
 use Rattle.cost_links.specs.declared.links.Links.{Links}
 use Rattle.cost_links.specs.Charged.{charged_to}

@@ -17,7 +17,7 @@ use Rattle.stock_model.specs.Returns.{returns_of, returned}
 use Rattle.stock_model.specs.Values.{returned_before}
 use Rattle.stock_model.specs.declared.records.Record.{Record}
 use Rattle.stock_model.proofs.Pairwise.{Precedes, Pairwise, Each, Pairwise-from_AllPairs}
-use Rattle.stock_model.proofs.PostingLine.{IsInPostingOrder-posting_line, IsPermutation-posting_line}
+use Rattle.stock_laws.proofs.PostingLine.{IsInPostingOrder-posting_line, IsPermutation-posting_line}
 use Rattle.cost_links.specs.declared.links.Links.{Links}
 use Rattle.cost_links.specs.Linked.{AreLinksOf, back_by, back_of}
 use Rattle.cost_links.specs.Sources.{comes_before, units_before}

@@ -22,9 +22,9 @@ use Rattle.stock_model.specs.Replay.{valued, value_next, rows_of, replay}
 use Rattle.stock_model.specs.Sums.{row_entry}
 use Rattle.stock_model.specs.Values.{line_cost, HasUnits, HasUnitsLeft}
 use Rattle.stock_model.specs.declared.records.Record.{Record}
-use Rattle.stock_model.proofs.Enough.{is_same_key-true}
-use Rattle.stock_model.proofs.Formulas.{posting_line-formula}
-use Rattle.stock_model.proofs.LegalReplay.{CanBeValued-index, AreBounded-first_rows}
+use Rattle.stock_laws.proofs.Enough.{is_same_key-true}
+use Rattle.stock_laws.proofs.Formulas.{posting_line-formula}
+use Rattle.stock_laws.proofs.LegalReplay.{CanBeValued-index, AreBounded-first_rows}
 use Rattle.cost_links.specs.Formulas.{is_same_method, has_formula, HasFormulaAt}
 use Rattle.cost_links.specs.Ready.{HasCostBy, IsReady}
 use Rattle.cost_links.proofs.Splits.{line-parts}

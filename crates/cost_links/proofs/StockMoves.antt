@@ -15,8 +15,8 @@ use Rattle.stock_model.specs.Bounds.{AreBounded}
 use Rattle.stock_model.specs.Enough.{entry_key, is_same_key}
 use Rattle.stock_model.specs.Sums.{units_of, value_of, quantity_in, quantity_out, stock_units, stock_value}
 use Rattle.stock_model.specs.Values.{cost_by}
-use Rattle.stock_model.proofs.Bounds.{quantity_in-le}
-use Rattle.stock_model.proofs.Enough.{is_same_key-refl}
+use Rattle.stock_laws.proofs.Bounds.{quantity_in-le}
+use Rattle.stock_laws.proofs.Enough.{is_same_key-refl}
 use Rattle.cost_formulas.specs.Held.{units_held, value_held, layers_cost, layers_after}
 use Rattle.cost_formulas.specs.Lots.{Lot, untouched}
 use Rattle.cost_links.specs.declared.averages.Averages.{Averages}

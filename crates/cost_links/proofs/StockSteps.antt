@@ -17,8 +17,8 @@ use Rattle.stock_nums.proofs.FirstIn.{first_cost-map, next_cost-map, layers_left
 use Rattle.stock_model.specs.Bounds.{AreBounded}
 use Rattle.stock_model.specs.Enough.{entry_key, is_same_key}
 use Rattle.stock_model.specs.Sums.{is_of, enters_at, leaves_at, units_of, value_of, quantity_in, quantity_out, value_in, value_out}
-use Rattle.stock_model.proofs.Enough.{is_same_key-true, is_same_key-refl}
-use Rattle.stock_model.proofs.FirstOut.{filter-without, filter-with, units-some, IsFirstOutAt-next}
+use Rattle.stock_laws.proofs.Enough.{is_same_key-true, is_same_key-refl}
+use Rattle.stock_laws.proofs.FirstOut.{filter-without, filter-with, units-some, IsFirstOutAt-next}
 use Rattle.cost_formulas.specs.Held.{units_held, value_held, layers_cost, layers_after}
 use Rattle.cost_formulas.specs.Lots.{Lot, lot_units, lot_value, untouched}
 use Rattle.cost_formulas.proofs.LayersTaken.{layers_after-left, layers_cost-left}

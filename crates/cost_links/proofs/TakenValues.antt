@@ -16,7 +16,7 @@ use Rattle.stock_model.specs.Replay.{valued, value_next}
 use Rattle.stock_model.specs.Sums.{quantity_in, quantity_out, stock_value, value_of}
 use Rattle.stock_model.specs.Values.{cost_by, line_cost, own_line, value_by, HasUnitsLeftBy}
 use Rattle.stock_model.specs.declared.records.Record.{Record}
-use Rattle.stock_model.proofs.Bounds.{quantity_in-le}
+use Rattle.stock_laws.proofs.Bounds.{quantity_in-le}
 use Rattle.cost_links.specs.Ready.{IsReady}
 use Rattle.cost_links.specs.Stocks.{IsAverageOf}
 use Rattle.cost_links.specs.Tables.{Held}

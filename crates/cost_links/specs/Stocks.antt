@@ -5,7 +5,7 @@ use Rattle.stock_nums.specs.declared.cause.Method.TheVariants.{Fifo, Average}
 use Rattle.stock_nums.specs.declared.entry.Key.{Key}
 use Rattle.stock_nums.specs.declared.entry.Row.{Row}
 use Rattle.stock_model.specs.Sums.{enters_at, quantity_in, quantity_out, stock_units, stock_value}
-use Rattle.stock_model.proofs.FirstOut.{IsFirstOutAt}
+use Rattle.stock_laws.proofs.FirstOut.{IsFirstOutAt}
 use Rattle.cost_formulas.specs.Lots.{Lot, lot_units}
 use Rattle.cost_links.specs.declared.averages.Averages.{Averages}
 use Rattle.cost_links.specs.declared.queues.Queues.{Queues}

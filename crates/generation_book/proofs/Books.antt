@@ -4,8 +4,8 @@ use Rattle.std.specs.Option.{option_map}
 use Rattle.std.proofs.lemmas.Bool.{lt-ltb, le-ltb}
 use Rattle.std.proofs.lemmas.Bool.Decides.{nat_tests}
 use Rattle.std.proofs.lemmas.List.{take-append-le, take_all}
-use Rattle.stock_model.proofs.Enough.{IsEnough-nil, IsEnough-from_none}
-use Rattle.stock_model.proofs.PostingLine.{IsInPostingOrder-posting_line}
+use Rattle.stock_laws.proofs.Enough.{IsEnough-nil, IsEnough-from_none}
+use Rattle.stock_laws.proofs.PostingLine.{IsInPostingOrder-posting_line}
 use Rattle.stock_model.specs.InOrder.{IsInPostingOrder}
 use Rattle.quantity_check.specs.declared.running.Short.{Short}
 use Rattle.quantity_check.specs.OwnPlaces.{HaveOwnPlaces}
@@ -13,9 +13,9 @@ use Rattle.quantity_check.specs.Shorts.{short_of as lacks_of}
 use Rattle.quantity_check.proofs.OwnPlaceLemmas.{HaveOwnPlaces-put_all}
 use Rattle.generation_book.specs.Shorts.{fault_of}
 use Rattle.stock_model.proofs.Growth.{all_entries-snoc, posting_line-snoc, length-posting_line}
-use Rattle.stock_model.proofs.Legality.{NoFault-from, AreLegal-history}
+use Rattle.stock_laws.proofs.Legality.{NoFault-from, AreLegal-history}
 use Rattle.stock_model.proofs.NoFaults.{neither}
-use Rattle.stock_model.proofs.LegalReplay.{AreBounded-replay}
+use Rattle.stock_laws.proofs.LegalReplay.{AreBounded-replay}
 use Rattle.stock_nums.specs.declared.entry.Entry.{Entry}
 use Rattle.stock_nums.specs.declared.entry.Row.{Row}
 use Rattle.stock_nums.specs.declared.numbers.RecordNo.{RecordNo}
@@ -39,7 +39,7 @@ use Rattle.stock_model.specs.PostingOrder.{put_all, posting_line}
 use Rattle.stock_model.specs.Journals.{AreLegal}
 use Rattle.stock_model.specs.Replay.{replay}
 use Rattle.stock_model.specs.History as history
-use Rattle.stock_model.proofs.Histories.{covered_after-append, IsLegalAfter-append}
+use Rattle.stock_laws.proofs.Histories.{covered_after-append, IsLegalAfter-append}
 use Rattle.generation_book.specs.declared.events.Event.{Event}
 use Rattle.generation_book.specs.declared.events.Event.TheVariants.{Kept, Published}
 use Rattle.generation_book.specs.Book.{deeds, kept_count, IsBook}

@@ -3,8 +3,7 @@
 ghost use Rattle.std.specs.Prelude.{◌≡◌, ◌⊎◌, ◌<◌, ◌≤◌, [], ◌∷◌, ◌++◌, filter, IfOk, OnOk, OnErr, IfErr, Some, None};
 ghost use Rattle.std.specs.Option.{option_copied};
 ghost use Rattle.stock_model.specs.declared.deeds.Deed.TheVariants as deed;
-ghost use Rattle.stock_model.specs.Reports.{need_at, unmet_need, is_until, selected, IsSelected};
-ghost use Rattle.stock_nums.specs.Places.{is_later};
+ghost use Rattle.stock_model.specs.Reports.{need_at, unmet_need, for_sheet, selected, IsForSheet};
 ghost use Rattle.stock_model.specs.Entries.{entries};
 ghost use Rattle.stock_model.specs.Faults.{voucher_fault, full, fault_but_short, fault};
 ghost use Rattle.stock_model.specs.History as history;
@@ -12,6 +11,7 @@ ghost use Rattle.stock_model.specs.Masters.{record_at};
 ghost use Rattle.generation_book.specs.Shorts.{fault_of};
 
 use crate::events::Event;
+use crate::selecting::rows_for;
 use cost_links::replay;
 use quantity_check::running::{Running, Short};
 use std::alloc::Global;
@@ -177,11 +177,12 @@ impl Book {
         }
     }
 
-    /// What a report is made from, or why the generation is none that it can be made from.
+    /// What the query's sheet is made from, or why the generation is none that it can be made from. Only the movements that the
+    /// sheet needs are copied.
     pub fn select(&self, alloc: Global, query: &Query) -> Result<Selected, SelectFault>
         ensures ready { OnOk result (need_at self.now.history query.now ≡ Need.Ready) }
-        ensures selected { IfOk result (λ chosen. chosen ≡ selected self.now.history query.now) }
-        ensures of_book { IfOk result (IsSelected query.now) }
+        ensures selected { IfOk result (λ chosen. chosen ≡ for_sheet query.now.sheet (selected self.now.history query.now)) }
+        ensures of_book { IfOk result (IsForSheet query.now) }
         ensures fault { IfErr result (λ f. (f ≡ SelectFault.NoMemory) × (need_at self.now.history query.now ≡ Need.Ready)
             ⊎ (unmet_need (need_at self.now.history query.now) ≡ Some f)) }
     {
@@ -196,12 +197,12 @@ impl Book {
 
     /// What a report whose need is met is made from.
     fn generation(&self, alloc: Global, query: &Query) -> Result<Selected, SelectFault>
-        ensures selected { IfOk result (λ chosen. chosen ≡ selected self.now.history query.now) }
-        ensures of_book { IfOk result (IsSelected query.now) }
+        ensures selected { IfOk result (λ chosen. chosen ≡ for_sheet query.now.sheet (selected self.now.history query.now)) }
+        ensures of_book { IfOk result (IsForSheet query.now) }
         ensures memory { IfErr result (λ f. f ≡ SelectFault.NoMemory) }
     {
         let records = self.journal.records();
-        let Ok(rows) = rows_until(alloc, self.rows.as_slice(), query.until) else {
+        let Ok(rows) = rows_for(alloc, self.rows.as_slice(), query) else {
             return Err(SelectFault::NoMemory);
         };
         let Ok(heads) = masters::heads(alloc, &records[..self.covered.0 as usize]) else {
@@ -240,33 +241,6 @@ impl Book {
 }
 
 // The rows whose moment is not after this one, where there is one.
-fn rows_until(alloc: Global, rows: &[Row], until: Option<Moment>) -> Result<Lines<Row>, NoMemory>
-    ensures { IfOk result (λ kept. kept ≡ filter (is_until until) rows.now) }
-{
-    let mut kept = Lines::new(alloc);
-    for row in rows {
-        if is_until(until, row) {
-            kept.push(*row)?;
-        }
-    }
-    Ok(kept)
-}
-
-fn is_until(until: Option<Moment>, row: &Row) -> bool
-    ensures { result ≡ is_until until row.now }
-{
-    match until {
-        Some(until) => !is_later(row.entry.place.moment, until),
-        None => true,
-    }
-}
-
-fn is_later(a: Moment, b: Moment) -> bool
-    ensures { result ≡ is_later a b }
-{
-    a > b
-}
-
 // The fault of movements that can't be added.
 fn fault_of(short: Short) -> PostFault
     ensures { result ≡ fault_of short }

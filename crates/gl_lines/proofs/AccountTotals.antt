@@ -15,7 +15,7 @@ use Rattle.stock_model.specs.declared.ledger_lines.GlLine.{GlLine}
 use Rattle.stock_model.specs.declared.ledger_lines.TheConstants.{MAX_BALANCE}
 use Rattle.stock_model.specs.Accounts.{put_account, put_account_of, accounts_of, account_row, balances_of}
 use Rattle.stock_model.specs.LedgerLines.{is_on, debit_of, credit_of, debits, credits, balance_on}
-use Rattle.stock_model.proofs.TestedSums.{tested-snoc}
+use Rattle.stock_laws.proofs.TestedSums.{tested-snoc}
 use Rattle.gl_lines.specs.Totals.{account_cmp, kept_total, IsSmallLine, AreTotals, total_on, entry_balance}
 
 -- accounts compare as their numbers do

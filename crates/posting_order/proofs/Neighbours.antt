@@ -13,7 +13,7 @@ use Rattle.stock_nums.specs.declared.place.Place.{Place}
 use Rattle.stock_nums.proofs.PlaceOrder.{is_before-irreflexive, is_before-asymmetric}
 use Rattle.stock_model.specs.Enough.{entry_key, is_of_key, is_same_key}
 use Rattle.stock_model.specs.InOrder.{IsBefore, IsInPostingOrder}
-use Rattle.stock_model.proofs.Enough.{is_same_key-true, is_same_key-refl}
+use Rattle.stock_laws.proofs.Enough.{is_same_key-true, is_same_key-refl}
 use Rattle.stock_model.proofs.Pairwise.{Pairwise, Each, Each-weaker, Pairwise-from_AllPairs, Contains-first, Contains-later}
 use Rattle.posting_order.specs.Timelines.{comes_before, comes_after, entry_place, next_place, previous_place, IsNextPlace, IsPreviousPlace, HasNoneAfter, HasNoneBefore}
 use Rattle.posting_order.proofs.Parting.{Passes, Fails, Each-from_Precedes, All-from_Each, Each-reverse, find-none, Fails-from_none, find-agree, front_passes, rest_fails}

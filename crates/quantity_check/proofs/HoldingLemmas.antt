@@ -9,7 +9,7 @@ use Rattle.quantity_check.specs.declared.holdings.Holding.{Holding}
 use Rattle.stock_nums.specs.Causes.{is_entering}
 use Rattle.stock_model.specs.Enough.{entry_key, is_same_key, enters_under, leaves_under, entered, departed, is_short, shortage_at, shortage_from, shortage}
 use Rattle.quantity_check.specs.Holdings.{held_of, put_holding, takes_more, shortage_of, units_after, holding_after, shortage_with}
-use Rattle.stock_model.proofs.Enough.{units_where, entered-snoc, departed-snoc, entered-own, departed-own, is_same_key-true, is_same_key-refl}
+use Rattle.stock_laws.proofs.Enough.{units_where, entered-snoc, departed-snoc, entered-own, departed-own, is_same_key-true, is_same_key-refl}
 
 -- what a table holds of a key, where its first holding was replaced: that one had the key exactly if the new one has
 at_replaced : (p q : Bool) (new old rest : ℕ) → p ≡ q → cond p new rest ≡ cond p new (cond q old rest)

@@ -26,7 +26,7 @@ use Rattle.stock_model.specs.declared.read_faults.ReadFault.{ReadFault}
 use Rattle.stock_model.specs.declared.read_faults.ReadFault.TheVariants as read_fault
 use Rattle.stock_model.specs.Run.{max_line, RunState, Step, Run, IsAnswerTo, Settles}
 use Rattle.stock_cli.specs.Answers.{HasText}
-use Rattle.stock_model.proofs.Histories.{records-append, covered_after-append, covered_after-within}
+use Rattle.stock_laws.proofs.Histories.{records-append, covered_after-append, covered_after-within}
 
 -- a run over more lines from where one ended
 pub Run-append : (reads : List ℕ → Result Request ReadFault → Type 0) (old mid new : RunState) (lines more : List (List ℕ)) (answers others : List Answer)

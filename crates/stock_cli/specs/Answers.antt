@@ -2,8 +2,8 @@
 use Rattle.std.specs.Prelude.{ℕ, List, [], ◌∷◌, ◌++◌}
 use Rattle.stock_model.specs.declared.answers.Answer.{Answer}
 use Rattle.stock_model.specs.declared.answers.Answer.TheVariants.{Told, Shown}
-use Rattle.stock_model.specs.Books.{KeepsStock}
-use Rattle.stock_model.specs.Reports.{IsSelected}
+use Rattle.stock_model.specs.Books.{IsOfKeptStock}
+use Rattle.stock_model.specs.Reports.{IsForSheet}
 use Rattle.valuation_report.specs.SheetTexts.{report_text}
 use Rattle.voucher_json.specs.ReplyText.{reply_text, IsPrinted}
 
@@ -19,9 +19,9 @@ answer_line answer = answer_text answer ++ 10 ∷ []
 -- the answer has a text: its reply is printed, or its sheet was selected from a book
 abbrev pub HasText : Answer → Type 0
 HasText (Told reply heads) = IsPrinted reply
-HasText (Shown query chosen) = IsSelected query chosen
+HasText (Shown query chosen) = IsForSheet query chosen
 
 -- where it is a sheet, the ledger keeps the stock that it is made from
 abbrev pub ShowsKeptStock : Answer → Type 0
 ShowsKeptStock (Told reply heads) = Unit {0}
-ShowsKeptStock (Shown query chosen) = KeepsStock chosen
+ShowsKeptStock (Shown query chosen) = IsOfKeptStock query chosen

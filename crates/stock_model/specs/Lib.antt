@@ -26,9 +26,9 @@ pub mod PostReplies
 pub mod InputLines
 pub mod Run
 pub mod Bounds
-pub mod Worked
 pub mod InOrder
 pub mod Enough
+pub mod Worked
 pub mod WorkedShortages
 pub mod WorkedIssues
 pub mod WorkedLayers

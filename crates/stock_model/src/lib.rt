@@ -3,15 +3,9 @@
 #![tactic(auto)]
 
 pub mod answers;
-pub mod conservation_laws;
 pub mod deeds;
-pub mod enough_laws;
 pub mod faults;
-pub mod landed;
 pub mod landed_weights;
-pub mod laws;
-pub mod layer_laws;
-pub mod layers;
 pub mod ledger_lines;
 pub mod line_faults;
 pub mod line_views;
@@ -23,15 +17,11 @@ pub mod queries;
 pub mod read_faults;
 pub mod records;
 pub mod refusals;
-pub mod replay;
 pub mod replies;
 pub mod requests;
 pub mod seen;
-pub mod selected_laws;
 pub mod sheet_rows;
-pub mod sheets;
 pub mod shortages;
-pub mod sums;
 pub mod target_faults;
 pub mod target_lines;
 pub mod targets;

@@ -23,9 +23,9 @@ use Rattle.stock_model.specs.declared.queries.Query.{Query}
 use Rattle.stock_model.specs.Enough.{entry_key, is_same_key}
 use Rattle.stock_model.specs.Sheets.{IsKeyBefore, keys_of, is_asked_key}
 use Rattle.stock_model.specs.Sums.{is_of}
-use Rattle.stock_model.proofs.Enough.{is_same_key-true, is_same_key-refl}
+use Rattle.stock_laws.proofs.Enough.{is_same_key-true, is_same_key-refl}
 use Rattle.stock_model.proofs.Pairwise.{Precedes, Pairwise, Pairwise-from_AllPairs, Pairwise-unique, Contains-cases, Contains-first, Contains-later}
-use Rattle.stock_model.proofs.SheetKeys.{keys_of-ascending, keys_of-of_rows, keys_of-complete}
+use Rattle.stock_laws.proofs.SheetKeys.{keys_of-ascending, keys_of-of_rows, keys_of-complete}
 use Rattle.valuation_report.specs.declared.grouping.Group.{Group}
 use Rattle.valuation_report.specs.Grouping.{key_cmp, some_rows, IsByKey, is_asked_row}
 use Rattle.valuation_report.specs.Groups.{group_of}

@@ -10,7 +10,7 @@ use Rattle.stock_nums.specs.Codes.{is_code_byte}
 use Rattle.stock_nums.specs.declared.head.Head.{Head}
 use Rattle.stock_model.specs.Books.{IsHeadBefore, is_named}
 use Rattle.stock_model.specs.Masters.{has_number, head_code, code_of}
-use Rattle.stock_model.proofs.TestedSums.{both-first, both-second}
+use Rattle.stock_laws.proofs.TestedSums.{both-first, both-second}
 
 -- the head's number is below
 abbrev pub is_below : ℕ → Head → Bool

@@ -12,7 +12,7 @@ use Rattle.stock_nums.specs.declared.moment.Moment.{Moment}
 use Rattle.stock_nums.specs.declared.place.Side.{Side}
 use Rattle.stock_nums.specs.declared.place.Side.TheVariants.{Leaves, Enters}
 use Rattle.stock_model.specs.declared.queries.Format.TheVariants.{Json, Csv}
-use Rattle.stock_model.proofs.CostedRows.{both}
+use Rattle.stock_laws.proofs.CostedRows.{both}
 use Rattle.valuation_report.specs.declared.ledger_texts.Movement.{Movement}
 use Rattle.valuation_report.specs.GroupRows.{movement_row}
 use Rattle.valuation_report.specs.Pieces.{ledger_piece}

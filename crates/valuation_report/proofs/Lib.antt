@@ -19,3 +19,4 @@ mod RecordTexts
 mod Reports
 mod RowsByKey
 mod RunningHoldings
+pub mod WholeReports

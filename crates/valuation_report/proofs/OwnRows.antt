@@ -20,8 +20,8 @@ use Rattle.stock_model.specs.LedgerSheets.{ledger_row, ledger_after, ledger_rows
 use Rattle.stock_model.specs.Masters.{code_of}
 use Rattle.stock_model.specs.Sheets.{balance_row}
 use Rattle.stock_model.specs.Sums.{is_of, enters_at, leaves_at, units_of, value_of, quantity_in, quantity_out, value_in, value_out, stock_units, stock_value}
-use Rattle.stock_model.proofs.CostedRows.{both}
-use Rattle.stock_model.proofs.TestedSums.{both-first, both-second}
+use Rattle.stock_laws.proofs.CostedRows.{both}
+use Rattle.stock_laws.proofs.TestedSums.{both-first, both-second}
 use Rattle.valuation_report.specs.GroupRows.{own_balance, remainder_row, whole_of, own_method, layers_by, own_layers, movement_of, movement_row, movements_after, own_movements}
 use Rattle.valuation_report.specs.Groups.{group_of}
 use Rattle.valuation_report.specs.Holdings.{row_enters, row_leaves, units_in, units_out, worth_in, worth_out, units_held, worth_held, holding_of, AreHeld}

@@ -7,8 +7,8 @@ use Rattle.std.specs.Fmt.{digit_glyph, digits_onto, digits}
 use Rattle.csv.specs.Writing.{default_writer, needs_byte, needs_quotes, quoted, field_text}
 use Rattle.json.specs.Print.{escape_byte, escape, escape_letter}
 use Rattle.stock_nums.specs.Codes.{is_code_byte}
-use Rattle.stock_model.proofs.CostedRows.{both}
-use Rattle.stock_model.proofs.TestedSums.{both-first, both-second}
+use Rattle.stock_laws.proofs.CostedRows.{both}
+use Rattle.stock_laws.proofs.TestedSums.{both-first, both-second}
 
 -- above the comma, and no backslash
 abbrev pub is_plain_byte : ℕ → Bool

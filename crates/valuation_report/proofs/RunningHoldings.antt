@@ -11,7 +11,7 @@ use Rattle.stock_nums.specs.declared.entry.Row.{Row}
 use Rattle.stock_nums.specs.declared.limits.TheConstants.{MAX_ENTRIES, MAX_VALUE}
 use Rattle.stock_model.specs.Bounds.{has_value_in_range}
 use Rattle.stock_model.specs.Sums.{units_of, value_of}
-use Rattle.stock_model.proofs.TestedSums.{counted, tested-snoc}
+use Rattle.stock_laws.proofs.TestedSums.{counted, tested-snoc}
 use Rattle.valuation_report.specs.declared.holdings.Holding.{Holding}
 use Rattle.valuation_report.specs.Holdings.{row_enters, row_leaves, units_in, units_out, worth_in, worth_out, worth_held, holding_of, next_holding, HasRoom, AreHeld}
 

@@ -18,7 +18,7 @@ use Rattle.stock_model.specs.Masters.{item_numbered, store_numbered}
 use Rattle.stock_model.specs.Returns.{returned, units_named}
 use Rattle.stock_model.specs.VoucherLines.{lines_of}
 use Rattle.stock_model.proofs.Growth.{all_entries-after}
-use Rattle.stock_model.proofs.ReturnedUnits.{returned-snoc, returned-within, units_at-le, AreSound-snoc}
+use Rattle.stock_laws.proofs.ReturnedUnits.{returned-snoc, returned-within, units_at-le, AreSound-snoc}
 use Rattle.voucher_kinds.specs.Heads.{with_made}
 use Rattle.voucher_kinds.specs.Journals.{master_of, IsJournal}
 

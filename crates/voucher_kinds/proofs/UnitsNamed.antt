@@ -5,7 +5,7 @@ use Rattle.stock_nums.specs.declared.cause.Target.{Target}
 use Rattle.stock_nums.specs.declared.line_sums.LineSums.{LineSums}
 use Rattle.stock_model.specs.Returns.{units_named}
 use Rattle.stock_model.specs.VoucherLines.{VoucherLine}
-use Rattle.stock_model.proofs.ReturnedUnits.{units_named-cons}
+use Rattle.stock_laws.proofs.ReturnedUnits.{units_named-cons}
 use Rattle.voucher_kinds.specs.ReturnedUnits.{has_room_at, units_named_at}
 
 -- of the rest from an index on: what the line there returns, and what those after it do

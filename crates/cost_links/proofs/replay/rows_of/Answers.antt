@@ -2,8 +2,8 @@
 use Rattle.std.proofs.Common.{List, sym, ◌∙◌, subst, arith}
 use Rattle.stock_nums.specs.declared.entry.Row.{Row}
 use Rattle.stock_model.specs.declared.records.Record.{Record}
-use Rattle.stock_model.proofs.Legality.{IsHeld-legal}
-use Rattle.stock_model.proofs.LegalReplay.{AreBounded-replay}
+use Rattle.stock_laws.proofs.Legality.{IsHeld-legal}
+use Rattle.stock_laws.proofs.LegalReplay.{AreBounded-replay}
 use Rattle.cost_links.specs.Ready.{IsReady}
 use Rattle.cost_links.proofs.ReadyRows.{IsReady-legal, replay-all}
 use Rattle.cost_links.proofs.replay.rows_of.Goals as goal

@@ -1,5 +1,5 @@
 -- All accepted records are covered in the end.
-use Rattle.std.proofs.Common.{◌≡◌, sym, subst}
+use Rattle.std.proofs.Common.{sym, subst}
 use Rattle.stock_model.specs.declared.answers.Answer.{Answer}
 use Rattle.stock_model.specs.Run.{Settles}
 use Rattle.stock_cli.proofs.Runs.{Settles-settled}

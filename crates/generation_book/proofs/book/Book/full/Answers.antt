@@ -7,7 +7,7 @@ use Rattle.stock_model.specs.Faults.{voucher_fault}
 use Rattle.stock_model.proofs.Growth.{length-posting_line}
 use Rattle.generation_book.specs.State.{BookState}
 use Rattle.generation_book.specs.Book.{deeds}
-use Rattle.stock_model.proofs.Legality.{AreSound-from}
+use Rattle.stock_laws.proofs.Legality.{AreSound-from}
 use Rattle.generation_book.proofs.Books.{history-records, IsBook-legal, full-some, full-none}
 use Rattle.generation_book.proofs.book.Book.full.Goals.{then-records-ge-MAX_RECORDS-via-then-records-ge-MAX_RECORDS, then-records-ge-MAX_RECORDS-via-else-records-ge-MAX_RECORDS+then-count-held}
 use Rattle.generation_book.proofs.book.Book.full.Goals as goal

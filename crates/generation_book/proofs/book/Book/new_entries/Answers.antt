@@ -12,7 +12,7 @@ use Rattle.quantity_check.specs.Shorts.{short_of as lacks_of}
 use Rattle.generation_book.specs.State.{BookState}
 use Rattle.generation_book.specs.Book.{deeds}
 use Rattle.generation_book.specs.Shorts.{fault_of}
-use Rattle.stock_model.proofs.Legality.{room-from}
+use Rattle.stock_laws.proofs.Legality.{room-from}
 use Rattle.generation_book.proofs.Books.{history-records, fault-at_once, fault-lacks, fault-none, put_all-entries, entries-own_places}
 use Rattle.generation_book.proofs.book.Book.new_entries.Goals as goal
 

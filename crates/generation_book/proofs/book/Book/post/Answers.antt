@@ -5,12 +5,12 @@ use Rattle.stock_model.specs.Faults.{fault}
 use Rattle.stock_model.specs.History as history
 use Rattle.stock_model.specs.Entries.{entries}
 use Rattle.stock_model.specs.PostingOrder.{posting_line}
-use Rattle.stock_model.proofs.Histories.{records-append}
+use Rattle.stock_laws.proofs.Histories.{records-append}
 use Rattle.generation_book.specs.State.{BookState}
 use Rattle.generation_book.specs.Book.{deeds}
 use Rattle.generation_book.specs.declared.events.Event.{Event}
 use Rattle.generation_book.specs.declared.events.Event.TheVariants.{Kept}
-use Rattle.stock_model.proofs.Legality.{NoFault-from}
+use Rattle.stock_laws.proofs.Legality.{NoFault-from}
 use Rattle.generation_book.proofs.Books.{records-deeds, history-records, IsBook-kept, deeds-kept, put_all-entries, entries-own_places, entries-enough, at_once-none}
 use Rattle.generation_book.proofs.book.Book.post.Goals as goal
 

@@ -3,7 +3,7 @@ use Rattle.std.proofs.Common.{◌≡◌, List, length, None, sym, ap, ◌∙◌,
 use Rattle.stock_nums.specs.declared.entry.Entry.{Entry}
 use Rattle.stock_model.specs.Enough.{shortage}
 use Rattle.stock_model.specs.PostingOrder.{put_all}
-use Rattle.stock_model.proofs.Enough.{IsEnough-from_none}
+use Rattle.stock_laws.proofs.Enough.{IsEnough-from_none}
 use Rattle.stock_model.proofs.Growth.{length-put_all}
 use Rattle.quantity_check.specs.State.{RunningState}
 use Rattle.quantity_check.proofs.running.Running.try_entries.Goals as goal

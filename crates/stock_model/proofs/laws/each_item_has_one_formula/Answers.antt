@@ -1,5 +1,0 @@
-use Rattle.stock_model.proofs.Formulas.{posting_line-formula}
-use Rattle.stock_model.proofs.laws.each_item_has_one_formula.Goals as goal
-
-pub returns : goal.returns
-returns c = posting_line-formula
