@@ -1,5 +1,5 @@
 -- What passes two tests, one after the other, is what passes both.
-use Rattle.std.proofs.Common.{◌≡◌, ℕ, Bool, true, false, cond, ◌&&◌, Option, List, [], ◌∷◌, filter, refl, ap, ◌∙◌}
+use Rattle.std.proofs.Common.{◌≡◌, ℕ, Bool, true, false, cond, ◌&&◌, Option, None, List, [], ◌∷◌, filter, refl, ap, ◌∙◌}
 use Rattle.stock_nums.specs.declared.entry.Row.{Row}
 use Rattle.stock_nums.specs.declared.moment.Moment.{Moment}
 use Rattle.stock_model.specs.LedgerSheets.{is_by_record}
@@ -20,3 +20,8 @@ record-until number until (row ∷ rows) =
     one_more row (filter (is_of_record_until number until) rows) (filter (is_by_record number) (filter (is_until until) rows)) (is_until until row) (is_by_record number row)
     (record-until number until rows)
     ∙ by_first (is_by_record number) (is_until until) row rows (is_until until row)
+
+-- with no last moment all movements are kept
+pub all-kept : (rows : List Row) → filter (is_until None) rows ≡ rows
+all-kept [] = refl
+all-kept (row ∷ rows) = ap (λ (rest : List Row). row ∷ rest) (all-kept rows)

@@ -1,5 +1,5 @@
 //! The movements that a sheet is made from.
-ghost use Rattle.std.specs.Prelude.{◌≡◌, filter, IfOk};
+ghost use Rattle.std.specs.Prelude.{◌≡◌, filter, IfOk, None, Some};
 ghost use Rattle.stock_nums.specs.Places.{is_later};
 ghost use Rattle.stock_model.specs.Reports.{is_until, rows_for};
 ghost use Rattle.generation_book.specs.RecordRows.{is_of_record_until};
@@ -32,9 +32,26 @@ pub(crate) fn rows_for(alloc: Global, rows: &[Row], query: &Query) -> Result<Lin
 fn rows_until(alloc: Global, rows: &[Row], until: Option<Moment>) -> Result<Lines<Row>, NoMemory>
     ensures { IfOk result (λ kept. kept ≡ filter (is_until until) rows.now) }
 {
+    match until {
+        None => all_rows(alloc, rows),
+        Some(until) => rows_up_to(alloc, rows, until),
+    }
+}
+
+fn all_rows(alloc: Global, rows: &[Row]) -> Result<Lines<Row>, NoMemory>
+    ensures { IfOk result (λ kept. kept ≡ filter (is_until None) rows.now) }
+{
+    let mut kept = Vec::new(alloc);
+    kept.extend_from_slice(rows)?;
+    Ok(Lines::from_vec(kept))
+}
+
+fn rows_up_to(alloc: Global, rows: &[Row], until: Moment) -> Result<Lines<Row>, NoMemory>
+    ensures { IfOk result (λ kept. kept ≡ filter (is_until (Some until)) rows.now) }
+{
     let mut kept = Lines::new(alloc);
     for row in rows {
-        if is_until(until, row) {
+        if is_until(Some(until), row) {
             kept.push(*row)?;
         }
     }

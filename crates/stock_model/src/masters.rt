@@ -1,5 +1,5 @@
 //! The items and warehouses of a journal, found by going over its records.
-ghost use Rattle.std.specs.Prelude.{◌≡◌, ◌^◌, ◌<◌, ℕ, List, [], length, IfOk};
+ghost use Rattle.std.specs.Prelude.{◌≡◌, ◌^◌, ◌<◌, ℕ, List, [], length, IfOk, IsTrue, not, None};
 ghost use Rattle.std.specs.Option.{option_copied, option_map_or};
 ghost use Rattle.stock_model.specs.declared.records.Record.{Record};
 ghost use Rattle.stock_model.specs.Masters.{item_with, store_with, heads, head_made, record_at, record_code, code_of};
@@ -69,11 +69,27 @@ pub fn heads(alloc: Global, records: &[Record]) -> Result<Lines<Head>, NoMemory>
 {
     let mut found = Lines::new(alloc);
     for (i, record) in records.iter().enumerate() {
-        if let Some(head) = head_made(alloc, i as u32 + 1, &record.what)? {
-            found.push(head)?;
+        // Most records make none, so this is asked before anything else.
+        if makes_head(&record.what) {
+            if let Some(head) = head_made(alloc, i as u32 + 1, &record.what)? {
+                found.push(head)?;
+            }
         }
     }
     Ok(found)
+}
+
+fn makes_head(what: &What) -> bool
+    ensures { IsTrue (not result) → (n : ℕ) → head_made n what.now ≡ None }
+{
+    matches!(
+        what,
+        What::Item { code: _, method: _ }
+            | What::Store {
+                code: _,
+                account: _
+            }
+    )
 }
 
 /// The head of what the record with this number makes, if it makes an item or a warehouse.

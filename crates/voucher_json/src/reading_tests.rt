@@ -2,7 +2,6 @@ use crate::field_names::field_text;
 use crate::reading::read_request;
 use crate::usual_requests::read_usual;
 use std::alloc::Global;
-use std::process::Abort;
 use std::test::Fail;
 use stock_model::queries::Query;
 use stock_model::read_faults::ReadFault;
@@ -318,16 +317,6 @@ fn tells_the_first_fault(rt: HostRuntime) -> Result<(), Fail> {
     Ok(())
 }
 
-/// Each of these lists of fields makes a report with this fault.
-fn check_reports(rt: &impl Abort, alloc: Global, table: &[(&str, &str)]) -> Result<(), Fail> {
-    for (fields, want) in table {
-        let text = format!(in alloc; "{{\"do\":\"report\",{fields}}}")?;
-        let found = read(alloc, text.as_bytes(), true)?;
-        assert_eq!(rt; found.as_str(), *want, "{fields}");
-    }
-    Ok(())
-}
-
 #[test]
 fn reads_reports(rt: HostRuntime) -> Result<(), Fail> {
     let table = [
@@ -368,170 +357,6 @@ fn reads_reports(rt: HostRuntime) -> Result<(), Fail> {
     for (text, want) in table {
         let found = read(rt.alloc(), text.as_bytes(), true)?;
         assert_eq!(rt; found.as_str(), want, "{text}");
-    }
-    Ok(())
-}
-
-#[test]
-fn tells_faults_of_reports(rt: HostRuntime) -> Result<(), Fail> {
-    let table = [
-        (r#""of":"stock","need":null"#, "bad of 0"),
-        (r#""of":"balance","need":null"#, "bad need 0"),
-        (r#""of":"balance","need":-1"#, "limit need 0"),
-        (r#""of":"voucher","need":4294967296"#, "limit need 0"),
-        (r#""of":"balance","until":null,"record":1"#, "bad until 0"),
-        (
-            r#""of":"ledger","store":1,"item":2,"until":3"#,
-            "bad until 0",
-        ),
-        (r#""of":"ledger","as":0,"store":1,"item":2"#, "bad item 0"),
-        (r#""of":"ledger","as":0,"store":1"#, "bad store 0"),
-        (r#""of":"ledger","as":"xml","x":1"#, "bad as 0"),
-        (r#""of":"ledger","as":null"#, "bad as 0"),
-        (r#""of":"balance","record":1"#, "bad other 0"),
-        (r#""of":"accounts","until":1,"item":"B""#, "bad until 0"),
-        (r#""of":"accounts","item":"B""#, "bad other 0"),
-        (r#""of":"accounts","store":1"#, "bad other 0"),
-        (r#""of":"accounts","record":1"#, "bad other 0"),
-    ];
-    check_reports(&rt, rt.alloc(), &table)
-}
-
-#[test]
-fn tells_faults_of_reports_of_a_record(rt: HostRuntime) -> Result<(), Fail> {
-    let table = [
-        (r#""of":"voucher""#, "bad record 0"),
-        (r#""of":"voucher","until":1"#, "bad record 0"),
-        (r#""of":"voucher","record":null"#, "bad record 0"),
-        (r#""of":"voucher","record":"1""#, "bad record 0"),
-        (r#""of":"voucher","record":1.0"#, "bad record 0"),
-        (r#""of":"voucher","record":0,"as":"xml""#, "limit record 0"),
-        (r#""of":"voucher","record":-1"#, "limit record 0"),
-        (r#""of":"voucher","record":4294967296"#, "limit record 0"),
-        (r#""of":"voucher","record":1,"as":"xml","x":1"#, "bad as 0"),
-        (
-            r#""of":"voucher","record":1,"until":"2026-01-03T07:08:09""#,
-            "bad other 0",
-        ),
-        (r#""of":"voucher","record":1,"item":"B""#, "bad other 0"),
-    ];
-    check_reports(&rt, rt.alloc(), &table)
-}
-
-#[test]
-fn tells_faults_of_linked_vouchers(rt: HostRuntime) -> Result<(), Fail> {
-    let table = [
-        (
-            r#"{"do":"transfer","at":"2026-02-03T00:00:00","lines":[{"item":"B","from":"W1","qty":0}]}"#,
-            "bad to 1",
-        ),
-        (
-            r#"{"do":"customer-return","at":"2026-02-03T00:00:00","lines":[{"record":0}]}"#,
-            "limit record 1",
-        ),
-        (
-            r#"{"do":"supplier-return","at":"2026-02-03T00:00:00","lines":[{"record":4294967296,"line":0}]}"#,
-            "limit record 1",
-        ),
-        (
-            r#"{"do":"supplier-return","at":"2026-02-03T00:00:00","lines":[{"record":1,"line":101,"item":"B"}]}"#,
-            "limit line 1",
-        ),
-        (
-            r#"{"do":"supplier-return","at":"2026-02-03T00:00:00","lines":[{"record":1,"line":1,"store":"W1","qty":1,"item":"B"}]}"#,
-            "bad other 1",
-        ),
-        (
-            r#"{"do":"landed","charge":1000000000001,"basis":"weight"}"#,
-            "limit charge 0",
-        ),
-        (r#"{"do":"landed","charge":0,"basis":1}"#, "bad basis 0"),
-        (
-            r#"{"do":"landed","charge":0,"basis":"qty","lines":[]}"#,
-            "bad targets 0",
-        ),
-        (
-            r#"{"do":"landed","charge":0,"basis":"qty","targets":[]}"#,
-            "limit targets 0",
-        ),
-        (
-            r#"{"do":"landed","charge":0,"basis":"qty","targets":[{"record":1,"line":1},1]}"#,
-            "bad targets 2",
-        ),
-        (
-            r#"{"do":"landed","charge":0,"basis":"qty","targets":[{"record":1,"line":1,"qty":1}],"at":""}"#,
-            "bad other 1",
-        ),
-        (
-            r#"{"do":"landed","charge":0,"basis":"qty","targets":[{"record":1,"line":1}],"at":""}"#,
-            "bad other 0",
-        ),
-    ];
-    for (text, want) in table {
-        let found = read(rt.alloc(), text.as_bytes(), false)?;
-        assert_eq!(rt; found.as_str(), want, "{text}");
-    }
-    Ok(())
-}
-
-#[test]
-fn tells_faults_of_lines(rt: HostRuntime) -> Result<(), Fail> {
-    let alloc = rt.alloc();
-    let table = [
-        ("[]", "bad lines 2"),
-        (r#"{"qty":0}"#, "bad item 2"),
-        (
-            r#"{"item":"B","store":"W1","qty":0,"amount":1}"#,
-            "limit qty 2",
-        ),
-        (
-            r#"{"item":"B","store":"W1","qty":"5","amount":1}"#,
-            "bad qty 2",
-        ),
-        (
-            r#"{"item":"B","store":"W1","qty":5,"amount":-0}"#,
-            "bad amount 2",
-        ),
-        (
-            r#"{"item":"B","store":"W1","qty":1.0,"amount":1}"#,
-            "bad qty 2",
-        ),
-        (
-            r#"{"item":"B","store":"W1","qty":1e2,"amount":1}"#,
-            "bad qty 2",
-        ),
-        (
-            r#"{"item":"B","store":"W1","qty":18446744073709551616,"amount":1}"#,
-            "bad qty 2",
-        ),
-        (
-            r#"{"item":"B","store":"W1","qty":18446744073709551615,"amount":1}"#,
-            "limit qty 2",
-        ),
-        (
-            r#"{"item":"B","store":"W1","qty":-9223372036854775809,"amount":1}"#,
-            "bad qty 2",
-        ),
-        (
-            r#"{"item":"B","store":"W1","qty":1,"amount":-1}"#,
-            "limit amount 2",
-        ),
-        (r#"{"item":"B","tax":1e400}"#, "no json"),
-        (
-            r#"{"item":"B","store":"W1","qty":1,"amount":1,"tax":1}"#,
-            "bad other 2",
-        ),
-        (
-            r#"{"item":"B","store":"W1","qty":1,"qty":0,"amount":1}"#,
-            "limit qty 2",
-        ),
-    ];
-    for (line, want) in table {
-        let text = format!(in alloc;
-            "{{\"do\":\"receipt\",\"at\":\"2026-01-01T00:00:00\",\"lines\":[{{\"item\":\"B\",\"store\":\"W1\",\"qty\":1,\"amount\":1}},{line}]}}"
-        )?;
-        let found = read(alloc, text.as_bytes(), false)?;
-        assert_eq!(rt; found.as_str(), want, "{line}");
     }
     Ok(())
 }
