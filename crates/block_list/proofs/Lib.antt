@@ -1,0 +1,4 @@
+pub mod Totals
+pub mod Crossings
+pub mod Joined
+pub mod Sides

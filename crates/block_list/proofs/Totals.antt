@@ -1,0 +1,39 @@
+-- Sums of what items count.
+use Rattle.std.proofs.Common.{◌≡◌, ℕ, zero, suc, ◌+◌, ◌<◌, ◌≤◌, ℤ, ◌+ℤ◌, ◌≤ℤ◌, unsigned_abs, slice_index_or, List, [], ◌∷◌, ◌++◌, length, take, ap, subst, arith, inl, inr}
+use Rattle.std.proofs.lemmas.Bool.{cases_lt}
+use Rattle.std.proofs.lemmas.Int.{ints}
+use Rattle.block_list.specs.Sums.{total}
+
+-- of two lists
+pub total-append : {T : Type 0} (w : T → ℤ) (xs ys : List T) → total w (xs ++ ys) ≡ total w xs +ℤ total w ys
+total-append w [] ys = omega (arith, ints)
+total-append w (x ∷ xs) ys = omega (arith, ints, total-append w xs ys)
+
+-- of the first ones, with one more
+total-next : {T : Type 0} (w : T → ℤ) (xs : List T) (i : ℕ) (x : T) → i < length xs → x ≡ slice_index_or xs i x
+    → total w (take (suc i) xs) ≡ total w (take i xs) +ℤ w x
+total-next w [] i x within is = absurd (omega (arith, within))
+total-next w (y ∷ ys) zero x within is = omega (arith, ints, ap w is)
+total-next w (y ∷ ys) (suc i) x within is =
+    let rest : total w (take (suc i) ys) ≡ total w (take i ys) +ℤ w x = total-next w ys i x (omega (arith, within)) is in
+    let all : w y +ℤ total w (take (suc i) ys) ≡ (w y +ℤ total w (take i ys)) +ℤ w x = omega (arith, ints, rest) in
+    all
+
+pub total_more : {T : Type 0} (w : T → ℤ) (xs : List T) (i : ℕ) (x : T) → i < length xs → x ≡ slice_index_or xs i x
+    → total w (take (i + 1) xs) ≡ total w (take i xs) +ℤ w x
+total_more w xs i x within is =
+    let one : suc i ≡ i + 1 = omega arith in
+    subst (λ (n : ℕ). total w (take n xs) ≡ total w (take i xs) +ℤ w x) one (total-next w xs i x within is)
+
+-- a sum of two numbers is no larger than both together
+pub abs-add : (a b : ℤ) → unsigned_abs (a +ℤ b) ≤ unsigned_abs a + unsigned_abs b
+abs-add a b = omega (arith, ints)
+
+-- what is below all fronts so far, and below the next one, is below all of them
+pub low-more : {T : Type 0} (w : T → ℤ) (xs : List T) (i : ℕ) (old new : ℤ) → ((k : ℕ) → k ≤ i → old ≤ℤ total w (take k xs)) → new ≤ℤ old
+    → new ≤ℤ total w (take (i + 1) xs) → (k : ℕ) → k ≤ i + 1 → new ≤ℤ total w (take k xs)
+low-more w xs i old new so_far falls last k within =
+    elim (cases_lt i k) [
+      | inl more ↦ let is : i + 1 ≡ k = omega (arith, more, within) in subst (λ (n : ℕ). new ≤ℤ total w (take n xs)) is last
+      | inr less ↦ let before = so_far k less in omega (arith, ints, falls, before)
+    ]

@@ -1,0 +1,14 @@
+-- How far the sum has come, and how many items come before the block.
+use Rattle.std.proofs.Common.{◌≡◌, ◌+◌, ◌-◌, ◌*◌, ◌^◌, ◌≤◌, unsigned_abs, length, take}
+use Rattle.block_list.specs.Blocks.{joined}
+use Rattle.block_list.specs.Sums.{HasCome}
+use Rattle.block_list.proofs.walks.first_below.Given as goal
+
+abbrev pub invariant-loop-place : goal.invariant-loop-place
+invariant-loop-place g l =
+    HasCome g.W.Weigh.weight (joined l.blocks) l.fn.start.index l.fn.end l.fn.start.before l.at.index l.at.before
+    × (unsigned_abs l.at.before ≤ unsigned_abs l.fn.start.before + (l.at.index - l.fn.start.index) * 2 ^ 40)
+    × (l.place.block ≤ length l.blocks) × (l.place.index ≡ length (joined (take l.place.block l.blocks))) × (l.place.index ≤ l.at.index)
+
+abbrev pub decreases-loop-place : goal.decreases-loop-place
+decreases-loop-place g l = length l.blocks - l.place.block

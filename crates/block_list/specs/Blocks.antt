@@ -1,0 +1,29 @@
+-- Blocks side by side, as one list.
+use Rattle.std.specs.Prelude.{◌≡◌, ℕ, ◌+◌, ◌<◌, ◌≤◌, List, [], length, take, slice_index_or}
+use Rattle.std.specs.List.{flat_map}
+use Rattle.block_list.specs.declared.sums.TheConstants.{MOST}
+
+-- the items of all blocks, one block after another
+abbrev pub joined : {T : Type 0} → List (List T) → List T
+joined blocks = flat_map (λ block. block) blocks
+
+-- the block at this index
+abbrev pub block_at : {T : Type 0} → List (List T) → ℕ → List T
+block_at blocks i = slice_index_or blocks i []
+
+-- a block in a list has an item, and room for one
+pub record IsFilled {T : Type 0} (block : List T) : Type 0 where
+  pub some : 0 < length block
+  pub room : length block < MOST
+
+-- this item of this block is the one at an index
+pub record IsSpot {T : Type 0} (blocks : List (List T)) (at block index : ℕ) : Type 0 where
+  pub within : block < length blocks
+  pub inside : index < length (block_at blocks block)
+  pub is : at ≡ length (joined (take block blocks)) + index
+
+-- what is put in before this item of this block, or at its end, stands at an index
+pub record IsGap {T : Type 0} (blocks : List (List T)) (at block index : ℕ) : Type 0 where
+  pub within : block < length blocks
+  pub inside : index ≤ length (block_at blocks block)
+  pub is : at ≡ length (joined (take block blocks)) + index

@@ -1,0 +1,4 @@
+pub mod Sums
+pub mod Blocks
+pub mod State
+pub mod Bounds

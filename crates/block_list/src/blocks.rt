@@ -1,0 +1,297 @@
+//! Blocks side by side: where an item stands in them.
+ghost use Rattle.std.specs.Prelude.{◌≡◌, ◌+◌, ◌<◌, ◌≤◌, List, [], ◌∷◌, Some, All, slice_get, remove, length, take, drop, insert, slice_set, vec_len, vec_capacity, OnOk};
+ghost use Rattle.block_list.specs.Blocks.{joined, block_at, IsFilled, IsSpot, IsGap};
+ghost use Rattle.block_list.specs.declared.sums.TheConstants.{MOST};
+
+use crate::block::Block;
+use crate::sums::MOST;
+use crate::weigh::Weigh;
+use std::alloc::Global;
+use stock_nums::memory::NoMemory;
+
+// Two blocks side by side have more items together.
+const THIN: usize = MOST / 2;
+
+/// An item by its block, and by its index there.
+#[derive(Clone, Copy)]
+pub(crate) struct Spot {
+    pub(crate) block: usize,
+    pub(crate) index: usize,
+}
+
+/// Where the item at an index stands.
+pub(crate) fn spot_of<T: Copy, W: Weigh<T>>(blocks: &[Block<T, W>], index: usize) -> Spot
+    requires { index < length (joined blocks.now) }
+    ensures { IsSpot blocks.now index result.block result.index }
+{
+    let mut at = Spot { block: 0, index };
+    while at.block < blocks.len() {
+        let size = blocks[at.block].len();
+        if at.index < size {
+            return at;
+        }
+        at = Spot {
+            block: at.block + 1,
+            index: at.index - size,
+        };
+    }
+    at
+}
+
+/// Where an item that is put in at an index comes to stand: before the item there, or at the end of the last block.
+fn gap_of<T: Copy, W: Weigh<T>>(blocks: &[Block<T, W>], len: usize, index: usize) -> Spot
+    requires some { 0 < length blocks.now }
+    requires len { len ≡ length (joined blocks.now) }
+    requires within { index ≤ len }
+    ensures { IsGap blocks.now index result.block result.index }
+{
+    if index < len {
+        return spot_of(blocks, index);
+    }
+    let last = blocks.len() - 1;
+    Spot {
+        block: last,
+        index: blocks[last].len(),
+    }
+}
+
+/// Puts an item into a block that has room for it.
+fn insert_in<T: Copy, W: Weigh<T>>(blocks: &mut Vec<Block<T, W>>, gap: Spot, item: T)
+    requires within { gap.block < vec_len blocks.old }
+    requires inside { gap.index ≤ length (block_at blocks.old.items gap.block) }
+    requires room { length (block_at blocks.old.items gap.block) < MOST }
+    ensures blocks { blocks.new.items ≡ slice_set blocks.old.items gap.block (insert (block_at blocks.old.items gap.block) gap.index item) }
+    ensures room { vec_capacity blocks.new ≡ vec_capacity blocks.old }
+{
+    blocks[gap.block].insert(gap.index, item);
+}
+
+/// Parts a block at an index: its later items go into a block of the pool, which comes after it.
+fn split<T: Copy, W: Weigh<T>>(
+    blocks: &mut Vec<Block<T, W>>,
+    pool: &mut Vec<Block<T, W>>,
+    block: usize,
+    cut: usize,
+)
+    requires within { block < vec_len blocks.old }
+    requires inside { cut ≤ length (block_at blocks.old.items block) }
+    requires room { vec_len blocks.old < vec_capacity blocks.old }
+    requires pool { 0 < vec_len pool.old }
+    requires empty { All (λ b. b ≡ []) pool.old.items }
+    ensures blocks { blocks.new.items ≡ insert (slice_set blocks.old.items block (take cut (block_at blocks.old.items block))) (block + 1) (drop cut (block_at blocks.old.items block)) }
+    ensures room { vec_capacity blocks.new ≡ vec_capacity blocks.old }
+    ensures pool { vec_len pool.new + 1 ≡ vec_len pool.old }
+    ensures empty { All (λ b. b ≡ []) pool.new.items }
+{
+    let mut upper = pool.take_last();
+    blocks[block].split(cut, &mut upper);
+    // There is room, so it does not fail.
+    let _ = blocks.insert(block + 1, upper);
+}
+
+/// Where a full block is parted into which an item was put: before the item where it came to the end of all, so that blocks
+/// fill where items come in order, and else in the middle.
+fn cut_of(blocks: usize, gap: Spot) -> usize
+    requires { gap.block < blocks }
+    ensures { (0 < result) × (result < MOST) }
+{
+    if gap.block + 1 == blocks && gap.index == MOST - 1 {
+        MOST - 1
+    } else {
+        MOST / 2
+    }
+}
+
+/// Puts an item in, before the one at an index or at the end. A block that is full then is parted.
+fn put_among<T: Copy, W: Weigh<T>>(
+    blocks: &mut Vec<Block<T, W>>,
+    pool: &mut Vec<Block<T, W>>,
+    len: usize,
+    index: usize,
+    item: T,
+)
+    requires some { 0 < vec_len blocks.old }
+    requires len { len ≡ length (joined blocks.old.items) }
+    requires within { index ≤ len }
+    requires filled { All IsFilled blocks.old.items }
+    requires room { vec_len blocks.old < vec_capacity blocks.old }
+    requires pool { 0 < vec_len pool.old }
+    requires empty { All (λ b. b ≡ []) pool.old.items }
+    ensures items { joined blocks.new.items ≡ insert (joined blocks.old.items) index item }
+    ensures filled { All IsFilled blocks.new.items }
+    ensures empty { All (λ b. b ≡ []) pool.new.items }
+    ensures room { vec_capacity blocks.new ≡ vec_capacity blocks.old }
+    ensures count { vec_len blocks.new + vec_len pool.new ≡ vec_len blocks.old + vec_len pool.old }
+    ensures pool { vec_len pool.old ≤ vec_len pool.new + 1 }
+{
+    let gap = gap_of(blocks.as_slice(), len, index);
+    insert_in(blocks, gap, item);
+    if blocks[gap.block].len() < MOST {
+        return;
+    }
+    let cut = cut_of(blocks.len(), gap);
+    split(blocks, pool, gap.block, cut);
+}
+
+/// The first block of a list, with one item.
+fn start<T: Copy, W: Weigh<T>>(blocks: &mut Vec<Block<T, W>>, pool: &mut Vec<Block<T, W>>, item: T)
+    requires none { blocks.old.items ≡ [] }
+    requires room { vec_len blocks.old < vec_capacity blocks.old }
+    requires pool { 0 < vec_len pool.old }
+    requires empty { All (λ b. b ≡ []) pool.old.items }
+    ensures blocks { blocks.new.items ≡ (item ∷ []) ∷ [] }
+    ensures empty { All (λ b. b ≡ []) pool.new.items }
+    ensures room { vec_capacity blocks.new ≡ vec_capacity blocks.old }
+    ensures pool { vec_len pool.new + 1 ≡ vec_len pool.old }
+{
+    let mut block = pool.take_last();
+    block.insert(0, item);
+    blocks.push_reserved(block);
+}
+
+/// Puts an item in, before the one at an index or at the end. It takes at most one block of the pool.
+pub(crate) fn put<T: Copy, W: Weigh<T>>(
+    blocks: &mut Vec<Block<T, W>>,
+    pool: &mut Vec<Block<T, W>>,
+    len: usize,
+    index: usize,
+    item: T,
+)
+    requires len { len ≡ length (joined blocks.old.items) }
+    requires within { index ≤ len }
+    requires filled { All IsFilled blocks.old.items }
+    requires room { vec_len blocks.old < vec_capacity blocks.old }
+    requires pool { 0 < vec_len pool.old }
+    requires empty { All (λ b. b ≡ []) pool.old.items }
+    ensures items { joined blocks.new.items ≡ insert (joined blocks.old.items) index item }
+    ensures filled { All IsFilled blocks.new.items }
+    ensures empty { All (λ b. b ≡ []) pool.new.items }
+    ensures room { vec_capacity blocks.new ≡ vec_capacity blocks.old }
+    ensures count { vec_len blocks.new + vec_len pool.new ≡ vec_len blocks.old + vec_len pool.old }
+    ensures pool { vec_len pool.old ≤ vec_len pool.new + 1 }
+{
+    if blocks.is_empty() {
+        start(blocks, pool, item);
+        return;
+    }
+    put_among(blocks, pool, len, index, item);
+}
+
+/// Takes an item out of a block.
+fn remove_in<T: Copy, W: Weigh<T>>(blocks: &mut Vec<Block<T, W>>, spot: Spot) -> T
+    requires within { spot.block < vec_len blocks.old }
+    requires inside { spot.index < length (block_at blocks.old.items spot.block) }
+    ensures item { Some result ≡ slice_get (block_at blocks.old.items spot.block) spot.index }
+    ensures blocks { blocks.new.items ≡ slice_set blocks.old.items spot.block (remove (block_at blocks.old.items spot.block) spot.index) }
+    ensures room { vec_capacity blocks.new ≡ vec_capacity blocks.old }
+{
+    blocks[spot.block].remove(spot.index)
+}
+
+/// Keeps an empty block for later where the pool has room for it.
+fn keep<T: Copy, W: Weigh<T>>(pool: &mut Vec<Block<T, W>>, block: Block<T, W>)
+    requires none { block ≡ [] }
+    requires empty { All (λ b. b ≡ []) pool.old.items }
+    ensures empty { All (λ b. b ≡ []) pool.new.items }
+    ensures pool { vec_len pool.old ≤ vec_len pool.new }
+{
+    if pool.len() < pool.capacity() {
+        pool.push_reserved(block);
+    }
+}
+
+/// Joins a block and the one after it where both are thin.
+fn join_at<T: Copy, W: Weigh<T>>(
+    blocks: &mut Vec<Block<T, W>>,
+    pool: &mut Vec<Block<T, W>>,
+    block: usize,
+)
+    requires filled { All IsFilled blocks.old.items }
+    requires empty { All (λ b. b ≡ []) pool.old.items }
+    ensures items { joined blocks.new.items ≡ joined blocks.old.items }
+    ensures filled { All IsFilled blocks.new.items }
+    ensures empty { All (λ b. b ≡ []) pool.new.items }
+    ensures pool { vec_len pool.old ≤ vec_len pool.new }
+    ensures room { vec_capacity blocks.new ≡ vec_capacity blocks.old }
+    ensures count { vec_len blocks.new ≤ vec_len blocks.old }
+{
+    if block >= blocks.len() || block + 1 >= blocks.len() {
+        return;
+    }
+    if blocks[block].len() + blocks[block + 1].len() > THIN {
+        return;
+    }
+    let mut next = blocks.remove(block + 1);
+    blocks[block].append(&mut next);
+    keep(pool, next);
+}
+
+/// Takes the block at an index away where it has no item.
+fn drop_empty<T: Copy, W: Weigh<T>>(
+    blocks: &mut Vec<Block<T, W>>,
+    pool: &mut Vec<Block<T, W>>,
+    block: usize,
+)
+    requires within { block < length blocks.old.items }
+    requires filled { (bs : List (List T)) × All IsFilled bs × (blocks.old.items ≡ slice_set bs block (block_at blocks.old.items block)) }
+    requires room { length (block_at blocks.old.items block) < MOST }
+    requires empty { All (λ b. b ≡ []) pool.old.items }
+    ensures items { joined blocks.new.items ≡ joined blocks.old.items }
+    ensures filled { All IsFilled blocks.new.items }
+    ensures empty { All (λ b. b ≡ []) pool.new.items }
+    ensures pool { vec_len pool.old ≤ vec_len pool.new }
+    ensures room { vec_capacity blocks.new ≡ vec_capacity blocks.old }
+    ensures count { vec_len blocks.new ≤ vec_len blocks.old }
+{
+    if blocks[block].len() > 0 {
+        return;
+    }
+    let none = blocks.remove(block);
+    keep(pool, none);
+}
+
+/// Takes the item at an index out. Blocks that come to be thin are joined.
+pub(crate) fn take_out<T: Copy, W: Weigh<T>>(
+    blocks: &mut Vec<Block<T, W>>,
+    pool: &mut Vec<Block<T, W>>,
+    index: usize,
+) -> T
+    requires within { index < length (joined blocks.old.items) }
+    requires filled { All IsFilled blocks.old.items }
+    requires empty { All (λ b. b ≡ []) pool.old.items }
+    ensures item { Some result ≡ slice_get (joined blocks.old.items) index }
+    ensures items { joined blocks.new.items ≡ remove (joined blocks.old.items) index }
+    ensures filled { All IsFilled blocks.new.items }
+    ensures empty { All (λ b. b ≡ []) pool.new.items }
+    ensures pool { vec_len pool.old ≤ vec_len pool.new }
+    ensures room { vec_capacity blocks.new ≡ vec_capacity blocks.old }
+    ensures count { vec_len blocks.new ≤ vec_len blocks.old }
+{
+    let spot = spot_of(blocks.as_slice(), index);
+    let item = remove_in(blocks, spot);
+    drop_empty(blocks, pool, spot.block);
+    join_at(blocks, pool, spot.block);
+    join_at(blocks, pool, spot.block.saturating_sub(1));
+    item
+}
+
+/// Fills the pool up to so many empty blocks.
+///
+/// # Errors
+///
+/// `NoMemory`: some may have been added.
+pub(crate) fn fill<T: Copy, W: Weigh<T>>(
+    alloc: Global,
+    pool: &mut Vec<Block<T, W>>,
+    n: usize,
+) -> Result<(), NoMemory>
+    requires { All (λ b. b ≡ []) pool.old.items }
+    ensures full { OnOk result (n ≤ vec_len pool.new) }
+    ensures empty { All (λ b. b ≡ []) pool.new.items }
+    ensures kept { vec_len pool.old ≤ vec_len pool.new }
+{
+    while pool.len() < n {
+        pool.push(Block::new(alloc)?)?;
+    }
+    Ok(())
+}

@@ -1,0 +1,14 @@
+//! A list that takes an item in or out at any place by moving few others, and that knows the sums of what its items count.
+#![tactic(auto)]
+
+mod block;
+mod blocks;
+pub mod bound;
+pub mod crossing;
+pub mod list;
+mod sending;
+mod sums;
+#[cfg(test)]
+mod tests;
+mod walks;
+pub mod weigh;

@@ -1,0 +1,140 @@
+//! Lists of some hundred numbers, over ample memory, beside plain ones.
+
+use crate::bound::Bound;
+use crate::crossing::Crossing;
+use crate::list::BlockList;
+use crate::weigh::Weigh;
+use std::alloc::Global;
+use std::test::Fail;
+
+// Each number counts what it is.
+struct Number;
+
+impl Weigh<i32> for Number {
+    ghost use Rattle.std.specs.Prelude.{ℤ};
+
+    ghost weight = { λ (n : ℤ). n };
+
+    fn weight(item: &i32) -> i64 {
+        i64::from(*item)
+    }
+}
+
+// The numbers below this one come first.
+#[derive(Drop)]
+struct Below {
+    number: i32,
+}
+
+impl Bound<i32> for Below {
+    ghost use Rattle.std.specs.Prelude.{int_lt};
+
+    ghost above = { λ below item. int_lt item below.number };
+
+    fn is_above(&self, item: &i32) -> bool {
+        *item < self.number
+    }
+}
+
+// All items, run by run.
+fn walked(alloc: Global, list: &BlockList<i32, Number>) -> Result<Vec<i32>, Fail> {
+    let mut all = Vec::new(alloc);
+    for _ in 0..list.len() {
+        if all.len() >= list.len() {
+            break;
+        }
+        all.extend_from_slice(list.run_from(all.len()))?;
+    }
+    Ok(all)
+}
+
+// The next of some numbers that come in no order.
+fn scattered(number: u32) -> u32 {
+    number.wrapping_mul(1_103_515_245).wrapping_add(12_345)
+}
+
+#[test]
+fn takes_items_in_and_out(rt: HostRuntime) -> Result<(), Fail> {
+    let alloc = rt.alloc();
+    let mut list: BlockList<i32, Number> = BlockList::new(alloc);
+    let mut plain: Vec<i32> = Vec::new(alloc);
+    let mut seed = 7;
+    for number in 0..600 {
+        seed = scattered(seed);
+        let index = (seed >> 8) as usize % (plain.len() + 1);
+        if index <= list.len() && list.len() < 600 {
+            list.reserve(1)?;
+            list.insert(index, number);
+        }
+        plain.insert(index, number)?;
+    }
+    assert!(rt; walked(alloc, &list)?.as_slice() == plain.as_slice());
+    for _ in 0..500 {
+        seed = scattered(seed);
+        let index = (seed >> 8) as usize % 100;
+        if index < list.len() && index < plain.len() {
+            assert_eq!(rt; list.remove(index), plain.remove(index));
+        }
+    }
+    assert_eq!(rt; list.len(), 100);
+    assert!(rt; walked(alloc, &list)?.as_slice() == plain.as_slice());
+    Ok(())
+}
+
+// The numbers from 1 to 300, in order.
+fn in_order(alloc: Global) -> Result<BlockList<i32, Number>, Fail> {
+    let mut list = BlockList::new(alloc);
+    for number in 1..=300 {
+        let end = list.len();
+        if end < 300 {
+            list.reserve(1)?;
+            list.insert(end, number);
+        }
+    }
+    Ok(list)
+}
+
+#[test]
+fn finds_sums_and_bounds(rt: HostRuntime) -> Result<(), Fail> {
+    let list = in_order(rt.alloc())?;
+    assert_eq!(rt; list.len(), 300);
+    assert!(rt; list.get(299) == Some(&300));
+    assert!(rt; list.get(300).is_none());
+    assert_eq!(rt; list.sum_before(300), 45_150);
+    assert_eq!(rt; list.sum_before(128), 8_256);
+    for number in [0, 1, 127, 128, 300, 301] {
+        let point = list.partition_point(&Below { number });
+        assert_eq!(rt; point, number.max(1) as usize - 1);
+    }
+    let start = Crossing {
+        index: 10,
+        before: 5,
+    };
+    let all = list.first_below(start, 300);
+    assert_eq!(rt; (all.index, all.before), (300, 45_100));
+    Ok(())
+}
+
+#[test]
+fn tells_where_a_sum_falls_below_0(rt: HostRuntime) -> Result<(), Fail> {
+    let mut list = in_order(rt.alloc())?;
+    list.reserve(1)?;
+    assert_eq!(rt; list.len(), 300);
+    list.insert(200, -25_000);
+    assert_eq!(rt; list.len(), 301);
+    let start = Crossing {
+        index: 0,
+        before: 0,
+    };
+    let short = list.first_below(start, 301);
+    assert_eq!(rt; (short.index, short.before), (200, 20_100));
+    let enough = list.first_below(
+        Crossing {
+            index: 0,
+            before: 4_900,
+        },
+        301,
+    );
+    assert_eq!(rt; enough.index, 301);
+    Ok(())
+}
