@@ -158,7 +158,7 @@ def measure_all(room):
             asked = {"do": "report", "of": sheet, "as": form, **({"record": VOUCHER} if sheet == "voucher" else {})}
             line, rows = json.dumps(asked, separators=(",", ":")), len(in_python(movements))
             text = last_reply([*book, line], room)
-            count = 200 if rows > 1_000 else 1_000
+            count = 200 if rows > 1_000 else 5_000
             whole = measure(PROGRAM, book + [line] * count, room, checked(count, rows))
             seconds = max(whole["seconds"] - alone["seconds"], 1e-4) / count
             found[f"{sheet}_{form}"] = {

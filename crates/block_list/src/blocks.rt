@@ -1,9 +1,11 @@
 //! Blocks side by side: where an item stands in them.
-ghost use Rattle.std.specs.Prelude.{◌≡◌, ◌+◌, ◌<◌, ◌≤◌, List, [], ◌∷◌, Some, All, slice_get, remove, length, take, drop, insert, slice_set, vec_len, vec_capacity, OnOk};
+ghost use Rattle.std.specs.Prelude.{◌≡◌, ◌+◌, ◌<◌, ◌≤◌, ℕ, List, [], ◌∷◌, Some, All, slice_get, remove, length, take, drop, insert, slice_set, vec_len, vec_capacity, OnOk};
 ghost use Rattle.block_list.specs.Blocks.{joined, block_at, IsFilled, IsSpot, IsGap};
+ghost use Rattle.block_list.specs.Bounds.{HasSides};
 ghost use Rattle.block_list.specs.declared.sums.TheConstants.{MOST};
 
 use crate::block::Block;
+use crate::bound::{Bound, search};
 use crate::sums::MOST;
 use crate::weigh::Weigh;
 use std::alloc::Global;
@@ -17,6 +19,22 @@ const THIN: usize = MOST / 2;
 pub(crate) struct Spot {
     pub(crate) block: usize,
     pub(crate) index: usize,
+}
+
+/// A bound among blocks, by their first items.
+#[derive(Clone, Copy)]
+struct Begins<'a, B> {
+    bound: &'a B,
+}
+
+impl<'a, T: Copy, W: Weigh<T>, B: Bound<T>> Bound<Block<T, W>> for Begins<'a, B> {
+    ghost use Rattle.block_list.specs.Bounds.{first_passes};
+
+    ghost above = { λ begins block. first_passes (B.above begins.bound.now) block };
+
+    fn is_above(&self, block: &Block<T, W>) -> bool {
+        block.begins_above(self.bound)
+    }
 }
 
 /// Where the item at an index stands.
@@ -102,29 +120,26 @@ fn cut_of(blocks: usize, gap: Spot) -> usize
     }
 }
 
-/// Puts an item in, before the one at an index or at the end. A block that is full then is parted.
+/// Puts an item into a gap. A block that is full then is parted.
 fn put_among<T: Copy, W: Weigh<T>>(
     blocks: &mut Vec<Block<T, W>>,
     pool: &mut Vec<Block<T, W>>,
-    len: usize,
-    index: usize,
+    gap: Spot,
     item: T,
 )
-    requires some { 0 < vec_len blocks.old }
-    requires len { len ≡ length (joined blocks.old.items) }
-    requires within { index ≤ len }
+    requires within { gap.block < length blocks.old.items }
+    requires inside { gap.index ≤ length (block_at blocks.old.items gap.block) }
     requires filled { All IsFilled blocks.old.items }
     requires room { vec_len blocks.old < vec_capacity blocks.old }
     requires pool { 0 < vec_len pool.old }
     requires empty { All (λ b. b ≡ []) pool.old.items }
-    ensures items { joined blocks.new.items ≡ insert (joined blocks.old.items) index item }
+    ensures items { (at : ℕ) → IsGap blocks.old.items at gap.block gap.index → joined blocks.new.items ≡ insert (joined blocks.old.items) at item }
     ensures filled { All IsFilled blocks.new.items }
     ensures empty { All (λ b. b ≡ []) pool.new.items }
     ensures room { vec_capacity blocks.new ≡ vec_capacity blocks.old }
     ensures count { vec_len blocks.new + vec_len pool.new ≡ vec_len blocks.old + vec_len pool.old }
     ensures pool { vec_len pool.old ≤ vec_len pool.new + 1 }
 {
-    let gap = gap_of(blocks.as_slice(), len, index);
     insert_in(blocks, gap, item);
     if blocks[gap.block].len() < MOST {
         return;
@@ -174,7 +189,55 @@ pub(crate) fn put<T: Copy, W: Weigh<T>>(
         start(blocks, pool, item);
         return;
     }
-    put_among(blocks, pool, len, index, item);
+    let gap = gap_of(blocks.as_slice(), len, index);
+    put_among(blocks, pool, gap, item);
+}
+
+/// Where an item comes to stand before a bound: in the last block that begins before the bound, or before all.
+pub(crate) fn gap_before<T: Copy, W: Weigh<T>, B: Bound<T>>(
+    blocks: &[Block<T, W>],
+    bound: &B,
+) -> Spot
+    requires some { 0 < length blocks.now }
+    requires filled { All IsFilled blocks.now }
+    ensures gap { IsGap blocks.now (length (joined (take result.block blocks.now)) + result.index) result.block result.index }
+    ensures sides { HasSides (B.above bound.now) (joined blocks.now) (length (joined (take result.block blocks.now)) + result.index) }
+{
+    let count = search(blocks, &Begins { bound });
+    if count == 0 {
+        return Spot { block: 0, index: 0 };
+    }
+    let block = count - 1;
+    Spot {
+        block,
+        index: search(blocks[block].as_slice(), bound),
+    }
+}
+
+/// Puts an item in before a bound. It takes at most one block of the pool.
+pub(crate) fn put_before<T: Copy, W: Weigh<T>, B: Bound<T>>(
+    blocks: &mut Vec<Block<T, W>>,
+    pool: &mut Vec<Block<T, W>>,
+    bound: &B,
+    item: T,
+)
+    requires filled { All IsFilled blocks.old.items }
+    requires room { vec_len blocks.old < vec_capacity blocks.old }
+    requires pool { 0 < vec_len pool.old }
+    requires empty { All (λ b. b ≡ []) pool.old.items }
+    ensures items { (at : ℕ) × HasSides (B.above bound.now) (joined blocks.old.items) at × (joined blocks.new.items ≡ insert (joined blocks.old.items) at item) }
+    ensures filled { All IsFilled blocks.new.items }
+    ensures empty { All (λ b. b ≡ []) pool.new.items }
+    ensures room { vec_capacity blocks.new ≡ vec_capacity blocks.old }
+    ensures count { vec_len blocks.new + vec_len pool.new ≡ vec_len blocks.old + vec_len pool.old }
+    ensures pool { vec_len pool.old ≤ vec_len pool.new + 1 }
+{
+    if blocks.is_empty() {
+        start(blocks, pool, item);
+        return;
+    }
+    let gap = gap_before(blocks.as_slice(), bound);
+    put_among(blocks, pool, gap, item);
 }
 
 /// Takes an item out of a block.

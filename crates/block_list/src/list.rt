@@ -1,12 +1,12 @@
 //! A list in blocks.
-ghost use Rattle.std.specs.Prelude.{◌≡◌, ◌+◌, ◌<◌, ◌≤◌, ◌^◌, [], Some, length, insert, remove, take, drop, slice_get, unsigned_abs, true, false, OnOk};
+ghost use Rattle.std.specs.Prelude.{◌≡◌, ◌+◌, ◌<◌, ◌≤◌, ◌^◌, ℕ, [], Some, length, insert, remove, take, drop, slice_get, unsigned_abs, true, false, OnOk};
 ghost use Rattle.std.specs.Option.{option_copied};
 ghost use Rattle.std.specs.List.Sorted.{IsPartitionedBy, IsPartitionPoint};
 ghost use Rattle.block_list.specs.Bounds.{HasSides};
 ghost use Rattle.block_list.specs.Sums.{total, IsFirstBelow};
 
 use crate::block::Block;
-use crate::blocks::{fill, put, spot_of, take_out};
+use crate::blocks::{fill, put, put_before, spot_of, take_out};
 use crate::bound::Bound;
 use crate::crossing::Crossing;
 use crate::walks::{first_below, partition_point, sum_before};
@@ -89,6 +89,17 @@ impl<T: Copy, W: Weigh<T>> BlockList<T, W> {
         ensures room { self.old.spare ≤ self.new.spare + 1 }
     {
         put(&mut self.blocks, &mut self.pool, self.len, index, item);
+        self.len += 1;
+    }
+
+    /// Puts an item in before a bound, as its index would say, without the index. It takes no memory.
+    pub fn insert_before<B: Bound<T>>(&mut self, bound: &B, item: T)
+        requires room { 0 < self.old.spare }
+        requires few { length self.old.items < 2 ^ 20 }
+        ensures items { (at : ℕ) × HasSides (B.above bound.now) self.old.items at × (self.new.items ≡ insert self.old.items at item) }
+        ensures room { self.old.spare ≤ self.new.spare + 1 }
+    {
+        put_before(&mut self.blocks, &mut self.pool, bound, item);
         self.len += 1;
     }
 

@@ -5,8 +5,8 @@ ghost use Rattle.block_list.specs.Bounds.{HasSides};
 ghost use Rattle.block_list.specs.Sums.{total, IsFirstBelow};
 
 use crate::block::Block;
-use crate::blocks::Spot;
-use crate::bound::{Bound, search};
+use crate::blocks::{Spot, gap_before};
+use crate::bound::Bound;
 use crate::crossing::Crossing;
 use crate::weigh::Weigh;
 
@@ -133,22 +133,6 @@ pub(crate) fn first_below<T: Copy, W: Weigh<T>>(
     at
 }
 
-/// A bound among blocks, by their first items.
-#[derive(Clone, Copy)]
-struct Begins<'a, B> {
-    bound: &'a B,
-}
-
-impl<'a, T: Copy, W: Weigh<T>, B: Bound<T>> Bound<Block<T, W>> for Begins<'a, B> {
-    ghost use Rattle.block_list.specs.Bounds.{first_passes};
-
-    ghost above = { λ begins block. first_passes (B.above begins.bound.now) block };
-
-    fn is_above(&self, block: &Block<T, W>) -> bool {
-        block.begins_above(self.bound)
-    }
-}
-
 /// How many items the first blocks have, so many of them.
 fn items_before<T: Copy, W: Weigh<T>>(blocks: &[Block<T, W>], count: usize) -> usize
     requires within { count ≤ length blocks.now }
@@ -175,9 +159,9 @@ pub(crate) fn partition_point<T: Copy, W: Weigh<T>, B: Bound<T>>(
     requires few { length (joined blocks.now) ≤ 2 ^ 20 }
     ensures { HasSides (B.above bound.now) (joined blocks.now) result }
 {
-    let count = search(blocks, &Begins { bound });
-    if count == 0 {
+    if blocks.is_empty() {
         return 0;
     }
-    items_before(blocks, count - 1) + search(blocks[count - 1].as_slice(), bound)
+    let gap = gap_before(blocks, bound);
+    items_before(blocks, gap.block) + gap.index
 }

@@ -79,10 +79,9 @@ pub(crate) fn filled(
     for _ in 0..others {
         seed = scattered(seed);
         let key = (seed >> 16) % (u64::from(ordered) * 65_536 + 1);
-        let at = list.partition_point(&Key { key });
         if list.len() < MOST {
             list.reserve(1)?;
-            list.insert(at, with_key(key));
+            list.insert_before(&Key { key }, with_key(key));
         }
     }
     Ok(list)
