@@ -71,6 +71,14 @@ def measure(words, lines, room, check, runs=RUNS):
     }
 
 
+def seconds_unwritten(words, lines, room):
+    """Returns the seconds of the best of the runs, with replies that go nowhere: no file system takes them."""
+    given = f"{room}/given"
+    with open(given, "w", encoding="ascii") as it:
+        it.writelines(f"{line}\n" for line in lines)
+    return min(run_once(words, given, os.devnull)[0] for _ in range(RUNS))
+
+
 def same_as(lines, due):
     """Returns the check that every line was answered as is due."""
     def check(replies):

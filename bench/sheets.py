@@ -8,7 +8,7 @@ import json
 import time
 
 import plain_replay
-from measuring import PROGRAM, measure, require
+from measuring import PROGRAM, measure, require, seconds_unwritten
 
 MOVEMENTS = 3_900
 ITEMS, STORES = 8, 5
@@ -116,13 +116,12 @@ def text_of(sheet, form, rows):
     return json.dumps({**reply, "csv": out.getvalue()}, separators=(",", ":"))
 
 
-def seconds_in_python(sheet, form, movements, room):
-    """Returns the seconds of the best of the tries, each of which writes its text to a file, as the program does."""
+def seconds_in_python(sheet, form, movements):
+    """Returns the seconds of the best of the tries. The text is made, and written nowhere."""
     best = float("inf")
     for _ in range(PYTHON_TRIES):
         begin = time.perf_counter()
-        with open(f"{room}/sheet", "w", encoding="ascii") as out:
-            out.write(text_of(sheet, form, IN_PYTHON[sheet](movements)))
+        text_of(sheet, form, IN_PYTHON[sheet](movements))
         best = min(best, time.perf_counter() - begin)
     return best
 
@@ -149,7 +148,7 @@ def last_reply(lines, room):
 def measure_all(room):
     """Returns, for each sheet in each form, its rows and bytes a second, and how many times as fast it is as Python."""
     book = postings()
-    alone = measure(PROGRAM, book, room, checked(0, 0))
+    alone = seconds_unwritten(PROGRAM, book, room)
     movements = json.loads(last_reply([*book, '{"do":"report","of":"ledger"}'], room))["rows"]
     movements = [{name: value for name, value in it.items() if name not in ("stock", "worth")} for it in movements]
     found = {}
@@ -159,13 +158,14 @@ def measure_all(room):
             line, rows = json.dumps(asked, separators=(",", ":")), len(in_python(movements))
             text = last_reply([*book, line], room)
             count = 200 if rows > 1_000 else 5_000
-            whole = measure(PROGRAM, book + [line] * count, room, checked(count, rows))
-            seconds = max(whole["seconds"] - alone["seconds"], 1e-4) / count
+            lines = book + [line] * count
+            measure(PROGRAM, lines, room, checked(count, rows), runs=1)
+            seconds = max(seconds_unwritten(PROGRAM, lines, room) - alone, 1e-4) / count
             found[f"{sheet}_{form}"] = {
                 "rows": rows,
                 "microseconds": round(seconds * 1e6, 1),
                 "rows_per_second": round(rows / seconds),
                 "megabytes_per_second": round(len(text) / seconds / 1e6, 1),
-                "times_python": round(seconds_in_python(sheet, form, movements, room) / seconds, 1),
+                "times_python": round(seconds_in_python(sheet, form, movements) / seconds, 1),
             }
     return {"movements": MOVEMENTS, "keys": ITEMS * STORES, "times_wanted": TIMES_WANTED, **found}

@@ -1,7 +1,8 @@
 //! The rows of a selection by their items and warehouses.
-ghost use Rattle.std.specs.Prelude.{◌≡◌, ◌++◌, [], ◌∷◌, filter, Some, unwrap_or, if◌then◌else◌, IfOk, OnOk};
+ghost use Rattle.std.specs.Prelude.{◌≡◌, ◌++◌, List, [], ◌∷◌, true, IsTrue, filter, Some, unwrap_or, if◌then◌else◌, IfOk, OnOk};
 ghost use Rattle.std.specs.BTreeMap.{get};
 ghost use Rattle.stock_nums.specs.declared.entry.Key.{Key};
+ghost use Rattle.stock_nums.specs.declared.head.Head.{Head};
 ghost use Rattle.stock_model.specs.Books.{AreHeads};
 ghost use Rattle.stock_model.specs.Enough.{is_same_key};
 ghost use Rattle.stock_model.specs.Masters.{code_of};
@@ -46,6 +47,25 @@ fn is_asked_key(query: &Query, heads: &[Head], key: &Key) -> bool
     is_asked_code(&query.item, heads, key.item.0) && is_asked_code(&query.store, heads, key.store.0)
 }
 
+// Whether every item in every warehouse is asked for.
+fn asks_for_all(query: &Query) -> bool
+    ensures { IsTrue result → (heads : List Head) (key : Key) → is_asked_key query.now heads key ≡ true }
+{
+    match (&query.item, &query.store) {
+        (None, None) => true,
+        _ => false,
+    }
+}
+
+// The same as `is_asked_key`, where it may be known that all are asked for.
+fn is_wanted(all: bool, query: &Query, heads: &[Head], key: &Key) -> bool
+    requires heads { AreHeads heads.now }
+    requires all { IsTrue all → (heads : List Head) (key : Key) → is_asked_key query.now heads key ≡ true }
+    ensures { result ≡ is_asked_key query.now heads.now key.now }
+{
+    all || is_asked_key(query, heads, key)
+}
+
 // Adds a row to those of its key.
 fn add_row(
     alloc: Global,
@@ -78,9 +98,10 @@ fn rows_by_key(
     ensures { IfOk result (λ by_key. IsByKey by_key (filter (is_asked_row query.now heads.now) rows.now)) }
 {
     let mut by_key = BTreeMap::new(alloc);
+    let all = asks_for_all(query);
     for row in rows {
         let key = entry_key(&row.entry);
-        if is_asked_key(query, heads, &key) {
+        if is_wanted(all, query, heads, &key) {
             add_row(alloc, &mut by_key, key, row)?;
         }
     }
