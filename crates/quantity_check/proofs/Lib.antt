@@ -1,2 +1,9 @@
+pub mod FirstShorts
+pub mod HeldSums
 pub mod HoldingLemmas
+pub mod Members
 pub mod OwnPlaceLemmas
+pub mod PlaceSteps
+pub mod FirstLacks
+pub mod StretchEnds
+pub mod StretchLemmas

@@ -29,7 +29,7 @@ Precedes-front R x [] ys h = tt
 Precedes-front R x (y ∷ xs) ys h = (h.0, Precedes-front R x xs ys h.1)
 
 -- and to each of the second
-Precedes-back : {X : Type 0} (R : X → X → Type 0) (x : X) (xs ys : List X) → Precedes R x (xs ++ ys) → Precedes R x ys
+pub Precedes-back : {X : Type 0} (R : X → X → Type 0) (x : X) (xs ys : List X) → Precedes R x (xs ++ ys) → Precedes R x ys
 Precedes-back R x [] ys h = h
 Precedes-back R x (y ∷ xs) ys h = Precedes-back R x xs ys h.1
 
@@ -44,17 +44,17 @@ Pairwise-back R [] ys h = h
 Pairwise-back R (x ∷ xs) ys h = Pairwise-back R xs ys h.1
 
 -- and each of the first is related to each of the second
-Pairwise-Across : {X : Type 0} (R : X → X → Type 0) (xs ys : List X) → Pairwise R (xs ++ ys) → Across R xs ys
+pub Pairwise-Across : {X : Type 0} (R : X → X → Type 0) (xs ys : List X) → Pairwise R (xs ++ ys) → Across R xs ys
 Pairwise-Across R [] ys h = tt
 Pairwise-Across R (x ∷ xs) ys h = (Precedes-back R x xs ys h.0, Pairwise-Across R xs ys h.1)
 
 -- each of the first list is related to one more
-Across-head : {X : Type 0} (R : X → X → Type 0) (xs : List X) (y : X) (ys : List X) → Across R xs (y ∷ ys) → Each (λ x. R x y) xs
+pub Across-head : {X : Type 0} (R : X → X → Type 0) (xs : List X) (y : X) (ys : List X) → Across R xs (y ∷ ys) → Each (λ x. R x y) xs
 Across-head R [] y ys h = tt
 Across-head R (x ∷ xs) y ys h = (h.0.0, Across-head R xs y ys h.1)
 
 -- and to each of the others
-Across-tail : {X : Type 0} (R : X → X → Type 0) (xs : List X) (y : X) (ys : List X) → Across R xs (y ∷ ys) → Across R xs ys
+pub Across-tail : {X : Type 0} (R : X → X → Type 0) (xs : List X) (y : X) (ys : List X) → Across R xs (y ∷ ys) → Across R xs ys
 Across-tail R [] y ys h = tt
 Across-tail R (x ∷ xs) y ys h = (h.0.1, Across-tail R xs y ys h.1)
 

@@ -3,3 +3,4 @@ pub mod Kept
 pub mod State
 pub mod OwnPlaces
 pub mod Shorts
+pub mod Stretches

@@ -1,0 +1,12 @@
+use Rattle.std.proofs.Common.{sym, ◌∙◌, ap, List}
+use Rattle.stock_nums.specs.declared.entry.Entry.{Entry}
+use Rattle.std.proofs.lemmas.List.{drop_all}
+use Rattle.quantity_check.specs.Stretches.{first_of_stretches}
+use Rattle.quantity_check.proofs.StretchLemmas.{first_of_stretches-shortage}
+use Rattle.quantity_check.proofs.stretches.first_shortage.Goals as goal
+
+pub returns : goal.returns
+returns g c =
+    let all = first_of_stretches-shortage (g.L.HeldLine.entries c.args.line.now) c.args.entries.now c.requires.in_order c.requires.enough c.requires.apart in
+    let none = drop_all c.loop-entry.entry-index c.args.entries.now c.loop-entry-test.false in
+    sym (ap (λ (es : List Entry). first_of_stretches c.loop-entry.first (g.L.HeldLine.entries c.args.line.now) c.args.entries.now es) none) ∙ c.loop-entry.invariant ∙ all
