@@ -7,11 +7,8 @@ use Rattle.std.proofs.lemmas.List.{take-append-le, take_all}
 use Rattle.stock_laws.proofs.Enough.{IsEnough-nil, IsEnough-from_none}
 use Rattle.stock_laws.proofs.PostingLine.{IsInPostingOrder-posting_line}
 use Rattle.stock_model.specs.InOrder.{IsInPostingOrder}
-use Rattle.quantity_check.specs.declared.running.Short.{Short}
 use Rattle.quantity_check.specs.OwnPlaces.{HaveOwnPlaces}
-use Rattle.quantity_check.specs.Shorts.{short_of as lacks_of}
 use Rattle.quantity_check.proofs.OwnPlaceLemmas.{HaveOwnPlaces-put_all}
-use Rattle.generation_book.specs.Shorts.{fault_of}
 use Rattle.stock_model.proofs.Growth.{all_entries-snoc, posting_line-snoc, length-posting_line}
 use Rattle.stock_laws.proofs.Legality.{NoFault-from, AreLegal-history}
 use Rattle.stock_model.proofs.NoFaults.{neither}
@@ -95,7 +92,7 @@ pub full-none : (journal : List Record) (item : Record) → length journal < MAX
 full-none journal item records room = grind (arith, nat_tests)
 
 -- and where with the record's movements one is short, that is the first fault
-fault-short : (journal : List Record) (item : Record) (s : Shortage) → fault_but_short journal item ≡ None
+pub fault-short : (journal : List Record) (item : Record) (s : Shortage) → fault_but_short journal item ≡ None
     → shortage (posting_line (journal ++ item ∷ [])) ≡ Some s → fault journal item ≡ Some (short_of s)
 unfolding fault
 fault-short journal item s none is = rw (none, is) refl
@@ -212,19 +209,6 @@ entries-own_places journal item line es posted new =
 pub entries-enough : (journal : List Record) (item : Record) (line es : List Entry) → line ≡ posting_line journal → es ≡ entries journal item → fault journal item ≡ None → IsEnough (put_all line es)
 entries-enough journal item line es posted new none =
     subst IsEnough (sym (put_all-entries journal item line es posted new)) (IsEnough-from_none (posting_line (journal ++ item ∷ [])) (NoFault-from journal item none).enough)
-
--- what lacks with them is the fault of the record
-pub fault-lacks : (journal : List Record) (item : Record) (f : Short) → fault_but_short journal item ≡ None
-    → option_map lacks_of (shortage (posting_line (journal ++ item ∷ []))) ≡ Some f → fault journal item ≡ Some (fault_of f)
-fault-lacks journal item f none is =
-    let step : (o : Option Shortage) → shortage (posting_line (journal ++ item ∷ [])) ≡ o → option_map lacks_of o ≡ Some f → fault journal item ≡ Some (fault_of f) =
-    λ o. elim o as (λ v. shortage (posting_line (journal ++ item ∷ [])) ≡ v → option_map lacks_of v ≡ Some f → fault journal item ≡ Some (fault_of f)) [
-      | None ↦ λ no_one told. cc
-      | Some s ↦ λ some told.
-          let same : lacks_of s ≡ f = cc in
-          fault-short journal item s none some ∙ ap (λ (short : Short). Some (fault_of short)) same
-    ] in
-    step (shortage (posting_line (journal ++ item ∷ []))) refl is
 
 -- whether what a report needs is covered, is accepted, or isn't
 abbrev need_by : RecordNo → List Deed → Need

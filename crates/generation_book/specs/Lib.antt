@@ -1,4 +1,3 @@
 pub mod State
 pub mod Book
-pub mod Shorts
 pub mod RecordRows

@@ -5,20 +5,20 @@ ghost use Rattle.std.specs.Option.{option_copied};
 ghost use Rattle.stock_model.specs.declared.deeds.Deed.TheVariants as deed;
 ghost use Rattle.stock_model.specs.Reports.{need_at, unmet_need, for_sheet, selected, IsForSheet};
 ghost use Rattle.stock_model.specs.Entries.{entries};
-ghost use Rattle.stock_model.specs.Faults.{voucher_fault, full, fault_but_short, fault};
+ghost use Rattle.stock_model.specs.Faults.{voucher_fault, full, fault_but_short, fault, short_of};
 ghost use Rattle.stock_model.specs.History as history;
 ghost use Rattle.stock_model.specs.Masters.{record_at};
-ghost use Rattle.generation_book.specs.Shorts.{fault_of};
 
 use crate::events::Event;
 use crate::selecting::rows_for;
 use cost_links::replay;
-use quantity_check::running::{Running, Short};
+use quantity_check::running::Running;
 use std::alloc::Global;
 use std::marker::Model;
 use stock_model::faults::PostFault;
 use stock_model::queries::{Need, Query, SelectFault, Selected};
 use stock_model::records::Record;
+use stock_model::shortages::Shortage;
 use stock_model::{masters, movements};
 use stock_nums::entry::{Entry, Row};
 use stock_nums::limits::{MAX_ENTRIES, MAX_RECORDS};
@@ -108,9 +108,9 @@ impl Book {
         let Ok(entries) = self.journal.next_entries(alloc, item) else {
             return Err(PostFault::NoMemory);
         };
-        match self.movements.try_entries(alloc, entries.as_slice()) {
+        match self.movements.try_entries(entries.as_slice()) {
             Ok(()) => Ok(entries),
-            Err(short) => Err(fault_of(short)),
+            Err(shortage) => Err(fault_of(&shortage)),
         }
     }
 
@@ -130,7 +130,7 @@ impl Book {
         ensures { result ≡ full (history.records self.now.history) item.now }
     {
         let records = self.journal.count();
-        let held = self.movements.timeline().entries().len();
+        let held = self.movements.timeline().len();
         if records as usize >= MAX_RECORDS || movements::count(item) > MAX_ENTRIES - held {
             return Some(PostFault::Full {
                 records,
@@ -154,7 +154,8 @@ impl Book {
             return Ok(self.covered);
         }
         let records = self.journal.records();
-        let rows = replay::rows_of(alloc, records, self.movements.timeline().entries())?;
+        let line = self.movements.timeline().to_lines(alloc)?;
+        let rows = replay::rows_of(alloc, records, line.as_slice())?;
         self.events.reserve(1)?;
         self.events.push_reserved(Event::Published(accepted));
         self.covered = accepted;
@@ -240,24 +241,15 @@ impl Book {
     }
 }
 
-// The rows whose moment is not after this one, where there is one.
-// The fault of movements that can't be added.
-fn fault_of(short: Short) -> PostFault
-    ensures { result ≡ fault_of short }
+// The fault of a record with which some movement takes more than there is.
+fn fault_of(shortage: &Shortage) -> PostFault
+    ensures { result ≡ short_of shortage.now }
 {
-    match short {
-        Short::Lacks {
-            place,
-            item,
-            store,
-            lacking,
-        } => PostFault::Short {
-            place,
-            item,
-            store,
-            lacking,
-        },
-        Short::NoMemory => PostFault::NoMemory,
+    PostFault::Short {
+        place: shortage.place,
+        item: shortage.item,
+        store: shortage.store,
+        lacking: shortage.lacking,
     }
 }
 

@@ -209,7 +209,9 @@ module _ (cs : List Change) (key : Key) (from : Place) (end : Option Place) (mor
       let l : at < length cs = omega (arith, near, within) in
       let of : is_of key c ≡ true = ended-key key from end c (ended.0 at e (omega arith) near) (after.1 at e below.after l) in
       let read : c ≡ get_or cs at c = get_or_default cs at e c l in
-      let sum : before +ℤ change_units c ≡ more +ℤ held_with cs key c.place = running-more change_units cs index at base before c l read below.is ∙ sym (running-with cs key start index at e more base order first l of is) in
+      let sum : before +ℤ change_units c ≡ more +ℤ held_with cs key c.place =
+      running-more change_units cs index at base before c l read below.is
+      ∙ sym (running-with cs key start index at e more base order first l of is) in
       let found : find (lacks_within cs key from end more) (of_key key cs) ≡ Some c = find-filter (is_of key)
       (lacks_within cs key from end more) cs
       ∙ find-first_at lacks cs at e l

@@ -91,10 +91,6 @@ pub not-true : (b : Bool) → not b ≡ true → b ≡ false
 not-true true h = absurd (false≢true h)
 not-true false h = refl
 
-pub not-false : (b : Bool) → not b ≡ false → b ≡ true
-not-false true h = refl
-not-false false h = absurd (false≢true (sym h))
-
 -- a key does not come before itself
 pub key-irreflexive : (a : Key) → is_key_before a a ≡ false
 key-irreflexive a = grind (arith, nat_tests)

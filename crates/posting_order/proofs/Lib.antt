@@ -6,3 +6,5 @@ pub mod KeyPoints
 pub mod KeyPlaces
 pub mod KeyRuns
 pub mod KeyLacks
+pub mod KeyLines
+pub mod KeyQueries

@@ -1,10 +1,9 @@
 -- The next and the previous place of an item in a warehouse, among movements in posting order.
-use Rattle.std.proofs.Common.{◌≡◌, ℕ, zero, suc, ◌-◌, ◌<◌, Bool, true, false, cond, ◌&&◌, not, List, [], ◌∷◌, ◌++◌, length, take, drop, filter, reverse, Option, Some, None, IfSome, IfNone, refl, sym, ap, ◌∙◌, subst, arith}
+use Rattle.std.proofs.Common.{◌≡◌, ◌-◌, ◌<◌, Bool, true, false, cond, ◌&&◌, List, [], ◌∷◌, length, reverse, Option, Some, None, IfSome, IfNone, refl, sym, ◌∙◌, subst, arith}
 use Rattle.std.specs.List.{find, Contains}
-use Rattle.std.specs.Option.{option_map, option_or}
+use Rattle.std.specs.Option.{option_map}
 use Rattle.std.proofs.lemmas.Bool.{false≢true}
-use Rattle.std.proofs.lemmas.List.{take_all, length-drop, reverse-append, get_or-reverse, length-reverse}
-use Rattle.std.proofs.lemmas.List.Folds.{find-append}
+use Rattle.std.proofs.lemmas.List.{get_or-reverse, length-reverse}
 use Rattle.std.proofs.lemmas.List.Sorted.{All-permutation, IsPermutation-sym, IsPermutation-reverse, Contains-permutation}
 use Rattle.stock_nums.specs.Places.{is_before}
 use Rattle.stock_nums.specs.declared.entry.Entry.{Entry}
@@ -16,8 +15,7 @@ use Rattle.stock_model.specs.InOrder.{IsBefore, IsInPostingOrder}
 use Rattle.stock_laws.proofs.Enough.{is_same_key-true, is_same_key-refl}
 use Rattle.stock_model.proofs.Pairwise.{Pairwise, Each, Each-weaker, Pairwise-from_AllPairs, Contains-first, Contains-later}
 use Rattle.posting_order.specs.Timelines.{comes_before, comes_after, entry_place, next_place, previous_place, IsNextPlace, IsPreviousPlace, HasNoneAfter, HasNoneBefore}
-use Rattle.posting_order.proofs.Parting.{Passes, Fails, Each-from_Precedes, All-from_Each, Each-reverse, find-none, Fails-from_none, find-agree, front_passes, rest_fails}
-use Rattle.posting_order.proofs.Places.{comes_before-back, not_after-back, Pairwise-back}
+use Rattle.posting_order.proofs.Parting.{Fails, Each-from_Precedes, All-from_Each, Fails-from_none}
 
 -- the movement is of the key and comes after the place
 abbrev follows : Key → Place → Entry → Bool
@@ -27,25 +25,10 @@ follows key place e = is_of_key key e && comes_after place e
 abbrev precedes : Key → Place → Entry → Bool
 precedes key place e = is_of_key key e && comes_before place e
 
--- a list falls into its first ones and the rest
-take-drop : {X : Type 0} (n : ℕ) (xs : List X) → xs ≡ take n xs ++ drop n xs
-take-drop zero xs = refl
-take-drop (suc n) [] = refl
-take-drop (suc n) (x ∷ xs) = ap (λ ys. x ∷ ys) (take-drop n xs)
-
--- the rest of a list, taken whole
-take-rest : {X : Type 0} (n : ℕ) (xs : List X) → take (length xs - n) (drop n xs) ≡ drop n xs
-take-rest n xs = take_all (length xs - n) (drop n xs) (omega (arith, length-drop n xs))
-
 -- two tests passed at once, where the second is known
 both-true : (a b : Bool) → b ≡ true → (a && b) ≡ a
 both-true true b h = h
 both-true false b h = refl
-
--- not both are passed where the second fails
-both-false : (a b : Bool) → b ≡ false → (a && b) ≡ false
-both-false true b h = h
-both-false false b h = refl
 
 -- where both are passed, so is the first
 both-first : (a b : Bool) → (a && b) ≡ true → a ≡ true
@@ -56,52 +39,6 @@ both-first false b h = h
 both-second : (a b : Bool) → (a && b) ≡ true → b ≡ true
 both-second true b h = h
 both-second false b h = absurd (false≢true h)
-
--- what is not passed fails
-from_not-true : (b : Bool) → not b ≡ true → b ≡ false
-from_not-true true h = absurd (false≢true h)
-from_not-true false h = refl
-
--- what does not fail is passed
-from_not-false : (b : Bool) → not b ≡ false → b ≡ true
-from_not-false true h = refl
-from_not-false false h = absurd (false≢true (sym h))
-
--- the next place is that of the first of the key among those that come after
-pub next_place-rest : (es : List Entry) (key : Key) (place : Place) (n : ℕ) → IsInPostingOrder es → n ≡ length (filter (λ e. not (comes_after place e)) es)
-    → option_map entry_place (find (is_of_key key) (take (length es - n) (drop n es))) ≡ next_place es key place
-next_place-rest es key place n order is =
-    let back = Pairwise-back (λ e. not (comes_after place e)) (not_after-back place) es (Pairwise-from_AllPairs IsBefore es order) in
-    let front : Each (Fails (follows key place)) (take n es) =
-    Each-weaker (Passes (λ e. not (comes_after place e))) (Fails (follows key place)) (λ e h. both-false (is_of_key key e) (comes_after place e) (from_not-true (comes_after place e) h)) (take n es)
-    (front_passes (λ e. not (comes_after place e)) es n back is) in
-    let rest : Each (λ e. follows key place e ≡ is_of_key key e) (drop n es) =
-    Each-weaker (Fails (λ e. not (comes_after place e))) (λ e. follows key place e ≡ is_of_key key e) (λ e h. both-true (is_of_key key e) (comes_after place e) (from_not-false (comes_after place e) h)) (drop n es)
-    (rest_fails (λ e. not (comes_after place e)) es n back is) in
-    let parted : find (follows key place) es ≡ find (follows key place) (drop n es) =
-    ap (find (follows key place)) (take-drop n es) ∙ find-append (follows key place) (take n es) (drop n es) ∙ ap (λ (o : Option Entry). option_or o (find (follows key place) (drop n es))) (find-none (follows key place) (take n es) front) in
-    ap (λ (l : List Entry). option_map entry_place (find (is_of_key key) l)) (take-rest n es)
-    ∙ ap (option_map entry_place) (sym (parted ∙ find-agree (is_of_key key) (follows key place) (drop n es) rest))
-
--- the previous place is that of the last of the key among those that come before
-pub previous_place-front : (es : List Entry) (key : Key) (place : Place) (n : ℕ) → IsInPostingOrder es → n ≡ length (filter (comes_before place) es)
-    → option_map entry_place (find (is_of_key key) (reverse (take n es))) ≡ previous_place es key place
-previous_place-front es key place n order is =
-    let back = Pairwise-back (comes_before place) (comes_before-back place) es (Pairwise-from_AllPairs IsBefore es order) in
-    let front : Each (λ e. precedes key place e ≡ is_of_key key e) (reverse (take n es)) =
-    Each-reverse (λ e. precedes key place e ≡ is_of_key key e) (take n es)
-    (Each-weaker (Passes (comes_before place)) (λ e. precedes key place e ≡ is_of_key key e) (λ e h. both-true (is_of_key key e) (comes_before place e) h) (take n es)
-    (front_passes (comes_before place) es n back is)) in
-    let rest : Each (Fails (precedes key place)) (reverse (drop n es)) =
-    Each-reverse (Fails (precedes key place)) (drop n es)
-    (Each-weaker (Fails (comes_before place)) (Fails (precedes key place)) (λ e h. both-false (is_of_key key e) (comes_before place e) h) (drop n es)
-    (rest_fails (comes_before place) es n back is)) in
-    let parted : find (precedes key place) (reverse es) ≡ find (precedes key place) (reverse (take n es)) =
-    ap (λ (all : List Entry). find (precedes key place) (reverse all)) (take-drop n es)
-    ∙ ap (find (precedes key place)) (reverse-append (take n es) (drop n es))
-    ∙ find-append (precedes key place) (reverse (drop n es)) (reverse (take n es))
-    ∙ ap (λ (o : Option Entry). option_or o (find (precedes key place) (reverse (take n es)))) (find-none (precedes key place) (reverse (drop n es)) rest) in
-    ap (option_map entry_place) (sym (parted ∙ find-agree (is_of_key key) (precedes key place) (reverse (take n es)) front))
 
 -- what is found first passes, is one of the list, and has to each that passes what each has to itself and to later ones
 find-first : {X : Type 0} (R S : X → X → Type 0) (q : X → Bool) → ((x : X) → S x x) → ((x y : X) → R x y → S x y) → (xs : List X) (e : X) → Pairwise R xs → find q xs ≡ Some e

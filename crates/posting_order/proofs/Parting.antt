@@ -1,9 +1,8 @@
 -- Lists in which all that pass a test come first: how many these are, and what stands before and after.
-use Rattle.std.proofs.Common.{◌≡◌, ℕ, zero, suc, ◌<◌, ◌≤◌, Bool, true, false, cond, List, [], ◌∷◌, length, get_or, take, drop, filter, reverse, Some, None, refl, sym, ap, ◌∙◌, subst, arith}
+use Rattle.std.proofs.Common.{◌≡◌, ℕ, zero, suc, ◌<◌, ◌≤◌, Bool, true, false, cond, List, [], ◌∷◌, length, get_or, take, filter, Some, None, refl, sym, ap, ◌∙◌, arith}
 use Rattle.std.specs.List.{find, All, AllWithin}
 use Rattle.std.proofs.lemmas.Bool.{false≢true}
-use Rattle.std.proofs.lemmas.List.{reverse-append}
-use Rattle.stock_model.proofs.Pairwise.{Precedes, Pairwise, Each, Each-append}
+use Rattle.stock_model.proofs.Pairwise.{Precedes, Pairwise, Each}
 
 module _ {X : Type 0} where
   -- the element passes the test
@@ -39,12 +38,6 @@ module _ {X : Type 0} where
   All-from_Each P (x ∷ xs) h zero d l = h.0
   All-from_Each P (x ∷ xs) h (suc k) d l = All-from_Each P xs h.1 k d (omega arith)
 
-  -- what each has each has in the reversed list
-  pub Each-reverse : (P : X → Type 0) (xs : List X) → Each P xs → Each P (reverse xs)
-  Each-reverse P [] h = tt
-  Each-reverse P (x ∷ xs) h =
-      subst (Each P) (sym (reverse-append (x ∷ []) xs)) (Each-append P (reverse xs) (x ∷ []) (Each-reverse P xs h.1) (h.0, tt))
-
   -- what does not fail passes
   pub passes_from_not_fails : (p : X → Bool) (x : X) → (p x ≡ false → ⊥) → p x ≡ true
   passes_from_not_fails p x never = by_cases (p x) never
@@ -65,11 +58,6 @@ module _ {X : Type 0} where
   pub filter-none : (p : X → Bool) (xs : List X) → Each (Fails p) xs → filter p xs ≡ []
   filter-none p [] h = refl
   filter-none p (x ∷ xs) h = rw h.0 (filter-none p xs h.1)
-
-  -- all are kept where each passes
-  pub filter-all : (p : X → Bool) (xs : List X) → Each (Passes p) xs → filter p xs ≡ xs
-  filter-all p [] h = refl
-  filter-all p (x ∷ xs) h = rw h.0 (ap (λ ys. x ∷ ys) (filter-all p xs h.1))
 
   -- nothing is found where each fails
   pub find-none : (p : X → Bool) (xs : List X) → Each (Fails p) xs → find p xs ≡ None
@@ -105,24 +93,6 @@ module _ {X : Type 0} where
       let more : suc n ≡ length (x ∷ filter p xs) = rw passes at some in
       (passes, omega (arith, more))
 
-  -- the first ones, as many as pass, pass
-  pub front_passes : (p : X → Bool) (xs : List X) (n : ℕ) → Pairwise (PassesBack p) xs → n ≡ length (filter p xs) → Each (Passes p) (take n xs)
-  front_passes p [] zero back is = tt
-  front_passes p [] (suc n) back is = tt
-  front_passes p (x ∷ xs) zero back is = tt
-  front_passes p (x ∷ xs) (suc n) back is =
-      let first = first_passes p x xs n back is in
-      (first.0, front_passes p xs n back.1 first.1)
-
-  -- the rest fail
-  pub rest_fails : (p : X → Bool) (xs : List X) (n : ℕ) → Pairwise (PassesBack p) xs → n ≡ length (filter p xs) → Each (Fails p) (drop n xs)
-  rest_fails p [] zero back is = tt
-  rest_fails p [] (suc n) back is = tt
-  rest_fails p (x ∷ xs) zero back is =
-      let fails = first_fails p x xs is in
-      (fails, Fails-along p x xs fails back.0)
-  rest_fails p (x ∷ xs) (suc n) back is = rest_fails p xs n back.1 (first_passes p x xs n back is).1
-
   -- the first ones, as many as pass, are those that pass
   pub take-passing : (p : X → Bool) (xs : List X) (n : ℕ) → Pairwise (PassesBack p) xs → n ≡ length (filter p xs) → take n xs ≡ filter p xs
   take-passing p [] zero back is = refl
@@ -151,8 +121,3 @@ module _ {X : Type 0} where
       let others : i ≡ length (filter p xs) =
       length-filter-parted p xs i (omega arith) (λ k d l m. front (suc k) d (omega arith) (omega arith)) (λ k d l m. rest (suc k) d (omega arith) (omega arith)) in
       rw passes (omega (arith, others))
-
-  -- the first that is found by two tests that agree
-  pub find-agree : (p q : X → Bool) (xs : List X) → Each (λ x. q x ≡ p x) xs → find q xs ≡ find p xs
-  find-agree p q [] h = refl
-  find-agree p q (x ∷ xs) h = rw (h.0, find-agree p q xs h.1) refl

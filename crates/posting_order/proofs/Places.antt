@@ -1,12 +1,13 @@
 -- The movement at a place, in posting order: where it stands, and what is put in and taken out there.
-use Rattle.std.proofs.Common.{◌≡◌, ℕ, zero, suc, ◌<◌, ◌≤◌, Bool, true, false, cond, not, List, [], ◌∷◌, length, get_or, slice_get, filter, remove, insert, Option, Some, None, IfSome, Bor, inl, inr, refl, sym, ap, ◌∙◌, subst, arith}
+use Rattle.std.proofs.Common.{◌≡◌, ℕ, zero, suc, ◌+◌, ◌<◌, ◌≤◌, Bool, true, false, cond, not, List, [], ◌∷◌, ◌++◌, length, get_or, slice_get, take, drop, filter, remove, insert, Option, Some, None, IfSome, inl, inr, refl, sym, ap, ◌∙◌, subst, arith}
 use Rattle.std.specs.List.{find}
-use Rattle.std.specs.Option.{option_copied}
 use Rattle.std.specs.List.Sorted.{IsPartitionedBy, IsPartitionPoint}
 use Rattle.std.proofs.lemmas.Bool.{false≢true, cases_lt}
 use Rattle.std.proofs.lemmas.Bool.Decides.{nat_tests}
-use Rattle.std.proofs.lemmas.List.{get_or_default}
-use Rattle.std.proofs.lemmas.Option.{slice_get-get_or}
+use Rattle.std.proofs.lemmas.List.{get_or_default, take_all, length-take, length-drop, length-append}
+use Rattle.std.proofs.lemmas.Option.{slice_get-get_or, slice_get_past, get_or_from_slice_get}
+use Rattle.block_list.specs.Bounds.{HasSides}
+use Rattle.block_list.proofs.Sides.{point-from_sides}
 use Rattle.stock_nums.specs.Places.{is_before}
 use Rattle.stock_nums.specs.declared.entry.Entry.{Entry}
 use Rattle.stock_nums.specs.declared.moment.Moment.{Moment}
@@ -100,7 +101,7 @@ not_at-before : (place : Place) (e : Entry) → comes_before place e ≡ true �
 not_at-before place e before = is_same_place-before e.place place before
 
 -- none after one at the place is at it
-not_at-later : (place : Place) (e f : Entry) → is_at place e ≡ true → IsBefore e f → is_at place f ≡ false
+pub not_at-later : (place : Place) (e f : Entry) → is_at place e ≡ true → IsBefore e f → is_at place f ≡ false
 not_at-later place e f at before =
     is_same_place-after f.place place (subst (λ (p : Place). is_before p f.place ≡ true) (is_same_place-true e.place place at) before)
 
@@ -110,7 +111,7 @@ not_at-beyond place e f after before =
     is_same_place-after f.place place (is_before-transitive place e.place f.place after before)
 
 -- those that are not at a place are kept without it
-kept_apart : (place : Place) (es : List Entry) → Each (Fails (is_at place)) es → without es place ≡ es
+pub kept_apart : (place : Place) (es : List Entry) → Each (Fails (is_at place)) es → without es place ≡ es
 kept_apart place [] h = refl
 kept_apart place (e ∷ es) h = rw h.0 (ap (λ fs. e ∷ fs) (kept_apart place es h.1))
 
@@ -197,34 +198,62 @@ entry_at-place (f ∷ fs) place e found = by_cases (is_at place f) refl (entry_a
     by_cases true is rest h = let same : f ≡ e = cc in ap (λ (g : Entry). g.place) (sym same) ∙ is_same_place-true f.place place is
     by_cases false is rest h = rest h
 
--- what is read at the index of a place stands there
-pub entry_at-borrowed : (es : List Entry) (place : Place) (n : ℕ) (r : Option (Bor Entry)) → n < length es → entry_at es place ≡ slice_get es n → IfSome r (λ x. x.now ≡ get_or es n x.now)
-    → IfSome (option_copied r) (λ e. e.place ≡ place)
-entry_at-borrowed es place n None within found read = tt
-entry_at-borrowed es place n (Some x) within found read =
-    entry_at-place es place x.now (found ∙ slice_get-get_or es n x.now within ∙ ap (λ (e : Entry). Some e) (sym read))
+-- what is told of a place stands there
+pub entry_at-told : (es : List Entry) (place : Place) (o : Option Entry) → o ≡ entry_at es place → IfSome o (λ e. e.place ≡ place)
+entry_at-told es place None is = tt
+entry_at-told es place (Some e) is = entry_at-place es place e (sym is)
+
+-- what is read at an index is in the list
+read-within : (es : List Entry) (n : ℕ) (e : Entry) → slice_get es n ≡ Some e → (n < length es) × (e ≡ get_or es n e)
+read-within es n e read =
+    elim (cases_lt n (length es)) [
+      | inl within ↦ (within, sym (get_or_from_slice_get es n e e read))
+      | inr past ↦ let none : Some e ≡ None = sym read ∙ slice_get_past es n past in cc
+    ]
 
 -- the movement that was read at the index, where it is at the place
-pub entry_at-read : (es : List Entry) (place : Place) (n : ℕ) (e : Entry) → IsInPostingOrder es → n ≡ length (filter (comes_before place) es) → n < length es → e ≡ get_or es n e → is_at place e ≡ true
-    → (entry_at es place ≡ slice_get es n) × (without es place ≡ remove es n)
-entry_at-read es place n e order is within read at =
-    entry_at-present es place n e (Pairwise-from_AllPairs IsBefore es order) is within (subst (λ (f : Entry). is_at place f ≡ true) read at)
+pub entry_at-read : (es : List Entry) (place : Place) (n : ℕ) (e : Entry) → IsInPostingOrder es → n ≡ length (filter (comes_before place) es) → slice_get es n ≡ Some e → is_at place e ≡ true
+    → (n < length es) × (entry_at es place ≡ slice_get es n) × (without es place ≡ remove es n)
+entry_at-read es place n e order is read at =
+    let within = read-within es n e read in
+    let there = entry_at-present es place n e (Pairwise-from_AllPairs IsBefore es order) is within.0 (subst (λ (f : Entry). is_at place f ≡ true) within.1 at) in
+    (within.0, there.0, there.1)
 
 -- the movement that was read is not at the place
-pub entry_at-other : (es : List Entry) (place : Place) (n : ℕ) (e : Entry) → IsInPostingOrder es → n ≡ length (filter (comes_before place) es) → e ≡ get_or es n e → is_at place e ≡ false
+pub entry_at-other : (es : List Entry) (place : Place) (n : ℕ) (e : Entry) → IsInPostingOrder es → n ≡ length (filter (comes_before place) es) → slice_get es n ≡ Some e → is_at place e ≡ false
     → (entry_at es place ≡ None) × (without es place ≡ es)
 entry_at-other es place n e order is read other =
     entry_at-absent es place n (Pairwise-from_AllPairs IsBefore es order) is
-    (λ within d. subst (λ (f : Entry). is_at place f ≡ false) (read ∙ get_or_default es n e d within) other)
+    (λ within d. subst (λ (f : Entry). is_at place f ≡ false) ((read-within es n e read).1 ∙ get_or_default es n e d within) other)
 
 -- none was left to read
-pub entry_at-end : (es : List Entry) (place : Place) (n : ℕ) → IsInPostingOrder es → n ≡ length (filter (comes_before place) es) → length es ≤ n
+pub entry_at-end : (es : List Entry) (place : Place) (n : ℕ) → IsInPostingOrder es → n ≡ length (filter (comes_before place) es) → slice_get es n ≡ None
     → (entry_at es place ≡ None) × (without es place ≡ es)
-entry_at-end es place n order is end =
-    entry_at-absent es place n (Pairwise-from_AllPairs IsBefore es order) is (λ within d. absurd (omega (arith, within, end)))
+entry_at-end es place n order is past =
+    entry_at-absent es place n (Pairwise-from_AllPairs IsBefore es order) is
+    (λ within d. let some : Some (get_or es n d) ≡ None = sym (slice_get-get_or es n d within) ∙ past in cc)
 
--- what an insert that succeeds makes
-pub put-insert : (es new : List Entry) (e : Entry) (n : ℕ) (ok : Bool) → IsInPostingOrder es → n ≡ length (filter (λ f. not (comes_after e.place f)) es) → ok ≡ true → new ≡ cond ok (insert es n e) es → new ≡ put es e
-put-insert es new e n ok order is went made =
-    let made_so : new ≡ insert es n e = rw went at made in
-    made_so ∙ sym (put-at es e n (Pairwise-from_AllPairs IsBefore es order) is)
+-- what a movement put in before a bound makes
+pub put-sides : (es new : List Entry) (e : Entry) → IsInPostingOrder es → (at : ℕ) × HasSides (λ f. not (comes_after e.place f)) es at × (new ≡ insert es at e) → new ≡ put es e
+put-sides es new e order (at, sides, made) =
+    let test : Entry → Bool = λ f. not (comes_after e.place f) in
+    let parted = IsPartitionedBy-HoldsBack test (not_after-back e.place) es order in
+    let count = length-filter-point test es at sides.within (point-from_sides test es at parted sides) in
+    made ∙ sym (put-at es e at (Pairwise-from_AllPairs IsBefore es order) count)
+
+-- the first ones and some more
+take-more : (n m : ℕ) (es : List Entry) → take n es ++ take m (drop n es) ≡ take (n + m) es
+take-more zero m es = let all : m ≡ 0 + m = omega arith in ap (λ k. take k es) all
+take-more (suc n) m [] = take_all m [] (omega arith) ∙ sym (take_all (suc n + m) [] (omega arith))
+take-more (suc n) m (e ∷ es) =
+    let on : suc (n + m) ≡ suc n + m = omega arith in
+    ap (λ fs. e ∷ fs) (take-more n m es) ∙ ap (λ k. take k (e ∷ es)) on
+
+-- the first ones with those that stand beside them are the first ones
+pub copied-more : (es all run new : List Entry) → all ≡ take (length all) es → length all < length es → run ≡ take (length run) (drop (length all) es) → new ≡ all ++ run
+    → (new ≡ take (length new) es) × (length new ≤ length es)
+copied-more es all run new copied left beside made =
+    let count : length new ≡ length all + length run = ap length made ∙ length-append all run in
+    let some : length run ≤ length (drop (length all) es) = omega (arith, ap length beside, length-take (length run) (drop (length all) es)) in
+    let whole : all ++ run ≡ take (length all + length run) es = ap (λ xs. xs ++ run) copied ∙ ap (λ xs. take (length all) es ++ xs) beside ∙ take-more (length all) (length run) es in
+    (made ∙ whole ∙ ap (λ k. take k es) (sym count), omega (arith, count, some, length-drop (length all) es, left))

@@ -4,3 +4,4 @@ pub mod Changes
 pub mod KeyOrderState
 pub mod KeyOrders
 pub mod KeyBounds
+pub mod KeyLines

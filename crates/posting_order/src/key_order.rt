@@ -81,6 +81,7 @@ impl KeyOrder {
         requires room { 0 < self.old.spare }
         requires few { length self.old.changes < 2 ^ 20 }
         requires apart { HasNoneAt self.old.changes change.key change.place }
+        ensures in_order { AreInKeyOrder self.old.changes }
         ensures put { self.new.changes ≡ put_change self.old.changes change }
         ensures room { self.old.spare ≤ self.new.spare + 1 }
     {

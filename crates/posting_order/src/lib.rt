@@ -2,6 +2,7 @@
 #![tactic(auto)]
 
 pub mod change;
+mod entry_line;
 mod key_bounds;
 mod key_order;
 mod sending;

@@ -1,37 +1,40 @@
 //! The movements of a book in posting order, and what is found in them.
-ghost use Rattle.std.specs.Prelude.{◌≡◌, ◌+◌, ◌<◌, ◌≤◌, [], length, take, slice_get, filter, not, reverse, remove, None, MatchOption, OnOk, IfSome, IfNone};
-ghost use Rattle.std.specs.List.{find};
-ghost use Rattle.std.specs.Option.{option_copied, option_map};
-ghost use Rattle.stock_nums.specs.Places.{is_later};
-ghost use Rattle.stock_model.specs.Enough.{is_of_key};
+ghost use Rattle.std.specs.Prelude.{◌≡◌, ◌+◌, ◌<◌, ◌≤◌, ◌^◌, [], length, take, drop, filter, unsigned_abs, None, OnOk, IfOk, IfSome, IfNone};
+ghost use Rattle.std.specs.Option.{option_copied};
 ghost use Rattle.stock_model.specs.InOrder.{IsInPostingOrder};
 ghost use Rattle.stock_model.specs.PostingOrder.{put};
-ghost use Rattle.posting_order.specs.Timelines.{is_at, entry_at, without, comes_before, comes_after, entry_place, next_place, previous_place, IsNextPlace, IsPreviousPlace, HasNoneAfter, HasNoneBefore, is_until, count_until};
+ghost use Rattle.posting_order.specs.Changes.{changes_of, rank_of, held_before, first_lack};
+ghost use Rattle.posting_order.specs.Timelines.{entry_at, without, next_place, previous_place, IsNextPlace, IsPreviousPlace, HasNoneAfter, HasNoneBefore, is_until, count_until};
 
+use crate::change::{Change, Lack};
+use crate::entry_line::EntryLine;
+use crate::key_order::KeyOrder;
 use std::alloc::Global;
 use std::marker::Model;
 use stock_nums::entry::{Entry, Key};
+use stock_nums::lines::Lines;
 use stock_nums::memory::NoMemory;
 use stock_nums::moment::Moment;
 use stock_nums::place::Place;
 
-/// Movements in posting order, at most one at a place. Contracts see the list of them, and how many more
+/// At most 2^20 movements in posting order, at most one at a place. Contracts see the list of them, and how many more
 /// fit without memory.
 #[derive(Drop)]
 pub struct Timeline {
-    entries: Vec<Entry>,
+    line: EntryLine,
+    keys: KeyOrder,
 }
 
 impl Model for Timeline {
-    ghost use Rattle.std.specs.Prelude.{◌-◌, vec_len, vec_capacity};
-    ghost use Rattle.stock_model.specs.InOrder.{IsInPostingOrder};
+    ghost use Rattle.std.specs.Prelude.{min};
+    ghost use Rattle.posting_order.specs.KeyLines.{ArePaired};
     ghost use Rattle.posting_order.specs.State.{TimelineState};
 
     ghost Value = { TimelineState };
 
-    ghost view = { λ timeline. record { entries = timeline.entries.items; spare = vec_capacity timeline.entries - vec_len timeline.entries } };
+    ghost view = { λ timeline. record { entries = timeline.line.entries; spare = min timeline.line.spare timeline.keys.spare } };
 
-    ghost invariant = { λ timeline. IsInPostingOrder timeline.entries.items };
+    ghost invariant = { λ timeline. ArePaired timeline.line.entries timeline.keys.changes };
 }
 
 impl Timeline {
@@ -40,7 +43,8 @@ impl Timeline {
         ensures { result.entries ≡ [] }
     {
         Timeline {
-            entries: Vec::new(alloc),
+            line: EntryLine::new(alloc),
+            keys: KeyOrder::new(alloc),
         }
     }
 
@@ -50,20 +54,44 @@ impl Timeline {
         ensures unchanged { self.new.entries ≡ self.old.entries }
         ensures room_stays { self.old.spare ≤ self.new.spare }
     {
-        self.entries.reserve(n)?;
-        Ok(())
+        self.line.reserve(n)?;
+        self.keys.reserve(n)
+    }
+
+    /// How many movements there are.
+    pub fn len(&self) -> usize
+        ensures { result ≡ length self.now.entries }
+    {
+        self.line.len()
+    }
+
+    /// The movements from an index on that stand side by side: to walk over all, go on after them.
+    pub fn run_from(&self, index: usize) -> &[Entry]
+        requires { index < length self.now.entries }
+        ensures some { 0 < length result.now }
+        ensures entries { result.now ≡ take (length result.now) (drop index self.now.entries) }
+    {
+        self.line.run_from(index)
+    }
+
+    /// A copy of the movements in posting order.
+    pub fn to_lines(&self, alloc: Global) -> Result<Lines<Entry>, NoMemory>
+        ensures entries { IfOk result (λ all. all ≡ self.now.entries) }
+        ensures in_order { IsInPostingOrder self.now.entries }
+    {
+        self.line.to_lines(alloc)
     }
 
     /// Puts a movement in, at a place where there is none. It takes no memory.
     pub fn insert(&mut self, entry: Entry)
         requires room { 0 < self.old.spare }
+        requires few { length self.old.entries < 2 ^ 20 }
         requires apart { entry_at self.old.entries entry.place ≡ None }
         ensures put { self.new.entries ≡ put self.old.entries entry }
         ensures room { self.old.spare ≤ self.new.spare + 1 }
     {
-        let index = count_not_after(&self.entries, &entry.place);
-        // There is room, so it does not fail.
-        let _ = self.entries.insert(index, entry);
+        self.keys.insert(Change::of(&entry));
+        self.line.insert(entry);
     }
 
     /// Takes the movement at this place out, if there is one. No room is lost. It takes no memory.
@@ -72,8 +100,11 @@ impl Timeline {
         ensures rest { self.new.entries ≡ without self.old.entries place.now }
         ensures room { self.old.spare ≤ self.new.spare }
     {
-        let index = index_of(&self.entries, place)?;
-        Some(self.entries.remove(index))
+        let taken = self.line.remove(place);
+        if let Some(entry) = taken {
+            self.keys.remove(Change::of(&entry).key, place);
+        }
+        taken
     }
 
     /// The movement at this place. None exactly where there is none. It takes no memory.
@@ -81,8 +112,7 @@ impl Timeline {
         ensures found { option_copied result ≡ entry_at self.now.entries place.now }
         ensures place { IfSome (option_copied result) (λ e. e.place ≡ place.now) }
     {
-        let index = index_of(&self.entries, place)?;
-        self.entries.get(index)
+        self.line.get(place)
     }
 
     /// The place of the first movement of this item in this warehouse that comes after the place. None
@@ -92,8 +122,7 @@ impl Timeline {
         ensures next { IfSome result (IsNextPlace self.now.entries key place.now) }
         ensures last { IfNone result (HasNoneAfter self.now.entries key place.now) }
     {
-        let start = count_not_after(&self.entries, place);
-        first_of_key(&self.entries[start..], &key)
+        self.keys.next(key, place)
     }
 
     /// The place of the last movement of this item in this warehouse that comes before the place. None
@@ -103,8 +132,31 @@ impl Timeline {
         ensures previous { IfSome result (IsPreviousPlace self.now.entries key place.now) }
         ensures first { IfNone result (HasNoneBefore self.now.entries key place.now) }
     {
-        let end = count_before(&self.entries, place);
-        last_of_key(&self.entries[..end], &key)
+        self.keys.previous(key, place)
+    }
+
+    /// How many movements of this item in this warehouse come before the place. It takes no memory.
+    pub fn rank_of_key(&self, key: Key, place: &Place) -> usize
+        ensures { result ≡ rank_of (changes_of self.now.entries) key place.now }
+    {
+        self.keys.rank(key, place)
+    }
+
+    /// How many units of this item this warehouse holds just before the place. It takes no memory.
+    pub fn held_before(&self, key: Key, place: &Place) -> i64
+        ensures value { result ≡ held_before (changes_of self.now.entries) key place.now }
+        ensures bound { unsigned_abs result ≤ 2 ^ 53 }
+    {
+        self.keys.held_before(key, place)
+    }
+
+    /// The first movement of this item in this warehouse, after a place and before an end, with which units would be lacking
+    /// if so many more were held. It takes no memory.
+    pub fn first_lack(&self, key: Key, from: &Place, end: Option<Place>, more: i64) -> Option<Lack>
+        requires bound { unsigned_abs more ≤ 2 ^ 53 }
+        ensures { result ≡ first_lack (changes_of self.now.entries) key from.now end more }
+    {
+        self.keys.first_lack(key, from, end, more)
     }
 
     /// How many movements have a moment that is not after this one. They are the first ones. It takes no
@@ -113,91 +165,8 @@ impl Timeline {
         ensures count { result ≡ count_until self.now.entries moment }
         ensures first_ones { take result self.now.entries ≡ filter (is_until moment) self.now.entries }
     {
-        self.entries
-            .partition_point(|entry| !is_later(entry.place.moment, moment))
+        self.line.until(moment)
     }
-
-    /// The movements in posting order.
-    pub fn entries(&self) -> &[Entry]
-        ensures entries { result.now ≡ self.now.entries }
-        ensures in_order { IsInPostingOrder self.now.entries }
-    {
-        self.entries.as_slice()
-    }
-}
-
-// How many movements come before the place.
-fn count_before(entries: &[Entry], place: &Place) -> usize
-    requires { IsInPostingOrder entries.now }
-    ensures count { result ≡ length (filter (comes_before place.now) entries.now) }
-    ensures within { result ≤ length entries.now }
-{
-    entries.partition_point(|entry| entry.place.is_before(place))
-}
-
-// How many movements do not come after the place.
-fn count_not_after(entries: &[Entry], place: &Place) -> usize
-    requires { IsInPostingOrder entries.now }
-    ensures count { result ≡ length (filter (λ e. not (comes_after place.now e)) entries.now) }
-    ensures within { result ≤ length entries.now }
-{
-    entries.partition_point(|entry| !place.is_before(&entry.place))
-}
-
-// Where the movement at the place stands, or None where there is none.
-fn index_of(entries: &[Entry], place: &Place) -> Option<usize>
-    requires { IsInPostingOrder entries.now }
-    ensures found { MatchOption result (entry_at entries.now place.now ≡ None) (λ index. (index < length entries.now) × (entry_at entries.now place.now ≡ slice_get entries.now index)) }
-    ensures rest { MatchOption result (without entries.now place.now ≡ entries.now) (λ index. without entries.now place.now ≡ remove entries.now index) }
-{
-    let index = count_before(entries, place);
-    if index < entries.len() && is_at(&entries[index], place) {
-        Some(index)
-    } else {
-        None
-    }
-}
-
-// Whether the movement stands at the place.
-fn is_at(entry: &Entry, place: &Place) -> bool
-    ensures { result ≡ is_at place.now entry.now }
-{
-    entry.place == *place
-}
-
-// The place of the first movement of the key.
-fn first_of_key(entries: &[Entry], key: &Key) -> Option<Place>
-    ensures { result ≡ option_map entry_place (find (is_of_key key.now) entries.now) }
-{
-    entries
-        .iter()
-        .find(|entry| is_of_key(entry, key))
-        .map(|entry| entry.place)
-}
-
-// The place of the last movement of the key.
-fn last_of_key(entries: &[Entry], key: &Key) -> Option<Place>
-    ensures { result ≡ option_map entry_place (find (is_of_key key.now) (reverse entries.now)) }
-{
-    entries
-        .iter()
-        .rev()
-        .find(|entry| is_of_key(entry, key))
-        .map(|entry| entry.place)
-}
-
-// Whether the movement is of this item in this warehouse.
-fn is_of_key(entry: &Entry, key: &Key) -> bool
-    ensures { result ≡ is_of_key key.now entry.now }
-{
-    entry.item == key.item && entry.store == key.store
-}
-
-// Whether the first moment is after the second.
-fn is_later(a: Moment, b: Moment) -> bool
-    ensures { result ≡ is_later a b }
-{
-    a > b
 }
 
 #[cfg(test)]
@@ -243,7 +212,7 @@ mod tests {
     // Puts a movement in where its place is free.
     fn put_in(timeline: &mut Timeline, entry: Entry) -> Result<(), NoMemory> {
         timeline.reserve(1)?;
-        if timeline.get(&entry.place).is_none() {
+        if timeline.len() < 100 && timeline.get(&entry.place).is_none() {
             timeline.insert(entry);
         }
         Ok(())
@@ -282,7 +251,30 @@ mod tests {
         assert!(rt; timeline.remove(&place(12, 4)).is_none());
         assert!(rt; timeline.remove(&place(12, 6)) == Some(unit(12, 6, 4)));
         let left = [unit(9, 8, 1), unit(12, 5, 1), unit(12, 7, 1)];
-        assert!(rt; timeline.entries() == left.as_slice());
+        let all = timeline.to_lines(rt.alloc())?;
+        assert!(rt; all.as_slice() == left.as_slice());
+        Ok(())
+    }
+
+    #[test]
+    fn tells_what_is_held(rt: HostRuntime) -> Result<(), Fail> {
+        let mut timeline = Timeline::new(rt.alloc());
+        put_in(&mut timeline, unit(12, 5, 1))?;
+        put_in(&mut timeline, unit(9, 8, 1))?;
+        let key = Key {
+            item: ItemNo(1),
+            store: StoreNo(2),
+        };
+        let lack = Lack {
+            place: place(9, 8),
+            lacking: Qty(1),
+        };
+        assert!(rt; timeline.first_lack(key, &place(9, 1), None, -2) == Some(lack));
+        assert_eq!(rt; timeline.held_before(key, &place(12, 7)), 2);
+        assert_eq!(rt; timeline.rank_of_key(key, &place(12, 7)), 2);
+        if timeline.len() == 2 {
+            assert!(rt; timeline.run_from(1) == [unit(12, 5, 1)].as_slice());
+        }
         Ok(())
     }
 }

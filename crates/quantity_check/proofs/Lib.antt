@@ -1,6 +1,5 @@
 pub mod FirstShorts
 pub mod HeldSums
-pub mod HoldingLemmas
 pub mod Members
 pub mod OwnPlaceLemmas
 pub mod PlaceSteps

@@ -2,10 +2,6 @@
 #![tactic(auto)]
 
 mod changes;
-mod held_line;
-pub mod holdings;
 pub mod running;
 mod sending;
-#[cfg(test)]
-mod shortage_tests;
 mod stretches;

@@ -7,8 +7,8 @@ ghost use Rattle.quantity_check.specs.OwnPlaces.{HaveOwnPlaces};
 ghost use Rattle.quantity_check.specs.Stretches.{units_more, shortage_with_held, shortage_by_lack, shortage_after, shortage_in_stretch, earlier};
 
 use crate::changes::{held_with, nearest_after};
-use crate::held_line::HeldLine;
 use posting_order::change::Lack;
+use posting_order::timeline::Timeline;
 use stock_model::shortages::{Shortage, entry_key};
 use stock_nums::entry::{Entry, Key};
 use stock_nums::numbers::Qty;
@@ -56,15 +56,10 @@ fn earlier(first: Option<Shortage>, second: Option<Shortage>) -> Option<Shortage
 
 // The first shortage of the line after the new movement and before the next new one of its item in its warehouse, where so many
 // units more are held.
-fn shortage_after<L: HeldLine>(
-    line: &L,
-    entries: &[Entry],
-    entry: &Entry,
-    more: i64,
-) -> Option<Shortage>
+fn shortage_after(line: &Timeline, entries: &[Entry], entry: &Entry, more: i64) -> Option<Shortage>
     requires more { more ≡ units_more entries.now entry.now }
     requires bound { unsigned_abs more ≤ 2 ^ 53 }
-    ensures { result ≡ shortage_after (L.entries line.now) entries.now entry.now }
+    ensures { result ≡ shortage_after line.now.entries entries.now entry.now }
 {
     let key = entry_key(entry);
     let end = nearest_after(entries, &key, &entry.place);
@@ -75,9 +70,9 @@ fn shortage_after<L: HeldLine>(
 }
 
 // The first shortage from the new movement on, and before the next new one of its item in its warehouse.
-fn shortage_in_stretch<L: HeldLine>(line: &L, entries: &[Entry], entry: &Entry) -> Option<Shortage>
+fn shortage_in_stretch(line: &Timeline, entries: &[Entry], entry: &Entry) -> Option<Shortage>
     requires { length entries.now ≤ 2 ^ 20 }
-    ensures { result ≡ shortage_in_stretch (L.entries line.now) entries.now entry.now }
+    ensures { result ≡ shortage_in_stretch line.now.entries entries.now entry.now }
 {
     let key = entry_key(entry);
     let more = held_with(entries, &key, &entry.place);
@@ -91,33 +86,16 @@ fn shortage_in_stretch<L: HeldLine>(line: &L, entries: &[Entry], entry: &Entry) 
 
 /// The first movement that takes more than there is, once the new ones are put into the line, where there is enough without them.
 /// The new ones have places of their own. It takes no memory.
-pub(crate) fn first_shortage<L: HeldLine>(line: &L, entries: &[Entry]) -> Option<Shortage>
-    requires in_order { IsInPostingOrder (L.entries line.now) }
-    requires enough { IsEnough (L.entries line.now) }
-    requires apart { HaveOwnPlaces (L.entries line.now ++ entries.now) }
-    requires few { length (L.entries line.now) + length entries.now ≤ 2 ^ 20 }
-    ensures { result ≡ shortage (put_all (L.entries line.now) entries.now) }
+pub(crate) fn first_shortage(line: &Timeline, entries: &[Entry]) -> Option<Shortage>
+    requires in_order { IsInPostingOrder line.now.entries }
+    requires enough { IsEnough line.now.entries }
+    requires apart { HaveOwnPlaces (line.now.entries ++ entries.now) }
+    requires few { length line.now.entries + length entries.now ≤ 2 ^ 20 }
+    ensures { result ≡ shortage (put_all line.now.entries entries.now) }
 {
     let mut first = None;
     for entry in entries {
         first = earlier(first, shortage_in_stretch(line, entries, entry));
     }
     first
-}
-
-/// Whether there is enough at all moments with these movements put among those of the line, or the first of all that takes more
-/// than there is. It changes nothing, and takes no memory.
-pub(crate) fn try_entries<L: HeldLine>(line: &L, entries: &[Entry]) -> Result<(), Shortage>
-    requires in_order { IsInPostingOrder (L.entries line.now) }
-    requires enough { IsEnough (L.entries line.now) }
-    requires apart { HaveOwnPlaces (L.entries line.now ++ entries.now) }
-    requires few { length (L.entries line.now) + length entries.now ≤ 2 ^ 20 }
-    ensures none_short { OnOk result (shortage (put_all (L.entries line.now) entries.now) ≡ None) }
-    ensures enough { OnOk result (IsEnough (put_all (L.entries line.now) entries.now)) }
-    ensures short { IfErr result (λ s. shortage (put_all (L.entries line.now) entries.now) ≡ Some s) }
-{
-    match first_shortage(line, entries) {
-        None => Ok(()),
-        Some(shortage) => Err(shortage),
-    }
 }

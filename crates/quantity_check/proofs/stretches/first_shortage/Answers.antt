@@ -6,7 +6,7 @@ use Rattle.quantity_check.proofs.StretchLemmas.{first_of_stretches-shortage}
 use Rattle.quantity_check.proofs.stretches.first_shortage.Goals as goal
 
 pub returns : goal.returns
-returns g c =
-    let all = first_of_stretches-shortage (g.L.HeldLine.entries c.args.line.now) c.args.entries.now c.requires.in_order c.requires.enough c.requires.apart in
+returns c =
+    let all = first_of_stretches-shortage c.args.line.now.entries c.args.entries.now c.requires.in_order c.requires.enough c.requires.apart in
     let none = drop_all c.loop-entry.entry-index c.args.entries.now c.loop-entry-test.false in
-    sym (ap (λ (es : List Entry). first_of_stretches c.loop-entry.first (g.L.HeldLine.entries c.args.line.now) c.args.entries.now es) none) ∙ c.loop-entry.invariant ∙ all
+    sym (ap (λ (es : List Entry). first_of_stretches c.loop-entry.first c.args.line.now.entries c.args.entries.now es) none) ∙ c.loop-entry.invariant ∙ all

@@ -4,5 +4,5 @@ use Rattle.quantity_check.specs.Stretches.{first_of_stretches}
 use Rattle.quantity_check.proofs.stretches.first_shortage.Given as goal
 
 abbrev pub invariant-loop-entry : goal.invariant-loop-entry
-invariant-loop-entry g l =
-    first_of_stretches l.first (g.L.HeldLine.entries l.line) l.entries (drop l.entry-index l.entries) ≡ first_of_stretches None (g.L.HeldLine.entries l.line) l.entries l.entries
+invariant-loop-entry l =
+    first_of_stretches l.first l.line.entries l.entries (drop l.entry-index l.entries) ≡ first_of_stretches None l.line.entries l.entries l.entries

@@ -1,6 +1,5 @@
 -- The faults in their order, and the movements where there is none.
 use Rattle.std.proofs.Common.{◌≡◌, List, [], ◌∷◌, ◌++◌, length, Some, None, inl, inr, sym, ap, ◌∙◌, subst, arith}
-use Rattle.std.specs.Option.{option_map}
 use Rattle.stock_nums.specs.declared.entry.Entry.{Entry}
 use Rattle.stock_model.specs.declared.records.Record.{Record}
 use Rattle.stock_model.specs.Enough.{shortage}
@@ -8,12 +7,10 @@ use Rattle.stock_model.specs.Entries.{entries}
 use Rattle.stock_model.specs.Faults.{fault_but_short}
 use Rattle.stock_model.specs.PostingOrder.{posting_line}
 use Rattle.stock_model.proofs.Growth.{length-posting_line}
-use Rattle.quantity_check.specs.Shorts.{short_of as lacks_of}
 use Rattle.generation_book.specs.State.{BookState}
 use Rattle.generation_book.specs.Book.{deeds}
-use Rattle.generation_book.specs.Shorts.{fault_of}
 use Rattle.stock_laws.proofs.Legality.{room-from}
-use Rattle.generation_book.proofs.Books.{history-records, fault-at_once, fault-lacks, fault-none, put_all-entries, entries-own_places}
+use Rattle.generation_book.proofs.Books.{history-records, fault-at_once, fault-short, fault-none, put_all-entries, entries-own_places}
 use Rattle.generation_book.proofs.book.Book.new_entries.Goals as goal
 
 pub returns-in-Some-clause-fault : goal.returns-in-Some-clause-fault
@@ -57,11 +54,5 @@ returns-in-Err-clause-fault c =
     let none : fault_but_short c.self.inside.journal c.args.item.now ≡ None =
     subst (λ (journal : List Record). fault_but_short journal c.args.item.now ≡ None) records none_told in
     let all = put_all-entries c.self.inside.journal c.args.item.now c.self.inside.movements.entries c.as_slice.result.now c.self.invariant.posted (c.as_slice.ensures ∙ c.in-Ok.ensures) in
-    elim c.in-Err.ensures.short [
-      | inl memory ↦ inl (c.fault_of.ensures ∙ ap fault_of memory, none_told)
-      | inr lacks ↦
-          inr
-          (rw (records, c.fault_of.ensures)
-          (fault-lacks c.self.inside.journal c.args.item.now c.in-Err.short none
-          (subst (λ (es : List Entry). option_map lacks_of (shortage es) ≡ Some c.in-Err.short) all lacks)))
-    ]
+    let lacks = subst (λ (es : List Entry). shortage es ≡ Some c.in-Err.shortage) all c.in-Err.ensures.short in
+    inr (rw (records, c.fault_of.ensures) (fault-short c.self.inside.journal c.args.item.now c.in-Err.shortage none lacks))

@@ -5,6 +5,7 @@ use Rattle.stock_model.specs.Faults.{fault}
 use Rattle.stock_model.specs.History as history
 use Rattle.stock_model.specs.Entries.{entries}
 use Rattle.stock_model.specs.PostingOrder.{posting_line}
+use Rattle.stock_model.proofs.Growth.{length-posting_line}
 use Rattle.stock_laws.proofs.Histories.{records-append}
 use Rattle.generation_book.specs.State.{BookState}
 use Rattle.generation_book.specs.Book.{deeds}
@@ -36,6 +37,15 @@ add-requires-clause-apart c =
     let new : c.as_slice.result.now ≡ entries c.self.inside.journal c.args.item = c.as_slice.ensures ∙ c.in-Ok.ensures.entries ∙ ap (λ (records : List Record). entries records c.args.item) held in
     let line : c.reserve-2.new.self.entries ≡ posting_line c.self.inside.journal = c.reserve-2.ensures.unchanged ∙ c.self.invariant.posted in
     entries-own_places c.self.inside.journal c.args.item c.reserve-2.new.self.entries c.as_slice.result.now line new
+
+pub add-requires-clause-few : goal.add-requires-clause-few
+add-requires-clause-few c =
+    let told : deeds c.self.inside.events.items c.self.inside.journal ≡ c.args.self.now.history = ap (λ (b : BookState). b.history) c.self.view_is in
+    let held = history-records _ _ _ _ _ c.args.self.now.history c.self.invariant told in
+    let none : fault c.self.inside.journal c.args.item ≡ None = subst (λ (records : List Record). fault records c.args.item ≡ None) held c.in-Ok.ensures.sound in
+    let new : c.as_slice.result.now ≡ entries c.self.inside.journal c.args.item = c.as_slice.ensures ∙ c.in-Ok.ensures.entries ∙ ap (λ (records : List Record). entries records c.args.item) held in
+    let line : c.reserve-2.new.self.entries ≡ posting_line c.self.inside.journal = c.reserve-2.ensures.unchanged ∙ c.self.invariant.posted in
+    omega (arith, (NoFault-from c.self.inside.journal c.args.item none).few, ap length line, length-posting_line c.self.inside.journal, ap length new)
 
 pub add-requires-clause-enough : goal.add-requires-clause-enough
 add-requires-clause-enough c =

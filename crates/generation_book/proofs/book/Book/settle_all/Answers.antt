@@ -17,12 +17,19 @@ on_err : {X E : Type 0} {P : Type 0} (r : Result X E) → P → OnErr r P
 on_err (Ok x) p = tt
 on_err (Err e) p = p
 
+pub returns-in_err-line-clause-memory : goal.returns-in_err-line-clause-memory
+returns-in_err-line-clause-memory c =
+    let told : deeds c.self.inside.events.items c.self.inside.journal ≡ c.args.self.now.history = ap (λ (b : BookState). b.history) c.self.view_is in
+    let all = history-accepted _ _ _ _ _ c.args.self.now.history c.self.invariant told in
+    let covers = history-covered _ _ _ _ _ c.args.self.now.history c.self.invariant told in
+    on_err c.from_residual.result (omega (arith, all, covers, c.count.ensures.count))
+
 pub returns-in_err-rows-clause-memory : goal.returns-in_err-rows-clause-memory
 returns-in_err-rows-clause-memory c =
     let told : deeds c.self.inside.events.items c.self.inside.journal ≡ c.args.self.now.history = ap (λ (b : BookState). b.history) c.self.view_is in
     let all = history-accepted _ _ _ _ _ c.args.self.now.history c.self.invariant told in
     let covers = history-covered _ _ _ _ _ c.args.self.now.history c.self.invariant told in
-    on_err c.from_residual.result (omega (arith, all, covers, c.count.ensures.count))
+    on_err c.from_residual-in_err-rows.result (omega (arith, all, covers, c.count.ensures.count))
 
 pub returns-in_err-reserve-clause-memory : goal.returns-in_err-reserve-clause-memory
 returns-in_err-reserve-clause-memory c =
@@ -48,7 +55,7 @@ rows_of-requires-clause-legal c = subst AreLegal (sym c.records-records.ensures.
 
 pub rows_of-requires-clause-line : goal.rows_of-requires-clause-line
 rows_of-requires-clause-line c =
-    c.entries.ensures.entries ∙ c.timeline.ensures.entries ∙ c.self.invariant.posted ∙ ap posting_line (sym c.records-records.ensures.records)
+    c.as_slice.ensures ∙ c.in_ok-line.ensures.entries ∙ c.timeline.ensures.entries ∙ c.self.invariant.posted ∙ ap posting_line (sym c.records-records.ensures.records)
 
 pub invariant_of-self-2 : goal.invariant_of-self-2
 invariant_of-self-2 c =

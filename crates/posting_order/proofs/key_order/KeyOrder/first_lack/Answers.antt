@@ -19,7 +19,8 @@ returns-then-last-index c =
     let after = c.partition_point-index.ensures.point
     (IsPartitionedBy-back (is_up_to_place key from) (is_up_to_place-back key from) cs order) in
     let last = c.index_of_end-last in
-    first_lack-empty cs key from c.args.end c.args.more c.partition_point-first.result c.partition_point-index.result last.result order first after last.ensures.point last.ensures.within
+    first_lack-empty cs key from c.args.end c.args.more c.partition_point-first.result c.partition_point-index.result last.result
+    order first after last.ensures.point last.ensures.within
     c.if-last-index.true
     ∙ ap (λ (s : KeyOrderState). first_lack s.changes key from c.args.end c.args.more) c.self.view_is
 
@@ -48,9 +49,10 @@ returns-then-crossing-last c =
     ∙ c.more_held-before.ensures.sum
     ∙ ap₂ (λ (a b : ℤ). a +ℤ b) (small-kept c.args.more (omega (arith, c.requires.bound))) held in
     c.lack_at.ensures
-    ∙ first_lack-some cs key from c.args.end c.args.more c.partition_point-first.result c.partition_point-index.result last.result order first after last.ensures.point last.ensures.within
-    (to_z w64
-    (of_z w64 c.more_held-before.result)) base c.first_below-crossing.result.index c.first_below-crossing.result.before c.first_below-crossing.ensures c.if-crossing-last.true
+    ∙ first_lack-some cs key from c.args.end c.args.more c.partition_point-first.result c.partition_point-index.result last.result
+    order first after last.ensures.point last.ensures.within
+    (to_z w64 (of_z w64 c.more_held-before.result)) base c.first_below-crossing.result.index
+    c.first_below-crossing.result.before c.first_below-crossing.ensures c.if-crossing-last.true
     ∙ ap (λ (s : KeyOrderState). first_lack s.changes key from c.args.end c.args.more) c.self.view_is
 
 pub returns-else-crossing-last : goal.returns-else-crossing-last
@@ -68,7 +70,8 @@ returns-else-crossing-last c =
     let base = small-kept c.more_held-before.result (omega (arith, c.more_held-before.ensures.bound))
     ∙ c.more_held-before.ensures.sum
     ∙ ap₂ (λ (a b : ℤ). a +ℤ b) (small-kept c.args.more (omega (arith, c.requires.bound))) held in
-    first_lack-none cs key from c.args.end c.args.more c.partition_point-first.result c.partition_point-index.result last.result order first after last.ensures.point last.ensures.within
-    (to_z w64
-    (of_z w64 c.more_held-before.result)) base c.first_below-crossing.result.index c.first_below-crossing.result.before c.first_below-crossing.ensures c.if-crossing-last.false
+    first_lack-none cs key from c.args.end c.args.more c.partition_point-first.result c.partition_point-index.result last.result
+    order first after last.ensures.point last.ensures.within
+    (to_z w64 (of_z w64 c.more_held-before.result)) base c.first_below-crossing.result.index
+    c.first_below-crossing.result.before c.first_below-crossing.ensures c.if-crossing-last.false
     ∙ ap (λ (s : KeyOrderState). first_lack s.changes key from c.args.end c.args.more) c.self.view_is

@@ -17,7 +17,8 @@ overflow_sub-result c =
     let first = start.ensures.point (IsPartitionedBy-back (is_before_key key) (is_before_key-back key) cs c.self.invariant.0) in
     let last = end.ensures.point
     (IsPartitionedBy-back (is_before_place key place) (is_before_place-back key place) cs c.self.invariant.0) in
-    let both = rank_of-points cs key place start.result end.result start.ensures.sides.within end.ensures.sides.within first last in
+    let both =
+    rank_of-points cs key place start.result end.result start.ensures.sides.within end.ensures.sides.within first last in
     omega (arith, both)
 
 pub returns : goal.returns
@@ -30,6 +31,7 @@ returns c =
     let first = start.ensures.point (IsPartitionedBy-back (is_before_key key) (is_before_key-back key) cs c.self.invariant.0) in
     let last = end.ensures.point
     (IsPartitionedBy-back (is_before_place key place) (is_before_place-back key place) cs c.self.invariant.0) in
-    let both = rank_of-points cs key place start.result end.result start.ensures.sides.within end.ensures.sides.within first last in
+    let both =
+    rank_of-points cs key place start.result end.result start.ensures.sides.within end.ensures.sides.within first last in
     let told = ap (λ (s : KeyOrderState). rank_of s.changes key place) c.self.view_is in
     omega (arith, both, told)
