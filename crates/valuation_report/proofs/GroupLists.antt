@@ -1,6 +1,6 @@
 -- The entries of the map of rows by their keys are the groups that are asked for.
 use Rattle.std.proofs.Common.{◌≡◌, ℕ, ◌<◌, Bool, true, false, cond, List, [], ◌∷◌, map, filter, Some, ◌⊎◌, inl, inr, refl, sym, ap, ◌∙◌, subst, arith, IsSome}
-use Rattle.std.specs.Prelude.{Contains}
+use Rattle.std.specs.Prelude.{Contains, Option, unwrap_or}
 use Rattle.std.specs.BTreeMap.{BTreeMap, get, keys, IsOrdered}
 use Rattle.std.specs.Cmp.{IsTotalOrder, nat_cmp_is}
 use Rattle.std.specs.Ordering.{nat_cmp, ordering_then}
@@ -27,7 +27,9 @@ use Rattle.stock_laws.proofs.Enough.{is_same_key-true, is_same_key-refl}
 use Rattle.stock_model.proofs.Pairwise.{Precedes, Pairwise, Pairwise-from_AllPairs, Pairwise-unique, Contains-cases, Contains-first, Contains-later}
 use Rattle.stock_laws.proofs.SheetKeys.{keys_of-ascending, keys_of-of_rows, keys_of-complete}
 use Rattle.valuation_report.specs.declared.grouping.Group.{Group}
-use Rattle.valuation_report.specs.Grouping.{key_cmp, some_rows, IsByKey, is_asked_row}
+use Rattle.valuation_report.specs.declared.holdings.Holding.{Holding}
+use Rattle.valuation_report.specs.Grouping.{key_cmp, some_rows, some_holding, IsByKey, IsHeldByKey, is_asked_row}
+use Rattle.valuation_report.specs.Holdings.{holding_of}
 use Rattle.valuation_report.specs.Groups.{group_of}
 
 -- the first of two comparisons decides, or they tie and the second does
@@ -186,65 +188,107 @@ some_rows-any true [] row h c = absurd (omega (arith, c.1))
 some_rows-any true (x ∷ xs) row h c = refl
 some_rows-any false xs row h c = absurd (false≢true h)
 
+-- the same of what is held by rows
+some_holding-is : (asked : Bool) (holding : Holding) (rows : List Row) → Some holding ≡ some_holding (cond asked rows []) → holding ≡ holding_of rows
+some_holding-is true holding [] h = cc
+some_holding-is true holding (row ∷ rows) h = ap (λ (found : Option Holding). unwrap_or found holding) h
+some_holding-is false holding rows h = cc
+
+some_holding-has : (rows : List Row) → IsSome (some_holding rows) → IsSome (some_rows rows)
+some_holding-has [] h = h
+some_holding-has (row ∷ rows) h = refl
+
+some_holding-gives : (rows : List Row) → IsSome (some_rows rows) → IsSome (some_holding rows)
+some_holding-gives [] h = h
+some_holding-gives (row ∷ rows) h = refl
+
+-- what is made of what was made
+map-map : {X Y Z : Type 0} (f : Y → Z) (g : X → Y) (xs : List X) → map f (map g xs) ≡ map (λ x. f (g x)) xs
+map-map f g [] = refl
+map-map f g (x ∷ xs) = ap (λ zs. f (g x) ∷ zs) (map-map f g xs)
+
 -- an entry of the map as a group
 abbrev pub entry_group : Key × List Row → Group
 entry_group entry = record { key = entry.0; rows = entry.1 }
+
+-- what is held of the keys that are asked for
+abbrev pub holdings_of : Query → List Head → List Row → List (Key × Holding)
+holdings_of query heads rows = map (λ key. (key, holding_of (filter (is_of key) rows))) (filter (is_asked_key query heads) (keys_of rows))
 
 -- of the rows that are asked for, a key has all its rows or none
 module _ (query : Query) (heads : List Head) where
   own_asked : (key : Key) (row : Row) → is_of key row ≡ true → is_asked_row query heads row ≡ is_asked_key query heads key
   own_asked key row own = ap (is_asked_key query heads) (is_same_key-true (entry_key row.entry) key own)
 
-  kept : (asked : Bool) (key : Key) (rows : List Row) → is_asked_key query heads key ≡ asked → filter (is_of key) (filter (is_asked_row query heads) rows) ≡ cond asked (filter (is_of key) rows) []
+  pub kept : (asked : Bool) (key : Key) (rows : List Row) → is_asked_key query heads key ≡ asked → filter (is_of key) (filter (is_asked_row query heads) rows) ≡ cond asked (filter (is_of key) rows) []
   kept true key rows is = kept_all (is_of key) (is_asked_row query heads) (λ row own. own_asked key row own ∙ is) rows
   kept false key rows is = kept_none (is_of key) (is_asked_row query heads) (λ row own. own_asked key row own ∙ is) rows
 
-  -- what the map has at a key
-  at_key : (by_key : BTreeMap Key (List Row)) (rows : List Row) (key : Key) → IsByKey by_key (filter (is_asked_row query heads) rows) → get key_cmp by_key key ≡ some_rows (cond (is_asked_key query heads key) (filter (is_of key) rows) [])
-  at_key by_key rows key grouped = grouped.at key ∙ ap some_rows (kept (is_asked_key query heads key) key rows refl)
+  -- a map that has at each key what is made of its rows, where there are any
+  module _ {V : Type 0} (made : List Row → Option V) (has : (rows : List Row) → IsSome (made rows) → IsSome (some_rows rows)) (gives : (rows : List Row) → IsSome (some_rows rows) → IsSome (made rows)) where
+    abbrev IsMadeByKey : BTreeMap Key V → List Row → Type 0
+    IsMadeByKey by_key rows = (key : Key) → get key_cmp by_key key ≡ made (filter (is_of key) (filter (is_asked_row query heads) rows))
 
-  -- its keys are those of the rows that are asked for
-  key-from : (by_key : BTreeMap Key (List Row)) (rows : List Row) (key : Key) → IsByKey by_key (filter (is_asked_row query heads) rows) → Contains (keys by_key) key → Contains (filter (is_asked_key query heads) (keys_of rows)) key
-  key-from by_key rows key grouped c =
-      let found : IsSome (get key_cmp by_key key) = (btree_map_contains_key_iff key_order exact by_key key).1 c in
-      let some = some_rows-first (is_asked_key query heads key) (filter (is_of key) rows) (subst IsSome (at_key by_key rows key grouped) found) in
-      let row = some.1.0 in
-      let own = filter-from (is_of key) rows row some.1.1 in
-      filter-to (is_asked_key query heads) (keys_of rows) key (keys_of-complete rows key (row, own.0, is_same_key-true (entry_key row.entry) key own.1)) some.0
+    -- what the map has at a key
+    at_key : (by_key : BTreeMap Key V) (rows : List Row) (key : Key) → IsMadeByKey by_key rows → get key_cmp by_key key ≡ made (cond (is_asked_key query heads key) (filter (is_of key) rows) [])
+    at_key by_key rows key grouped = grouped key ∙ ap made (kept (is_asked_key query heads key) key rows refl)
 
-  key-to : (by_key : BTreeMap Key (List Row)) (rows : List Row) (key : Key) → IsByKey by_key (filter (is_asked_row query heads) rows) → Contains (filter (is_asked_key query heads) (keys_of rows)) key → Contains (keys by_key) key
-  key-to by_key rows key grouped c =
-      let among = filter-from (is_asked_key query heads) (keys_of rows) key c in
-      let has = keys_of-of_rows rows key among.0 in
-      let row = has.0 in
-      let own : is_of key row ≡ true = subst (λ (k : Key). is_same_key (entry_key row.entry) k ≡ true) has.2 (is_same_key-refl (entry_key row.entry)) in
-      let some : IsSome (get key_cmp by_key key) = subst IsSome (sym (at_key by_key rows key grouped))
-      (some_rows-any (is_asked_key query heads key) (filter (is_of key) rows) row among.1 (filter-to (is_of key) rows row has.1 own)) in
-      (btree_map_contains_key_iff key_order exact by_key key).0 some
+    -- its keys are those of the rows that are asked for
+    key-from : (by_key : BTreeMap Key V) (rows : List Row) (key : Key) → IsMadeByKey by_key rows → Contains (keys by_key) key → Contains (filter (is_asked_key query heads) (keys_of rows)) key
+    key-from by_key rows key grouped c =
+        let found : IsSome (get key_cmp by_key key) = (btree_map_contains_key_iff key_order exact by_key key).1 c in
+        let own_rows = cond (is_asked_key query heads key) (filter (is_of key) rows) [] in
+        let some = some_rows-first (is_asked_key query heads key) (filter (is_of key) rows) (has own_rows (subst IsSome (at_key by_key rows key grouped) found)) in
+        let row = some.1.0 in
+        let own = filter-from (is_of key) rows row some.1.1 in
+        filter-to (is_asked_key query heads) (keys_of rows) key (keys_of-complete rows key (row, own.0, is_same_key-true (entry_key row.entry) key own.1)) some.0
 
-  keys-are : (by_key : BTreeMap Key (List Row)) (rows : List Row) → IsOrdered key_cmp by_key → IsByKey by_key (filter (is_asked_row query heads) rows) → keys by_key ≡ filter (is_asked_key query heads) (keys_of rows)
-  keys-are by_key rows order grouped =
-      Pairwise-unique IsKeyBefore never_before_itself one_way (keys by_key) (filter (is_asked_key query heads) (keys_of rows)) (pairwise-from_sorted (keys by_key) order)
-      (pairwise-filter (is_asked_key query heads) (keys_of rows) (Pairwise-from_AllPairs IsKeyBefore (keys_of rows) (keys_of-ascending rows)))
-      (λ key c. key-from by_key rows key grouped c) (λ key c. key-to by_key rows key grouped c)
+    key-to : (by_key : BTreeMap Key V) (rows : List Row) (key : Key) → IsMadeByKey by_key rows → Contains (filter (is_asked_key query heads) (keys_of rows)) key → Contains (keys by_key) key
+    key-to by_key rows key grouped c =
+        let among = filter-from (is_asked_key query heads) (keys_of rows) key c in
+        let found = keys_of-of_rows rows key among.0 in
+        let row = found.0 in
+        let own : is_of key row ≡ true = subst (λ (k : Key). is_same_key (entry_key row.entry) k ≡ true) found.2 (is_same_key-refl (entry_key row.entry)) in
+        let own_rows = cond (is_asked_key query heads key) (filter (is_of key) rows) [] in
+        let some : IsSome (get key_cmp by_key key) = subst IsSome (sym (at_key by_key rows key grouped))
+        (gives own_rows (some_rows-any (is_asked_key query heads key) (filter (is_of key) rows) row among.1 (filter-to (is_of key) rows row found.1 own))) in
+        (btree_map_contains_key_iff key_order exact by_key key).0 some
 
-  -- the entry has the rows of its key
-  abbrev HasOwn : List Row → Key × List Row → Type 0
-  HasOwn rows entry = Some entry.1 ≡ some_rows (cond (is_asked_key query heads entry.0) (filter (is_of entry.0) rows) [])
+    keys-are : (by_key : BTreeMap Key V) (rows : List Row) → IsOrdered key_cmp by_key → IsMadeByKey by_key rows → keys by_key ≡ filter (is_asked_key query heads) (keys_of rows)
+    keys-are by_key rows order grouped =
+        Pairwise-unique IsKeyBefore never_before_itself one_way (keys by_key) (filter (is_asked_key query heads) (keys_of rows)) (pairwise-from_sorted (keys by_key) order)
+        (pairwise-filter (is_asked_key query heads) (keys_of rows) (Pairwise-from_AllPairs IsKeyBefore (keys_of rows) (keys_of-ascending rows)))
+        (λ key c. key-from by_key rows key grouped c) (λ key c. key-to by_key rows key grouped c)
 
-  -- so it is the group of its key
-  entry-is : (rows : List Row) (entries : List (Key × List Row)) → All (HasOwn rows) entries
-      → map entry_group entries ≡ map (group_of rows) (map (λ entry. entry.0) entries)
-  entry-is rows [] all = refl
-  entry-is rows (entry ∷ entries) all =
-      let own : entry.1 ≡ filter (is_of entry.0) rows = some_rows-is (is_asked_key query heads entry.0) entry.1 (filter (is_of entry.0) rows) (All-head (HasOwn rows) entry entries all) in
-      ap (λ (found : List Row). record { key = entry.0; rows = found } ∷ map entry_group entries) own
-      ∙ ap (λ groups. group_of rows entry.0 ∷ groups) (entry-is rows entries (All-tail (HasOwn rows) entry entries all))
+    -- its entries, where what is made of rows is also made by a function of them
+    module _ (of : List Row → V) (is_of_rows : (asked : Bool) (value : V) (rows : List Row) → Some value ≡ made (cond asked rows []) → value ≡ of rows) where
+      -- the entry has what is made of the rows of its key
+      abbrev HasOwn : List Row → Key × V → Type 0
+      HasOwn rows entry = Some entry.1 ≡ made (cond (is_asked_key query heads entry.0) (filter (is_of entry.0) rows) [])
+
+      entry-is : (rows : List Row) (entries : List (Key × V)) → All (HasOwn rows) entries
+          → entries ≡ map (λ key. (key, of (filter (is_of key) rows))) (map (λ entry. entry.0) entries)
+      entry-is rows [] all = refl
+      entry-is rows (entry ∷ entries) all =
+          ap (λ (value : V). (entry.0, value) ∷ entries) (is_of_rows (is_asked_key query heads entry.0) entry.1 (filter (is_of entry.0) rows) (All-head (HasOwn rows) entry entries all))
+          ∙ ap (λ others. (entry.0, of (filter (is_of entry.0) rows)) ∷ others) (entry-is rows entries (All-tail (HasOwn rows) entry entries all))
+
+      made-are : (by_key : BTreeMap Key V) (rows : List Row) → IsOrdered key_cmp by_key → IsMadeByKey by_key rows
+          → by_key.entries ≡ map (λ key. (key, of (filter (is_of key) rows))) (filter (is_asked_key query heads) (keys_of rows))
+      made-are by_key rows order grouped =
+          entry-is rows by_key.entries
+          (All-weaker (λ entry. get key_cmp by_key entry.0 ≡ Some entry.1) (HasOwn rows) (λ entry found. sym found ∙ at_key by_key rows entry.0 grouped) by_key.entries (All-found key_order by_key order))
+          ∙ ap (map (λ key. (key, of (filter (is_of key) rows)))) (keys-are by_key rows order grouped)
 
   -- so the entries are the groups
   pub entries-are : (by_key : BTreeMap Key (List Row)) (rows : List Row) → IsOrdered key_cmp by_key → IsByKey by_key (filter (is_asked_row query heads) rows)
       → map entry_group by_key.entries ≡ map (group_of rows) (filter (is_asked_key query heads) (keys_of rows))
   entries-are by_key rows order grouped =
-      entry-is rows by_key.entries
-      (All-weaker (λ entry. get key_cmp by_key entry.0 ≡ Some entry.1) (HasOwn rows) (λ entry found. sym found ∙ at_key by_key rows entry.0 grouped) by_key.entries (All-found key_order by_key order))
-      ∙ ap (map (group_of rows)) (keys-are by_key rows order grouped)
+      ap (map entry_group) (made-are some_rows (λ own h. h) (λ own h. h) (λ own. own) some_rows-is by_key rows order grouped.at)
+      ∙ map-map entry_group (λ key. (key, filter (is_of key) rows)) (filter (is_asked_key query heads) (keys_of rows))
+
+  -- and the entries of a map of what is held are the holdings
+  pub holdings-are : (by_key : BTreeMap Key Holding) (rows : List Row) → IsOrdered key_cmp by_key → IsHeldByKey by_key (filter (is_asked_row query heads) rows)
+      → by_key.entries ≡ holdings_of query heads rows
+  holdings-are by_key rows order held =
+      made-are some_holding some_holding-has some_holding-gives holding_of some_holding-is by_key rows order held.at

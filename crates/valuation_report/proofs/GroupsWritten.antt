@@ -11,11 +11,19 @@ use Rattle.stock_model.specs.declared.queries.Sheet.{Sheet}
 use Rattle.stock_model.specs.declared.queries.Sheet.TheVariants.{Balance, Layers, Ledger, Accounts, Voucher}
 use Rattle.stock_model.specs.Layers.{layer_rows, layers}
 use Rattle.stock_model.specs.LedgerSheets.{ledger_rows, ledger}
+use Rattle.stock_model.specs.Masters.{code_of}
+use Rattle.stock_model.specs.Sums.{is_of}
+use Rattle.stock_nums.specs.declared.entry.Key.{Key}
+use Rattle.stock_nums.specs.declared.head.Head.{Head}
+use Rattle.valuation_report.specs.declared.holdings.Holding.{Holding}
+use Rattle.valuation_report.specs.GroupRows.{held_row}
+use Rattle.valuation_report.specs.Holdings.{holding_of}
 use Rattle.stock_model.specs.Sheets.{balance_row, balance, is_asked_key, keys_of}
 use Rattle.valuation_report.specs.Groups.{group_of, groups_of}
 use Rattle.valuation_report.specs.Pieces.{balance_piece, layer_piece, ledger_piece}
 use Rattle.valuation_report.specs.SheetPieces.{is_grouped, group_pieces, sheet_pieces}
-use Rattle.valuation_report.proofs.OwnRows.{own_balance-is, own_layers-is, own_movements-are}
+use Rattle.valuation_report.proofs.GroupLists.{holdings_of}
+use Rattle.valuation_report.proofs.OwnRows.{held_row-is, own_layers-is, own_movements-are}
 
 -- what is written of each is what is written of what is made of each
 flat_map-map : {X Y : Type 0} (f : Y → List ℕ) (g : X → Y) (xs : List X) → flat_map f (map g xs) ≡ flat_map (λ x. f (g x)) xs
@@ -43,15 +51,24 @@ ledger-pieces : (format : Format) (query : Query) (chosen : Selected) → flat_m
 ledger-pieces Json query chosen = sym (flat_map-map _ _ (ledger query chosen))
 ledger-pieces Csv query chosen = sym (flat_map-map _ _ (ledger query chosen))
 
-pub groups-written : (format : Format) (sheet : Sheet) (query : Query) (chosen : Selected) → is_grouped sheet ≡ true
-    → flat_map (group_pieces format sheet chosen.heads) (groups_of query chosen) ≡ sheet_pieces format sheet query chosen
-unfolding balance layers ledger
-groups-written format Balance query chosen grouped =
+-- the row of an entry of the map of what is held
+abbrev pub entry_piece : Format → List Head → Key × Holding → List ℕ
+entry_piece format heads entry = balance_piece format (held_row (code_of heads entry.0.item.0) (code_of heads entry.0.store.0) entry.1)
+
+pub holdings-written : (format : Format) (query : Query) (chosen : Selected)
+    → flat_map (entry_piece format chosen.heads) (holdings_of query chosen.heads chosen.rows) ≡ sheet_pieces format Balance query chosen
+unfolding balance
+holdings-written format query chosen =
     let keys = filter (is_asked_key query chosen.heads) (keys_of chosen.rows) in
-    flat_map-map (group_pieces format Balance chosen.heads) (group_of chosen.rows) keys
-    ∙ flat_map-same _ _ (λ key. ap (balance_piece format) (own_balance-is key chosen.heads chosen.rows)) keys
+    flat_map-map (entry_piece format chosen.heads) (λ key. (key, holding_of (filter (is_of key) chosen.rows))) keys
+    ∙ flat_map-same _ _ (λ key. ap (balance_piece format) (held_row-is key chosen.heads chosen.rows)) keys
     ∙ sym (flat_map-map (balance_piece format) (balance_row chosen.heads chosen.rows) keys)
     ∙ balance-pieces format query chosen
+
+pub groups-written : (format : Format) (sheet : Sheet) (query : Query) (chosen : Selected) → is_grouped sheet ≡ true
+    → flat_map (group_pieces format sheet chosen.heads) (groups_of query chosen) ≡ sheet_pieces format sheet query chosen
+unfolding layers ledger
+groups-written format Balance query chosen grouped = absurd (false≢true grouped)
 groups-written format Layers query chosen grouped =
     let keys = filter (is_asked_key query chosen.heads) (keys_of chosen.rows) in
     flat_map-map (group_pieces format Layers chosen.heads) (group_of chosen.rows) keys

@@ -6,6 +6,7 @@ mod FixedTexts
 mod GroupLists
 mod GroupsWritten
 mod HeadSearch
+mod HeldByKey
 mod Joined
 mod LayerPieces
 mod LedgerPieces

@@ -22,7 +22,7 @@ use Rattle.stock_model.specs.Sheets.{balance_row}
 use Rattle.stock_model.specs.Sums.{is_of, enters_at, leaves_at, units_of, value_of, quantity_in, quantity_out, value_in, value_out, stock_units, stock_value}
 use Rattle.stock_laws.proofs.CostedRows.{both}
 use Rattle.stock_laws.proofs.TestedSums.{both-first, both-second}
-use Rattle.valuation_report.specs.GroupRows.{own_balance, remainder_row, whole_of, own_method, layers_by, own_layers, movement_of, movement_row, movements_after, own_movements}
+use Rattle.valuation_report.specs.GroupRows.{held_row, remainder_row, whole_of, own_method, layers_by, own_layers, movement_of, movement_row, movements_after, own_movements}
 use Rattle.valuation_report.specs.Groups.{group_of}
 use Rattle.valuation_report.specs.Holdings.{row_enters, row_leaves, units_in, units_out, worth_in, worth_out, units_held, worth_held, holding_of, AreHeld}
 
@@ -102,8 +102,8 @@ module _ (key : Key) where
   }
 
   -- the balance sheet's row
-  pub own_balance-is : (heads : List Head) (rows : List Row) → own_balance (code_of heads key.item.0) (code_of heads key.store.0) (own rows) ≡ balance_row heads rows key
-  own_balance-is heads rows i =
+  pub held_row-is : (heads : List Head) (rows : List Row) → held_row (code_of heads key.item.0) (code_of heads key.store.0) (holding_of (own rows)) ≡ balance_row heads rows key
+  held_row-is heads rows i =
       record {
         item = code_of heads key.item.0;
         store = code_of heads key.store.0;

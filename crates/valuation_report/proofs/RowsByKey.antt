@@ -32,25 +32,32 @@ IsByKey-snoc old new rows row grouped added = record {
 }
 
 -- the next of the rows, which passes the test or is left out
+pub with_next : (asked : Row → Bool) (rows : List Row) (i : ℕ) (row : Row) → i < length rows → row ≡ get_or rows i row → asked row ≡ true
+    → filter asked (take (i + 1) rows) ≡ filter asked (take i rows) ++ row ∷ []
+with_next asked rows i row within read passes =
+    filter_more asked rows i row within
+    ∙ ap (λ (r : Row). filter asked (take i rows) ++ cond (asked r) (r ∷ []) []) (sym read)
+    ∙ ap (λ (b : Bool). filter asked (take i rows) ++ cond b (row ∷ []) []) passes
+
+pub without_next : (asked : Row → Bool) (rows : List Row) (i : ℕ) (row : Row) → i < length rows → row ≡ get_or rows i row → asked row ≡ false
+    → filter asked (take (i + 1) rows) ≡ filter asked (take i rows)
+without_next asked rows i row within read fails =
+    filter_more asked rows i row within
+    ∙ ap (λ (r : Row). filter asked (take i rows) ++ cond (asked r) (r ∷ []) []) (sym read)
+    ∙ ap (λ (b : Bool). filter asked (take i rows) ++ cond b (row ∷ []) []) fails
+    ∙ append-nil (filter asked (take i rows))
+
+-- the map of them
 pub IsByKey-more : (asked : Row → Bool) (old new : BTreeMap Key (List Row)) (rows : List Row) (i : ℕ) (row : Row) (own : Key) → i < length rows → row ≡ get_or rows i row → asked row ≡ true
     → own ≡ entry_key row.entry → IsByKey old (filter asked (take i rows))
     → ((key : Key) → get key_cmp new key ≡ cond (is_same_key own key) (Some (unwrap_or (get key_cmp old key) [] ++ row ∷ [])) (get key_cmp old key))
     → IsByKey new (filter asked (take (i + 1) rows))
 IsByKey-more asked old new rows i row own within read passes own_is grouped added =
-    let next : filter asked (take (i + 1) rows) ≡ filter asked (take i rows) ++ row ∷ [] =
-    filter_more asked rows i row within
-    ∙ ap (λ (r : Row). filter asked (take i rows) ++ cond (asked r) (r ∷ []) []) (sym read)
-    ∙ ap (λ (b : Bool). filter asked (take i rows) ++ cond b (row ∷ []) []) passes in
-    subst (IsByKey new) (sym next)
+    subst (IsByKey new) (sym (with_next asked rows i row within read passes))
     (IsByKey-snoc old new (filter asked (take i rows)) row grouped
     (λ key. added key ∙ ap (λ (k : Key). cond (is_same_key k key) (Some (unwrap_or (get key_cmp old key) [] ++ row ∷ [])) (get key_cmp old key)) own_is))
 
 pub IsByKey-same : (asked : Row → Bool) (by_key : BTreeMap Key (List Row)) (rows : List Row) (i : ℕ) (row : Row) → i < length rows → row ≡ get_or rows i row → asked row ≡ false
     → IsByKey by_key (filter asked (take i rows)) → IsByKey by_key (filter asked (take (i + 1) rows))
 IsByKey-same asked by_key rows i row within read fails grouped =
-    let next : filter asked (take (i + 1) rows) ≡ filter asked (take i rows) =
-    filter_more asked rows i row within
-    ∙ ap (λ (r : Row). filter asked (take i rows) ++ cond (asked r) (r ∷ []) []) (sym read)
-    ∙ ap (λ (b : Bool). filter asked (take i rows) ++ cond b (row ∷ []) []) fails
-    ∙ append-nil (filter asked (take i rows)) in
-    subst (IsByKey by_key) (sym next) grouped
+    subst (IsByKey by_key) (sym (without_next asked rows i row within read fails)) grouped

@@ -29,7 +29,7 @@ by_side : (side : Bool) (rows : List Row) (row : Row) (after : Holding) → wort
 by_side true rows row after covered entered left value = same_holding _ _ entered (omega (arith, left)) (omega (arith, value))
 by_side false rows row after covered entered left value = same_holding _ _ (omega (arith, entered)) left (omega (arith, value))
 
-holding_of-snoc : (rows : List Row) (row : Row) → worth_out rows ≤ worth_in rows → holding_of (rows ++ row ∷ []) ≡ next_holding (holding_of rows) row
+pub holding_of-snoc : (rows : List Row) (row : Row) → worth_out rows ≤ worth_in rows → holding_of (rows ++ row ∷ []) ≡ next_holding (holding_of rows) row
 holding_of-snoc rows row covered =
     by_side (row_enters row) rows row (holding_of (rows ++ row ∷ [])) covered (tested-snoc units_of row_enters rows row) (tested-snoc units_of row_leaves rows row)
     (let entered : worth_in (rows ++ row ∷ []) ≡ worth_in rows + counted (row_enters row) (value_of row) = tested-snoc value_of row_enters rows row in

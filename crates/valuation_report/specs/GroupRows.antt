@@ -14,10 +14,10 @@ use Rattle.valuation_report.specs.declared.layer_texts.Remainder.{Remainder}
 use Rattle.valuation_report.specs.declared.ledger_texts.Movement.{Movement}
 use Rattle.valuation_report.specs.Holdings.{row_enters, units_out, units_held, worth_held, holding_of}
 
--- what is held after all of the movements
-abbrev pub own_balance : List ℕ → List ℕ → List Row → BalanceRow
-own_balance item store rows =
-    record { item = item; store = store; qty = record { 0 = units_held rows }; value = record { 0 = pos (worth_held rows) } }
+-- what is held, as the balance sheet shows it
+abbrev pub held_row : List ℕ → List ℕ → Holding → BalanceRow
+held_row item store holding =
+    record { item = item; store = store; qty = record { 0 = holding.entered - holding.left }; value = record { 0 = pos holding.value } }
 
 -- what is left, as the layers sheet shows it
 abbrev pub remainder_row : List ℕ → List ℕ → Remainder → LayerRow

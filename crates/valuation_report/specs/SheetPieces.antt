@@ -14,14 +14,14 @@ use Rattle.stock_model.specs.LedgerSheets.{ledger, voucher}
 use Rattle.stock_model.specs.Masters.{code_of}
 use Rattle.stock_model.specs.Sheets.{balance}
 use Rattle.valuation_report.specs.declared.grouping.Group.{Group}
-use Rattle.valuation_report.specs.GroupRows.{own_balance, own_layers, own_movements}
-use Rattle.valuation_report.specs.Pieces.{json_piece, csv_piece, balance_piece, layer_piece, ledger_piece}
+use Rattle.valuation_report.specs.GroupRows.{own_layers, own_movements}
+use Rattle.valuation_report.specs.Pieces.{json_piece, csv_piece, layer_piece, ledger_piece}
 use Rattle.valuation_report.specs.SheetRows.{balance_fields, layer_fields, ledger_fields, account_fields, voucher_fields}
 use Rattle.valuation_report.specs.SheetTexts.{rows_data}
 
--- the sheet has rows for each item in each warehouse
+-- the sheet has rows for the movements of each item in each warehouse
 abbrev pub is_grouped : Sheet → Bool
-is_grouped Balance = true
+is_grouped Balance = false
 is_grouped Layers = true
 is_grouped Ledger = true
 is_grouped Accounts = false
@@ -29,8 +29,7 @@ is_grouped (Voucher number) = false
 
 -- the rows of one item in one warehouse. The other sheets have none
 abbrev pub group_pieces : Format → Sheet → List Head → Group → List ℕ
-group_pieces format Balance heads group =
-    balance_piece format (own_balance (code_of heads group.key.item.0) (code_of heads group.key.store.0) group.rows)
+group_pieces format Balance heads group = []
 group_pieces format Layers heads group =
     flat_map (layer_piece format) (own_layers (code_of heads group.key.item.0) (code_of heads group.key.store.0) group.rows)
 group_pieces format Ledger heads group =

@@ -6,15 +6,14 @@ ghost use Rattle.stock_model.specs.Books.{AreHeads};
 ghost use Rattle.stock_model.specs.Masters.{code_of};
 ghost use Rattle.stock_model.specs.declared.queries.Format.TheVariants.{Json, Csv};
 ghost use Rattle.valuation_report.specs.Adding.{Adds};
-ghost use Rattle.valuation_report.specs.GroupRows.{own_balance};
-ghost use Rattle.valuation_report.specs.Holdings.{AreHeld};
+ghost use Rattle.valuation_report.specs.GroupRows.{held_row};
 ghost use Rattle.valuation_report.specs.Pieces.{balance_piece};
 
 use crate::code_texts::code_text;
-use crate::grouping::Group;
 use crate::holdings::Holding;
 use crate::text_parts::{push_bytes, push_number, push_text, push_word};
 use stock_model::queries::Format;
+use stock_nums::entry::Key;
 use stock_nums::head::Head;
 use stock_nums::memory::NoMemory;
 
@@ -63,16 +62,15 @@ pub(crate) fn push_balance(
     text: &mut Vec<u8>,
     format: Format,
     heads: &[Head],
-    group: &Group,
+    key: Key,
+    holding: Holding,
 ) -> Result<(), NoMemory>
-    requires heads { AreHeads heads.now }
-    requires held { AreHeld group.now.rows }
+    requires { AreHeads heads.now }
     ensures { OnOk result (Adds text.old.items text.new.items (balance_piece format
-        (own_balance (code_of heads.now group.now.key.item.0) (code_of heads.now group.now.key.store.0) group.now.rows))) }
+        (held_row (code_of heads.now key.item.0) (code_of heads.now key.store.0) holding))) }
 {
-    let item = code_text(heads, group.key.item.0);
-    let store = code_text(heads, group.key.store.0);
-    let holding = Holding::after(group.rows.as_slice());
+    let item = code_text(heads, key.item.0);
+    let store = code_text(heads, key.store.0);
     match format {
         Format::Json => push_json(text, item, store, holding.units(), holding.value),
         Format::Csv => push_csv(text, item, store, holding.units(), holding.value),

@@ -47,8 +47,8 @@ fn is_asked_key(query: &Query, heads: &[Head], key: &Key) -> bool
     is_asked_code(&query.item, heads, key.item.0) && is_asked_code(&query.store, heads, key.store.0)
 }
 
-// Whether every item in every warehouse is asked for.
-fn asks_for_all(query: &Query) -> bool
+/// Whether every item in every warehouse is asked for.
+pub(crate) fn asks_for_all(query: &Query) -> bool
     ensures { IsTrue result → (heads : List Head) (key : Key) → is_asked_key query.now heads key ≡ true }
 {
     match (&query.item, &query.store) {
@@ -57,8 +57,8 @@ fn asks_for_all(query: &Query) -> bool
     }
 }
 
-// The same as `is_asked_key`, where it may be known that all are asked for.
-fn is_wanted(all: bool, query: &Query, heads: &[Head], key: &Key) -> bool
+/// Whether the key is of the item and the warehouse that are asked for, where it may be known that all are.
+pub(crate) fn is_wanted(all: bool, query: &Query, heads: &[Head], key: &Key) -> bool
     requires heads { AreHeads heads.now }
     requires all { IsTrue all → (heads : List Head) (key : Key) → is_asked_key query.now heads key ≡ true }
     ensures { result ≡ is_asked_key query.now heads.now key.now }

@@ -3,6 +3,7 @@
 
 mod account_rows;
 mod account_sheet;
+mod balance_sheet;
 mod balance_texts;
 mod code_texts;
 mod framing;

@@ -5,6 +5,7 @@ ghost use Rattle.stock_model.specs.declared.queries.Selected.{Selected};
 ghost use Rattle.stock_model.specs.Reports.{for_sheet, IsForSheet};
 ghost use Rattle.valuation_report.specs.SheetTexts.{report_text};
 
+use crate::balance_sheet::balance_text;
 use crate::ledger_sheets::{accounts_text, voucher_text};
 use crate::sheets::grouped_text;
 use std::alloc::Global;
@@ -37,7 +38,8 @@ fn text_of(alloc: Global, selected: &Selected, query: &Query) -> Result<Vec<u8>,
     ensures { IfOk result (λ text. text.items ≡ report_text query.now selected.now) }
 {
     match query.sheet {
-        Sheet::Balance | Sheet::Layers | Sheet::Ledger => grouped_text(alloc, selected, query),
+        Sheet::Balance => balance_text(alloc, selected, query),
+        Sheet::Layers | Sheet::Ledger => grouped_text(alloc, selected, query),
         Sheet::Accounts => accounts_text(alloc, selected, query),
         Sheet::Voucher(number) => voucher_text(alloc, selected, query, number),
     }

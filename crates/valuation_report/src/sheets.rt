@@ -1,4 +1,4 @@
-//! The sheets that have rows for each item in each warehouse: balance, layers and ledger.
+//! The sheets that have rows for the movements of each item in each warehouse: layers and ledger.
 ghost use Rattle.std.specs.Prelude.{◌≡◌, true, All, IfOk, OnOk};
 ghost use Rattle.std.specs.List.{flat_map};
 ghost use Rattle.stock_model.specs.Books.{AreHeads, CanBeShown};
@@ -7,22 +7,19 @@ ghost use Rattle.valuation_report.specs.Holdings.{AreHeld};
 ghost use Rattle.valuation_report.specs.SheetPieces.{is_grouped, group_pieces, sheet_pieces};
 ghost use Rattle.valuation_report.specs.SheetTexts.{report_text};
 
-use crate::balance_texts::push_balance;
 use crate::framing::{close, opening};
 use crate::grouping::{Group, groups};
 use crate::layer_texts::push_layers;
 use crate::ledger_texts::push_ledger;
 use std::alloc::Global;
-use stock_model::queries::{Format, Query, Selected, Sheet};
+use stock_model::queries::{Query, Selected, Sheet};
 use stock_nums::head::Head;
 use stock_nums::memory::NoMemory;
 
-// Room for a row in each format. Most rows take less.
-const JSON_ROOM: usize = 192;
+// Room for a row. Most rows take less, and room that is not written costs little.
+const ROW_ROOM: usize = 256;
 
-const CSV_ROOM: usize = 96;
-
-// About how many bytes the rows of the groups take. A text that has room for them does not move as it grows.
+// More bytes than the rows of the groups take. A text that has room for them does not move as it grows.
 fn room_for(query: &Query, groups: &[Group]) -> usize {
     let mut rows = groups.len();
     if query.sheet == Sheet::Ledger {
@@ -30,10 +27,7 @@ fn room_for(query: &Query, groups: &[Group]) -> usize {
             rows = rows.saturating_add(group.rows.len());
         }
     }
-    rows.saturating_mul(match query.format {
-        Format::Json => JSON_ROOM,
-        Format::Csv => CSV_ROOM,
-    })
+    rows.saturating_mul(ROW_ROOM)
 }
 
 // Adds the rows of one item in one warehouse. The other sheets have none.
@@ -48,10 +42,9 @@ fn push_group(
     ensures { OnOk result (Adds text.old.items text.new.items (group_pieces query.now.format query.now.sheet heads.now group.now)) }
 {
     match query.sheet {
-        Sheet::Balance => push_balance(text, query.format, heads, group),
         Sheet::Layers => push_layers(text, query.format, heads, group),
         Sheet::Ledger => push_ledger(text, query.format, heads, group),
-        Sheet::Accounts | Sheet::Voucher(_) => Ok(()),
+        Sheet::Balance | Sheet::Accounts | Sheet::Voucher(_) => Ok(()),
     }
 }
 
@@ -72,7 +65,7 @@ fn push_each(
     Ok(())
 }
 
-/// Adds the rows of the balance, the layers or the ledger sheet.
+/// Adds the rows of the layers or the ledger sheet.
 pub(crate) fn push_groups(
     alloc: Global,
     text: &mut Vec<u8>,
