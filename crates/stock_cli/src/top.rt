@@ -1,5 +1,5 @@
 //! The top call: what the words ask for, over an input, an output and notes.
-ghost use Rattle.std.specs.Prelude.{◌≡◌, ◌+◌, ◌^◌, ◌<◌, ◌⊎◌, ◌↔◌, ℕ, List, [], ◌∷◌, Contains, length, OnOk, OnErr, IfErr, IsTrue};
+ghost use Rattle.std.specs.Prelude.{◌≡◌, ◌+◌, ◌^◌, ◌<◌, ◌≤◌, ◌⊎◌, ◌↔◌, ℕ, List, [], ◌∷◌, Contains, length, OnOk, OnErr, IfErr, IsTrue};
 ghost use Rattle.stock_io.specs.Counts.{NeverFalls};
 ghost use Rattle.stock_cli.specs.declared.end.End.{End};
 ghost use Rattle.stock_cli.specs.Batches.{StandsFor};
@@ -8,6 +8,7 @@ ghost use Rattle.stock_cli.specs.Ran.{Ran, TakesPiece, Stops, Finishes, IsOutput
 
 use crate::batch::Batch;
 use crate::end::End;
+use generation_book::book::Book;
 use std::alloc::Global;
 use stock_io::sink::{Sink, write_all};
 use stock_io::source::Source;
@@ -17,6 +18,12 @@ const MAX_INPUT: u64 = 1 << 32;
 
 /// The most bytes that a read takes.
 const BUFFER: usize = 65_536;
+
+/// With so many records a report may be long.
+const MANY_RECORDS: u32 = 100;
+
+/// The most bytes that a read takes then, so that the replies to few lines wait at once.
+const SHORT_READ: usize = 512;
 
 /// What is noted where the words are none that this program knows.
 const USAGE: &str =
@@ -137,6 +144,19 @@ fn run<S: Source, O: Sink>(alloc: Global, input: &mut S, output: &mut O) -> End
     pump(alloc, &mut batch, buffer.as_mut_slice(), input, output)
 }
 
+/// The most bytes that the next read takes: as many as the buffer has, and fewer once reports may be long.
+fn piece_size(book: &Book, buffer: usize) -> usize
+    requires { 0 < buffer }
+    ensures some { 0 < result }
+    ensures within { result ≤ buffer }
+{
+    if book.accepted().0 < MANY_RECORDS {
+        buffer
+    } else {
+        buffer.min(SHORT_READ)
+    }
+}
+
 /// Takes the input in pieces. The replies to all whole lines of a piece are written before the next is read.
 fn pump<S: Source, O: Sink>(
     alloc: Global,
@@ -152,7 +172,8 @@ fn pump<S: Source, O: Sink>(
 {
     let mut taken = 0;
     while taken < MAX_INPUT {
-        let room = (buffer.len() as u64).min(MAX_INPUT - taken) as usize;
+        let size = piece_size(&batch.book, buffer.len());
+        let room = (size as u64).min(MAX_INPUT - taken) as usize;
         let Ok(n) = input.read(&mut buffer[..room]) else {
             return End::ReadFailed;
         };

@@ -22,7 +22,7 @@ returns-in-Err g c =
     let consumed = subst (Consumes (g.S.Source.left c.loop-taken.input) (g.S.Source.left c.read.new.self)) (sym front) c.in-Ok.ensures.bytes in
     let size : c.in-Ok.n ≡ length (take c.in-Ok.n (c.read.new.buf ++ rest)) = c.in-Ok.ensures.bound.1 ∙ ap length (sym front) in
     Ran-stopped g.S.Source.left g.S.Source.taken g.S.Source.faults g.O.Sink.written g.O.Sink.faults c.args.input.now c.loop-taken.input c.read.new.self c.args.output.now c.loop-taken.output c.step.new.output c.loop-taken.batch c.loop-taken.taken c.in-Ok.n _ c.in-Err.end c.loop-taken.invariant.0
-    (omega (arith, c.loop-taken.invariant.1, c.loop-taken-test.true, c.in-Ok.ensures.bound.0, c.read.auto.buf, c.min-room.ensures, length-take c.min-room.result c.loop-taken.buffer))
+    (omega (arith, c.loop-taken.invariant.1, c.loop-taken-test.true, c.in-Ok.ensures.bound.0, c.read.auto.buf, c.piece_size-size.ensures.within, c.piece_size-size.ensures.some, c.min-room.ensures, length-take c.min-room.result c.loop-taken.buffer))
     consumed c.in-Ok.ensures.count size c.in-Ok.ensures.faults_kept c.in-Err.ensures.stops c.step.ensures.never_falls c.in-Err.ensures.cause
 
 pub loop-taken-preserved : goal.loop-taken-preserved
@@ -32,8 +32,8 @@ loop-taken-preserved g c =
     let consumed = subst (Consumes (g.S.Source.left c.loop-taken.input) (g.S.Source.left c.read.new.self)) (sym front) c.in-Ok.ensures.bytes in
     let size : c.in-Ok.n ≡ length (take c.in-Ok.n (c.read.new.buf ++ rest)) = c.in-Ok.ensures.bound.1 ∙ ap length (sym front) in (
       UnderWay-piece g.S.Source.left g.S.Source.taken g.S.Source.faults g.O.Sink.written g.O.Sink.faults c.args.input.now c.loop-taken.input c.read.new.self c.args.output.now c.loop-taken.output c.step.new.output c.loop-taken.batch c.step.new.batch c.loop-taken.taken c.in-Ok.n _ c.loop-taken.invariant.0 consumed c.in-Ok.ensures.count size c.in-Ok.ensures.faults_kept c.in_default-step.ensures.takes c.in_default-step.ensures.faults_kept,
-      omega (arith, c.loop-taken.invariant.1, c.loop-taken-test.true, c.in-Ok.ensures.bound.0, c.read.auto.buf, c.min-room.ensures, length-take c.min-room.result c.loop-taken.buffer),
-      omega (arith, c.loop-taken.invariant.2, c.read.auto.buf, c.min-room.ensures, length-take c.min-room.result c.loop-taken.buffer, length-drop c.min-room.result c.loop-taken.buffer, length-append c.read.new.buf rest),
+      omega (arith, c.loop-taken.invariant.1, c.loop-taken-test.true, c.in-Ok.ensures.bound.0, c.read.auto.buf, c.piece_size-size.ensures.within, c.piece_size-size.ensures.some, c.min-room.ensures, length-take c.min-room.result c.loop-taken.buffer),
+      omega (arith, c.loop-taken.invariant.2, c.read.auto.buf, c.piece_size-size.ensures.within, c.piece_size-size.ensures.some, c.min-room.ensures, length-take c.min-room.result c.loop-taken.buffer, length-drop c.min-room.result c.loop-taken.buffer, length-append c.read.new.buf rest),
     )
 
 pub returns : goal.returns
