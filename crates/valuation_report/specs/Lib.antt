@@ -5,6 +5,7 @@ pub mod Grouping
 pub mod GroupRows
 pub mod Groups
 pub mod Holdings
+pub mod LedgerParts
 pub mod Pieces
 pub mod SheetPieces
 pub mod AccountPieces

@@ -32,6 +32,7 @@ fn room_for(query: &Query, groups: &[Group]) -> usize {
 
 // Adds the rows of one item in one warehouse. The other sheets have none.
 fn push_group(
+    alloc: Global,
     text: &mut Vec<u8>,
     query: &Query,
     heads: &[Head],
@@ -43,13 +44,14 @@ fn push_group(
 {
     match query.sheet {
         Sheet::Layers => push_layers(text, query.format, heads, group),
-        Sheet::Ledger => push_ledger(text, query.format, heads, group),
+        Sheet::Ledger => push_ledger(alloc, text, query.format, heads, group),
         Sheet::Balance | Sheet::Accounts | Sheet::Voucher(_) => Ok(()),
     }
 }
 
 // Adds the rows of each group.
 fn push_each(
+    alloc: Global,
     text: &mut Vec<u8>,
     query: &Query,
     heads: &[Head],
@@ -60,7 +62,7 @@ fn push_each(
     ensures { OnOk result (Adds text.old.items text.new.items (flat_map (group_pieces query.now.format query.now.sheet heads.now) groups.now)) }
 {
     for group in groups {
-        push_group(text, query, heads, group)?;
+        push_group(alloc, text, query, heads, group)?;
     }
     Ok(())
 }
@@ -81,7 +83,7 @@ pub(crate) fn push_groups(
     let shown = groups.as_slice();
     let heads = selected.heads.as_slice();
     let _ = text.reserve(room_for(query, shown));
-    push_each(text, query, heads, shown)
+    push_each(alloc, text, query, heads, shown)
 }
 
 /// The text of a report that shows one of these sheets.

@@ -1,15 +1,14 @@
 -- The pieces are the row's.
 use Rattle.std.proofs.lemmas.Result.{on_ok_weaker}
 use Rattle.valuation_report.proofs.Joined.{joined, renamed}
-use Rattle.valuation_report.proofs.LedgerPieces.{csv-is}
+use Rattle.valuation_report.proofs.LedgerPieces.{csv-added}
 use Rattle.valuation_report.proofs.ledger_texts.push_csv.Goals as goal
 
 pub returns : goal.returns
 returns c =
-    on_ok_weaker c.push_bytes.result
+    on_ok_weaker c.push_bytes-2.result
     (λ last. renamed
-    (joined c.in_ok-push_text.ensures (joined c.in_ok-push_word.ensures (joined c.in_ok-push_moment.ensures (joined c.in_ok-push_number.ensures
-    (joined c.in_ok-push_number-2.ensures (joined c.in_ok-push_side.ensures (joined c.in_ok-push_number-3.ensures (joined c.in_ok-push_number-4.ensures
-    (joined c.in_ok-push_number-5.ensures (joined c.in_ok-push_number-6.ensures last))))))))))
-    (csv-is c.args.item.now c.args.store.now c.args.movement c.requires.item c.requires.store))
-    c.push_bytes.ensures
+    (joined c.in_ok-push_bytes.ensures (joined c.in_ok-push_moment.ensures (joined c.in_ok-push_number.ensures (joined c.in_ok-push_number-2.ensures
+    (joined c.in_ok-push_number-3.ensures (joined c.in_ok-push_number-4.ensures (joined c.in_ok-push_number-5.ensures (joined c.in_ok-push_number-6.ensures last))))))))
+    (csv-added c.args.item.now c.args.store.now c.csv_side.result.now c.args.movement c.csv_side.ensures))
+    c.push_bytes-2.ensures
