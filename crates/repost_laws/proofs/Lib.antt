@@ -1,0 +1,12 @@
+pub mod PieceSums
+pub mod EarlierOnes
+pub mod FoundRows
+pub mod LocalRows
+pub mod Filtered
+pub mod LongerLines
+pub mod Spreading
+pub mod Turns
+pub mod TurnCounts
+pub mod MoreCharges
+pub mod MoreRecords
+pub mod SincePublished

@@ -1,0 +1,116 @@
+-- More records change what is charged to the lines alone that they charge something to.
+use Rattle.std.proofs.Common.{◌≡◌, ℕ, ◌+◌, Bool, false, cond, List, [], ◌∷◌, ◌++◌, map, unsigned_abs, refl, sym, ap, ◌∙◌, subst, arith, append_assoc}
+use Rattle.std.specs.List.{flat_map, zip, list_any}
+use Rattle.std.specs.Option.{option_map_or}
+use Rattle.std.proofs.lemmas.Grind.{flat_map-append}
+use Rattle.stock_nums.specs.Shares.{shares}
+use Rattle.stock_nums.specs.Targets.{is_same_target}
+use Rattle.stock_nums.specs.declared.cause.Target.{Target}
+use Rattle.stock_model.specs.Faults.{lacks_target}
+use Rattle.stock_model.specs.Journals.{AreSoundAfter, AreSound}
+use Rattle.stock_model.specs.LandedCost.{line_weight, weight, weights, charged, record_charged, added}
+use Rattle.stock_model.specs.TargetLines.{target_line}
+use Rattle.stock_model.specs.VoucherLines.{landed_target}
+use Rattle.stock_model.specs.declared.records.Record.{Record}
+use Rattle.stock_model.specs.declared.vouchers.Basis.{Basis}
+use Rattle.stock_model.specs.declared.vouchers.What.{What}
+use Rattle.stock_model.specs.declared.vouchers.What.TheVariants.{Item, Store, Receipt, Issue, Transfer, CustomerReturn, SupplierReturn, Landed}
+use Rattle.stock_model.proofs.NoFaults.{NoFaults, NoFaults-from}
+use Rattle.stock_model.proofs.Numbered.{Fails, first_line-none}
+use Rattle.stock_model.proofs.Pairwise.{Each}
+use Rattle.stock_model.proofs.TargetItems.{some-from}
+use Rattle.stock_laws.proofs.RecordsAt.{target_line-append}
+use Rattle.cost_links.specs.Charged.{charged_to}
+use Rattle.cost_links.proofs.ChargeSums.{charged_to-cons, charged_to-append}
+use Rattle.repost_laws.specs.Touched.{is_the_line, landed_lines, charges_to, is_charged_by}
+use Rattle.repost_laws.proofs.Filtered.{or_false}
+
+-- the weights of lines that a journal has are the same in a longer one
+weights-longer : (journal more : List Record) (basis : Basis) (targets : List Target)
+    → Each (Fails (lacks_target journal)) (map landed_target targets) → weights (journal ++ more) basis targets
+    ≡ weights journal basis targets
+weights-longer journal more basis [] known = refl
+weights-longer journal more basis (target ∷ targets) known =
+    let found = some-from (target_line journal (landed_target target)) known.0 in
+    let own : weight (journal ++ more) basis target ≡ weight journal basis target = ap
+    (λ o. option_map_or (line_weight basis) o 0) (target_line-append journal more (landed_target target) found.0 found.1
+    ∙ sym found.1) in
+    ap (λ (w : ℕ). w ∷ weights (journal ++ more) basis targets) own
+    ∙ ap (λ (ws : List ℕ). weight journal basis target ∷ ws) (weights-longer journal more basis targets known.1)
+
+-- and so is what a voucher charges that had no fault
+charged-longer : (journal more : List Record) (what : What) → NoFaults journal what → charged (journal ++ more) what
+    ≡ charged journal what
+charged-longer journal more (Item code method) sound = refl
+charged-longer journal more (Store code account) sound = refl
+charged-longer journal more (Receipt at lines) sound = refl
+charged-longer journal more (Issue at purpose lines) sound = refl
+charged-longer journal more (Transfer at lines) sound = refl
+charged-longer journal more (CustomerReturn at lines) sound = refl
+charged-longer journal more (SupplierReturn at lines) sound = refl
+charged-longer journal more (Landed charge basis targets) sound =
+    ap (λ (ws : List ℕ). zip targets (shares (unsigned_abs charge.0) ws))
+    (weights-longer journal more basis targets (first_line-none (lacks_target journal) 1
+    (map landed_target targets) sound.known))
+
+-- what the records of a sound journal charge, whatever records follow
+charges-longer : (done rest more : List Record) → AreSoundAfter done rest
+    → flat_map (record_charged ((done ++ rest) ++ more)) rest ≡ flat_map (record_charged (done ++ rest)) rest
+charges-longer done [] more sound = refl
+charges-longer done (r ∷ rest) more sound =
+    let own = NoFaults-from done r.what sound.0 in
+    let long : charged ((done ++ r ∷ rest) ++ more) r.what ≡ charged done r.what =
+    ap (λ (j : List Record). charged j r.what) (append_assoc done (r ∷ rest) more)
+    ∙ charged-longer done (r ∷ rest ++ more) r.what own in
+    let short : charged (done ++ r ∷ rest) r.what ≡ charged done r.what = charged-longer done (r ∷ rest) r.what own in
+    let others : flat_map (record_charged ((done ++ r ∷ rest) ++ more)) rest ≡ flat_map (record_charged (done ++ r ∷ rest)) rest =
+    subst (λ (j : List Record). flat_map (record_charged (j ++ more)) rest ≡ flat_map (record_charged j) rest)
+    (append_assoc done (r ∷ []) rest) (charges-longer (done ++ r ∷ []) rest more sound.1) in
+    ap (λ cs. cs ++ flat_map (record_charged ((done ++ r ∷ rest) ++ more)) rest) (long ∙ sym short)
+    ∙ ap (λ cs. charged (done ++ r ∷ rest) r.what ++ cs) others
+
+-- nothing is charged to a line that is none of the targets
+zip-none : (line : Target) (targets : List Target) (ns : List ℕ) → list_any (is_the_line line) targets ≡ false
+    → charged_to line (zip targets ns) ≡ 0
+zip-none line [] ns none = refl
+zip-none line (target ∷ targets) [] none = refl
+zip-none line (target ∷ targets) (n ∷ ns) none =
+    let other = or_false (is_same_target target line) (list_any (is_the_line line) targets) none in
+    let own : charged_to line ((target, n) ∷ zip targets ns) ≡ 0 + charged_to line (zip targets ns) =
+    charged_to-cons line target n (zip targets ns) ∙ ap (λ (b : Bool). cond b n 0 + charged_to line (zip targets ns)) other.0 in
+    omega (arith, own, zip-none line targets ns other.1)
+
+charged-none : (journal : List Record) (what : What) (line : Target) → list_any (is_the_line line) (landed_lines what) ≡ false
+    → charged_to line (charged journal what) ≡ 0
+charged-none journal (Item code method) line none = refl
+charged-none journal (Store code account) line none = refl
+charged-none journal (Receipt at lines) line none = refl
+charged-none journal (Issue at purpose lines) line none = refl
+charged-none journal (Transfer at lines) line none = refl
+charged-none journal (CustomerReturn at lines) line none = refl
+charged-none journal (SupplierReturn at lines) line none = refl
+charged-none journal (Landed charge basis targets) line none = zip-none line targets
+    (shares (unsigned_abs charge.0) (weights journal basis targets)) none
+
+charges-none : (journal more : List Record) (line : Target) → is_charged_by more line ≡ false
+    → charged_to line (flat_map (record_charged journal) more) ≡ 0
+charges-none journal [] line none = refl
+charges-none journal (r ∷ more) line none =
+    let other = or_false (charges_to line r) (is_charged_by more line) none in
+    omega (
+      arith,
+      charged_to-append line (record_charged journal r)
+          (flat_map (record_charged journal) more),
+      charged-none journal r.what line other.0,
+      charges-none journal more line other.1,
+    )
+
+-- so other lines have the sum of charges that they had
+pub added-more : (journal more : List Record) (line : Target) → AreSound journal → is_charged_by more line ≡ false
+    → added (journal ++ more) line ≡ added journal line
+added-more journal more line sound none =
+    let all = journal ++ more in
+    let parts = ap (charged_to line) (flat_map-append (record_charged all) journal more)
+    ∙ charged_to-append line (flat_map (record_charged all) journal) (flat_map (record_charged all) more) in
+    let before = ap (charged_to line) (charges-longer [] journal more sound) in
+    omega (arith, parts, before, charges-none all more line none)

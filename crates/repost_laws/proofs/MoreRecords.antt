@@ -1,0 +1,181 @@
+-- The movements of a journal with more records are the old ones and new ones, in one order.
+use Rattle.std.proofs.Common.{◌≡◌, ℕ, ◌+◌, ◌<◌, ◌≤◌, true, ◌||◌, List, [], ◌∷◌, ◌++◌, length, filter, inl, inr, refl, sym, ap, ◌∙◌, subst, arith, append_assoc, length-append, Contains, ◌⊎◌}
+use Rattle.std.proofs.lemmas.Bool.{false≢true}
+use Rattle.std.proofs.lemmas.Bool.Decides.{nat_tests}
+use Rattle.std.proofs.lemmas.List.{append-nil}
+use Rattle.std.proofs.lemmas.List.Kept.{AllPairs-filter}
+use Rattle.std.proofs.lemmas.List.Sorted.{IsPermutation-sym, Contains-permutation}
+use Rattle.stock_nums.specs.declared.cause.Cause.{Cause}
+use Rattle.stock_nums.specs.declared.cause.Cause.TheVariants.{Receipt, Issue, TransferLeaves, TransferEnters, CustomerReturn, SupplierReturn}
+use Rattle.stock_nums.specs.declared.entry.Entry.{Entry}
+use Rattle.stock_nums.proofs.PlaceOrder.{is_before-irreflexive, is_before-asymmetric}
+use Rattle.stock_model.specs.Entries.{movements, entries, entries_after, all_entries}
+use Rattle.stock_model.specs.InOrder.{IsBefore}
+use Rattle.stock_model.specs.Journals.{AreLegal, AreSoundAfter, AreSound}
+use Rattle.stock_model.specs.LandedCost.{added}
+use Rattle.stock_model.specs.PostingOrder.{posting_line}
+use Rattle.stock_model.specs.VoucherLines.{moves_of}
+use Rattle.stock_model.specs.declared.records.Record.{Record}
+use Rattle.stock_model.specs.declared.vouchers.What.{What}
+use Rattle.stock_model.proofs.Growth.{all_entries-after}
+use Rattle.stock_model.proofs.Pairwise.{Each, Each-all, Each-append, Each-weaker, Pairwise-from_AllPairs, Pairwise-unique, Contains-cases, Contains-first, Contains-later}
+use Rattle.stock_laws.proofs.EntryRecords.{KnowsTarget, IsOfRecord}
+use Rattle.stock_laws.proofs.KnownEntries.{entries-known}
+use Rattle.stock_laws.proofs.Legality.{AreSound-from}
+use Rattle.stock_laws.proofs.LineEntries.{HoldsOf, movements-each}
+use Rattle.stock_laws.proofs.PostingLine.{IsInPostingOrder-posting_line, IsPermutation-posting_line}
+use Rattle.stock_laws.proofs.RecordsAt.{what_at-within}
+use Rattle.repost_laws.specs.Builds.{Suspects, IsOfOldLine, IsFetch}
+use Rattle.repost_laws.specs.Touched.{is_old, is_touched, is_charged_by}
+use Rattle.repost_laws.proofs.Filtered.{Contains-filtered, Contains-filter}
+use Rattle.repost_laws.proofs.MoreCharges.{added-more}
+use Rattle.repost_laws.proofs.Spreading.{Each-Contains}
+
+-- the movements of further records are of these
+abbrev IsOfNumber : ℕ → Entry → Type 0
+IsOfNumber n e = e.place.voucher.0 ≡ n
+
+abbrev IsAfter : ℕ → Entry → Type 0
+IsAfter n e = n < e.place.voucher.0
+
+movements-number : (journal : List Record) (n : ℕ) (what : What) → Each (IsOfNumber n) (movements journal n what)
+movements-number journal n what =
+    movements-each journal n what (IsOfNumber n)
+    (λ at timed i line is found found_is item named. Each-all (HoldsOf n at (1 + i) line item (IsOfNumber n))
+    (λ move store. refl) (moves_of what line found))
+
+entries-new : (journal more : List Record) → Each (IsAfter (length journal)) (entries_after journal more)
+entries-new journal [] = tt
+entries-new journal (r ∷ more) =
+    let longer = length-append journal (r ∷ []) in
+    Each-append (IsAfter (length journal)) (entries journal r) (entries_after (journal ++ r ∷ []) more)
+    (Each-weaker (IsOfNumber (length journal + 1)) (IsAfter (length journal)) (λ e is. omega (arith, is)) _
+    (movements-number journal (length journal + 1) r.what))
+    (Each-weaker (IsAfter (length (journal ++ r ∷ []))) (IsAfter (length journal)) (λ e is. omega (arith, is, longer)) _
+    (entries-new (journal ++ r ∷ []) more))
+
+entries_after-append : (done xs ys : List Record) → entries_after done (xs ++ ys)
+    ≡ entries_after done xs ++ entries_after (done ++ xs) ys
+entries_after-append done [] ys = ap (λ (j : List Record). entries_after j ys) (sym (append-nil done))
+entries_after-append done (x ∷ xs) ys =
+    ap (λ (es : List Entry). entries done x ++ es)
+    (entries_after-append (done ++ x ∷ []) xs ys ∙ ap (λ (j : List Record). entries_after
+    (done ++ x ∷ []) xs ++ entries_after j ys) (append_assoc done (x ∷ []) xs))
+    ∙ sym (append_assoc (entries done x) (entries_after (done ++ x ∷ []) xs) (entries_after (done ++ x ∷ xs) ys))
+
+all_entries-more : (journal more : List Record) → all_entries (journal ++ more)
+    ≡ all_entries journal ++ entries_after journal more
+all_entries-more journal more =
+    all_entries-after (journal ++ more) ∙ entries_after-append [] journal more
+    ∙ ap (λ (es : List Entry). es ++ entries_after journal more) (sym (all_entries-after journal))
+
+-- an element of two lists
+Contains-parts : (xs ys : List Entry) (e : Entry) → Contains (xs ++ ys) e → Contains xs e ⊎ Contains ys e
+Contains-parts [] ys e held = inr held
+Contains-parts (x ∷ xs) ys e held =
+    elim (Contains-cases x (xs ++ ys) e held) [
+      | inl same ↦ inl (subst (Contains (x ∷ xs)) same (Contains-first x xs))
+      | inr later ↦ elim (Contains-parts xs ys e later) [
+        | inl own ↦ inl (Contains-later x xs e own)
+        | inr other ↦ inr other
+      ]
+    ]
+
+Contains-front : (xs ys : List Entry) (e : Entry) → Contains xs e → Contains (xs ++ ys) e
+Contains-front [] ys e held = absurd (omega (arith, held.1))
+Contains-front (x ∷ xs) ys e held =
+    elim (Contains-cases x xs e held) [
+      | inl same ↦ subst (Contains (x ∷ xs ++ ys)) same (Contains-first x (xs ++ ys))
+      | inr later ↦ Contains-later x (xs ++ ys) e (Contains-front xs ys e later)
+    ]
+
+-- the posting line has the movements of the journal
+of_line : (journal : List Record) (e : Entry) → Contains (posting_line journal) e → Contains (all_entries journal) e
+of_line journal e held = Contains-permutation (posting_line journal) (all_entries journal) e
+    (IsPermutation-sym (all_entries journal) (posting_line journal) (IsPermutation-posting_line journal)) held
+
+in_line : (journal : List Record) (e : Entry) → Contains (all_entries journal) e → Contains (posting_line journal) e
+in_line journal e held = Contains-permutation (all_entries journal) (posting_line journal) e
+    (IsPermutation-posting_line journal) held
+
+known-in_line : (journal : List Record) (e : Entry) → AreSound journal → Contains (posting_line journal) e → IsOfRecord journal e
+known-in_line journal e sound held = Each-Contains (IsOfRecord journal) (all_entries journal) e (entries-known journal sound)
+    (of_line journal e held)
+
+old-number : (n : ℕ) (e : Entry) → is_old n e ≡ true → e.place.voucher.0 ≤ n
+old-number n e is = grind (arith, nat_tests)
+
+is_old-from : (n : ℕ) (e : Entry) → e.place.voucher.0 ≤ n → is_old n e ≡ true
+is_old-from n e few = grind (arith, nat_tests)
+
+never_itself : (e : Entry) → IsBefore e e → ⊥
+never_itself e h = false≢true (sym (is_before-irreflexive e.place) ∙ h)
+
+one_way : (a b : Entry) → IsBefore a b → IsBefore b a → ⊥
+one_way a b h k = false≢true (sym (is_before-asymmetric a.place b.place h) ∙ k)
+
+-- the old movements stand as they stood
+pub posting_line-old : (journal more : List Record) → AreSound journal
+    → filter (is_old (length journal)) (posting_line (journal ++ more)) ≡ posting_line journal
+posting_line-old journal more sound =
+    let n = length journal in
+    let all = journal ++ more in
+    Pairwise-unique IsBefore never_itself one_way (filter (is_old n) (posting_line all)) (posting_line journal)
+    (Pairwise-from_AllPairs IsBefore (filter (is_old n) (posting_line all))
+    (AllPairs-filter IsBefore (is_old n) (posting_line all) (IsInPostingOrder-posting_line all)))
+    (Pairwise-from_AllPairs IsBefore (posting_line journal) (IsInPostingOrder-posting_line journal))
+    (λ e held.
+    let parts = Contains-filtered (is_old n) (posting_line all) e held in
+    elim (Contains-parts (all_entries journal) (entries_after journal more) e
+    (subst (λ (es : List Entry). Contains es e) (all_entries-more journal more) (of_line all e parts.0))) [
+      | inl own ↦ in_line journal e own
+      | inr other ↦ absurd (omega (
+        arith,
+        Each-Contains (IsAfter n) (entries_after journal more) e
+            (entries-new journal more) other,
+        old-number n e parts.1,
+      ))
+    ])
+    (λ e held.
+    let known = known-in_line journal e sound held in
+    Contains-filter (is_old n) (posting_line all) e
+    (in_line all e (subst (λ (es : List Entry). Contains es e) (sym (all_entries-more journal more))
+    (Contains-front (all_entries journal) (entries_after journal more) e (of_line journal e held))))
+    (is_old-from n e (what_at-within journal e.place.voucher.0 known.what known.held)))
+
+-- each movement of a journal is of one of its records
+pub in_line-old : (journal : List Record) (e : Entry) → AreSound journal → Contains (posting_line journal) e
+    → is_old (length journal) e ≡ true
+in_line-old journal e sound held =
+    let known = known-in_line journal e sound held in
+    is_old-from (length journal) e (what_at-within journal e.place.voucher.0 known.what known.held)
+
+-- what an old movement returns is of a line of an old record
+old_line : (journal : List Record) (n : ℕ) (e : Entry) (cause : Cause) → KnowsTarget journal e cause → e.place.voucher.0 ≤ n
+    → IsOfOldLine n cause
+old_line journal n e (Receipt amount) knows few = tt
+old_line journal n e (Issue sold) knows few = tt
+old_line journal n e TransferLeaves knows few = tt
+old_line journal n e TransferEnters knows few = tt
+old_line journal n e (CustomerReturn target issued) knows few = omega (arith, knows.earlier, few)
+old_line journal n e (SupplierReturn target amount received) knows few = tt
+
+AreSoundAfter-first : (done front rest : List Record) → AreSoundAfter done (front ++ rest) → AreSoundAfter done front
+AreSoundAfter-first done [] rest sound = tt
+AreSoundAfter-first done (r ∷ front) rest sound = (sound.0, AreSoundAfter-first (done ++ r ∷ []) front rest sound.1)
+
+pub IsFetch-more : (journal more : List Record) (suspects new_suspects : Suspects) → AreLegal (journal ++ more)
+    → ((e : Entry) → Contains (posting_line (journal ++ more)) e → new_suspects e.place
+    ≡ (suspects e.place || is_touched (length journal) (is_charged_by more) (posting_line (journal ++ more)) e))
+    → IsFetch (length journal) (is_charged_by more) (added journal) (posting_line journal) suspects (added (journal ++ more))
+    (posting_line (journal ++ more)) new_suspects
+IsFetch-more journal more suspects new_suspects legal marked =
+    let all_sound = AreSound-from (journal ++ more) legal in
+    let sound : AreSound journal = AreSoundAfter-first [] journal more all_sound in
+    record {
+      old = posting_line-old journal more sound;
+      returned = λ e held is. old_line (journal ++ more) (length journal) e e.cause
+          (known-in_line (journal ++ more) e all_sound held).target (old-number (length journal) e is);
+      others = λ target none. added-more journal more target sound none;
+      marked = marked;
+    }

@@ -1,0 +1,5 @@
+use Rattle.repost_laws.proofs.LongerLines.{IsBuilt-fetch}
+use Rattle.repost_laws.proofs.build_laws.a_fetch_keeps_what_is_built.Goals as goal
+
+pub returns : goal.returns
+returns c = IsBuilt-fetch

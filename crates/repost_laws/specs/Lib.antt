@@ -1,0 +1,4 @@
+pub mod Pieces
+pub mod Valuations
+pub mod Touched
+pub mod Builds
