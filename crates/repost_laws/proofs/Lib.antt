@@ -10,3 +10,4 @@ pub mod TurnCounts
 pub mod MoreCharges
 pub mod MoreRecords
 pub mod SincePublished
+pub mod FirstSuspect

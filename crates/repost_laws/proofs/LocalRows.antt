@@ -50,16 +50,16 @@ last-next : (past : List Entry) (e : Entry) (key : Key) → last_of_key (past ++
     ≡ cond (is_of_key key e) (Some e) (last_of_key past key)
 last-next past e key = ap (find (is_of_key key)) (reverse-append past (e ∷ []))
 
-rows_of-next : (journal : List Record) (past : List Entry) (e : Entry) → rows_of journal (past ++ e ∷ [])
+pub rows_of-next : (journal : List Record) (past : List Entry) (e : Entry) → rows_of journal (past ++ e ∷ [])
     ≡ value_next journal (rows_of journal past) e
 rows_of-next journal past e = fold-append (value_next journal) [] past (e ∷ [])
 
 -- what stands before a movement of a legal line: with it the rows are bounded, and no more left than entered
-record CanFollow (journal : List Record) (past : List Entry) (e : Entry) : Type 0 where
-  bounded : AreBounded (value_next journal (rows_of journal past) e)
-  covered : (key : Key) → quantity_out (rows_of journal past) key ≤ quantity_in (rows_of journal past) key
+pub record CanFollow (journal : List Record) (past : List Entry) (e : Entry) : Type 0 where
+  pub bounded : AreBounded (value_next journal (rows_of journal past) e)
+  pub covered : (key : Key) → quantity_out (rows_of journal past) key ≤ quantity_in (rows_of journal past) key
 
-CanFollow-legal : (formula : ℕ → Method) (journal : List Record) (past : List Entry) (e : Entry) (rest : List Entry)
+pub CanFollow-legal : (formula : ℕ → Method) (journal : List Record) (past : List Entry) (e : Entry) (rest : List Entry)
     → IsLegalLine formula journal (past ++ e ∷ rest) → CanFollow journal past e
 CanFollow-legal formula journal past e rest legal =
     let line = past ++ e ∷ rest in
@@ -78,7 +78,7 @@ pub record IsFoundSoFar (formula : ℕ → Method) (journal : List Record) (foun
   pub averages : (key : Key) → formula key.item.0 ≡ Average → IsAverageOf (rows_of journal past) key
       (held_then found (last_of_key past key))
 
-IsFoundSoFar-nil : (formula : ℕ → Method) (journal : List Record) (found : Found) → IsFoundSoFar formula journal found []
+pub IsFoundSoFar-nil : (formula : ℕ → Method) (journal : List Record) (found : Found) → IsFoundSoFar formula journal found []
 IsFoundSoFar-nil formula journal found =
     record { rows = refl; averages = λ key average. record { quantity = refl; worth = refl } }
 
@@ -132,11 +132,6 @@ IsFoundSoFar-next formula journal found past e follows has local so_far =
         subst (λ (k : Key). IsAverageOf (value_next journal (rows_of journal past) e) k (held_then found (Some e))) same
         (subst (IsAverageOf (value_next journal (rows_of journal past) e) (entry_key e)) (sym held) after)
 
--- an element in the midst of a list is in it
-Contains-middle : (past : List Entry) (e : Entry) (rest : List Entry) → Contains (past ++ e ∷ rest) e
-Contains-middle [] e rest = Contains-first e rest
-Contains-middle (f ∷ past) e rest = Contains-later f (past ++ e ∷ rest) e (Contains-middle past e rest)
-
 -- a local movement of a line is valued from what stands before it
 local-past : (charged : Target → ℕ) (found : Found) (past : List Entry) (e : Entry) (rest : List Entry)
     → IsInPostingOrder (past ++ e ∷ rest) → IsLocal charged found (past ++ e ∷ rest) e
@@ -144,35 +139,46 @@ local-past : (charged : Target → ℕ) (found : Found) (past : List Entry) (e :
 local-past charged found past e rest ordered local =
     local ∙ ap (λ (es : List Entry). Some (valued_with (taken_from charged found es e) e)) (earlier-is_past past e rest ordered)
 
-has-middle : (formula : ℕ → Method) (past : List Entry) (e : Entry) (rest : List Entry)
+pub has-middle : (formula : ℕ → Method) (past : List Entry) (e : Entry) (rest : List Entry)
     → All (HasFormula formula) (past ++ e ∷ rest) → HasFormula formula e
 has-middle formula [] e rest all = All-head (HasFormula formula) e rest all
 has-middle formula (f ∷ past) e rest all = has-middle formula past e rest (All-tail (HasFormula formula) f (past ++ e ∷ rest) all)
 
--- and so one after another
-IsFoundSoFar-all : (formula : ℕ → Method) (journal : List Record) (found : Found) (past rest : List Entry)
-    → IsLegalLine formula journal (past ++ rest) → IsInPostingOrder (past ++ rest)
-    → AreLocal (added journal) found (past ++ rest) → IsFoundSoFar formula journal found past
-    → IsFoundSoFar formula journal found (past ++ rest)
-IsFoundSoFar-all formula journal found past [] legal ordered local so_far =
+-- and so one after another, to where each is local
+pub IsFoundSoFar-all : (formula : ℕ → Method) (journal : List Record) (found : Found) (past more tail : List Entry)
+    → IsLegalLine formula journal ((past ++ more) ++ tail) → IsInPostingOrder ((past ++ more) ++ tail)
+    → ((e : Entry) → Contains more e → IsLocal (added journal) found ((past ++ more) ++ tail) e)
+    → IsFoundSoFar formula journal found past → IsFoundSoFar formula journal found (past ++ more)
+IsFoundSoFar-all formula journal found past [] tail legal ordered local so_far =
     subst (IsFoundSoFar formula journal found) (sym (append-nil past)) so_far
-IsFoundSoFar-all formula journal found past (e ∷ rest) legal ordered local so_far =
-    let parts : (past ++ e ∷ []) ++ rest ≡ past ++ e ∷ rest = append_assoc past (e ∷ []) rest in
-    let next = IsFoundSoFar-next formula journal found past e (CanFollow-legal formula journal past e rest legal)
-    (has-middle formula past e rest legal.formulas)
-    (local-past (added journal) found past e rest ordered (local e (Contains-middle past e rest))) so_far in
-    subst (IsFoundSoFar formula journal found) parts
-    (IsFoundSoFar-all formula journal found (past ++ e ∷ []) rest (subst (IsLegalLine formula journal) (sym parts) legal)
-    (subst IsInPostingOrder (sym parts) ordered)
-    (subst (AreLocal (added journal) found) (sym parts) local) next)
+IsFoundSoFar-all formula journal found past (e ∷ more) tail legal ordered local so_far =
+    let line = (past ++ e ∷ more) ++ tail in
+    let here : line ≡ past ++ e ∷ (more ++ tail) = append_assoc past (e ∷ more) tail in
+    let front : (past ++ e ∷ []) ++ more ≡ past ++ e ∷ more = append_assoc past (e ∷ []) more in
+    let all : ((past ++ e ∷ []) ++ more) ++ tail ≡ line = ap (λ (es : List Entry). es ++ tail) front in
+    let legal_here : IsLegalLine formula journal (past ++ e ∷ (more ++ tail)) = subst (IsLegalLine formula journal) here legal in
+    let next = IsFoundSoFar-next formula journal found past e (CanFollow-legal formula journal past e (more ++ tail) legal_here)
+    (has-middle formula past e (more ++ tail) legal_here.formulas)
+    (local-past (added journal) found past e (more ++ tail) (subst IsInPostingOrder here ordered)
+    (subst (λ (es : List Entry). IsLocal (added journal) found es e) here (local e (Contains-first e more)))) so_far in
+    subst (IsFoundSoFar formula journal found) front
+    (IsFoundSoFar-all formula journal found (past ++ e ∷ []) more tail (subst (IsLegalLine formula journal) (sym all) legal)
+    (subst IsInPostingOrder (sym all) ordered)
+    (λ f held. subst (λ (es : List Entry). IsLocal (added journal) found es f) (sym all)
+    (local f (Contains-later e more f held))) next)
 
 pub found_rows-replay : (journal : List Record) (found : Found) → AreLegal journal
     → AreLocal (added journal) found (posting_line journal) → found_rows found (posting_line journal) ≡ replay journal
 unfolding replay
 found_rows-replay journal found legal local =
     let formula = (posting_line-formula journal).0 in
-    (IsFoundSoFar-all formula journal found [] (posting_line journal) (IsLegalLine-journal journal legal)
-    (IsInPostingOrder-posting_line journal) local (IsFoundSoFar-nil formula journal found)).rows
+    let line = posting_line journal in
+    let all : line ++ [] ≡ line = append-nil line in
+    (IsFoundSoFar-all formula journal found [] line [] (subst (IsLegalLine formula journal) (sym all)
+    (IsLegalLine-journal journal legal))
+    (subst IsInPostingOrder (sym all) (IsInPostingOrder-posting_line journal))
+    (λ e held. subst (λ (es : List Entry). IsLocal (added journal) found es e) (sym all) (local e held))
+    (IsFoundSoFar-nil formula journal found)).rows
 
 -- one valuation from rows of the replay
 pub valuation-worth : (journal : List Record) (found : Found) (past rest : List Entry) (e : Entry) → past ++ e ∷ rest

@@ -81,7 +81,7 @@ Contains-parts (x ∷ xs) ys e held =
       ]
     ]
 
-Contains-front : (xs ys : List Entry) (e : Entry) → Contains xs e → Contains (xs ++ ys) e
+pub Contains-front : (xs ys : List Entry) (e : Entry) → Contains xs e → Contains (xs ++ ys) e
 Contains-front [] ys e held = absurd (omega (arith, held.1))
 Contains-front (x ∷ xs) ys e held =
     elim (Contains-cases x xs e held) [

@@ -34,7 +34,7 @@ pub AreAhead-turn : (charged : Target → ℕ) (line : List Entry) (found : Foun
     → IsTurn charged line found suspects e new_found new_suspects → AreAhead line new_suspects (Some e.place)
 AreAhead-turn charged line found suspects e new_found new_suspects turn f held suspect =
     elim ((turn.marked f held).0 suspect) [
-      | inl old ↦ after-from f.place e.place (turn.first f held old.0) old.1
+      | inl old ↦ after-from f.place e.place (turn.first.first f held old.0) old.1
       | inr marked ↦ marked-before line found e.place (valuation charged found line e) f marked
     ]
 
@@ -107,8 +107,8 @@ pub AreFew-turn : (charged : Target → ℕ) (line : List Entry) (found : Found)
     → AreFew line new_suspects (Some e.place) entries fetches (turns + 1)
 AreFew-turn charged line found suspects e new_found new_suspects last entries fetches turns turn ahead few =
     let counts = counted (fetches * (entries + 1)) turns entries (passed line last) (passed line (Some e.place)) (length line)
-    (few.since e turn.held turn.suspect)
-    (passed-more line last e turn.held (ahead e turn.held turn.suspect))
+    (few.since e turn.first.held turn.suspect)
+    (passed-more line last e turn.first.held (ahead e turn.first.held turn.suspect))
     (length-filter-le (is_passed (Some e.place)) line) few.fits in
     record { fits = few.fits; bound = counts.0; since = λ f held suspect. counts.1 }
 

@@ -181,7 +181,7 @@ IsBuilt-turn charged line found suspects e new_found new_suspects ordered turn b
     let never : IsTrue (new_suspects f.place) → ⊥ = λ is. false≢true (sym clear ∙ is) in
     elim (place-cases f.place e.place) [
       | inl same ↦
-          let one : f ≡ e = one_place line e f (Pairwise-from_AllPairs IsBefore line ordered) turn.held held same in
+          let one : f ≡ e = one_place line e f (Pairwise-from_AllPairs IsBefore line ordered) turn.first.held held same in
           subst (IsLocal charged new_found line) (sym one) (IsLocal-valued charged line found new_found e turn.valued)
       | inr other ↦
           let unmarked : IsMarked line found e.place now f → ⊥ = λ marked. never ((turn.marked f held).1 (inr marked)) in

@@ -64,12 +64,16 @@ pub record IsFoundAt (found new_found : Found) (place : Place) (now : Valued) : 
   pub own : new_found place ≡ Some now
   pub others : (p : Place) → p ≢ place → new_found p ≡ found p
 
+-- the movement is of the line, and no suspect comes before it
+pub record IsFirst (line : List Entry) (suspects : Suspects) (e : Entry) : Type 0 where
+  pub held : Contains line e
+  pub first : (f : Entry) → Contains line f → suspects f.place ≡ true → is_before f.place e.place ≡ false
+
 -- the first suspect is valued, is suspect no longer, and makes suspect what it marks
 pub record IsTurn (charged : Target → ℕ) (line : List Entry) (found : Found) (suspects : Suspects) (e : Entry)
     (new_found : Found) (new_suspects : Suspects) : Type 0 where
-  pub held : Contains line e
   pub suspect : suspects e.place ≡ true
-  pub first : (f : Entry) → Contains line f → suspects f.place ≡ true → is_before f.place e.place ≡ false
+  pub first : IsFirst line suspects e
   pub valued : IsFoundAt found new_found e.place (valuation charged found line e)
   pub marked : (f : Entry) → Contains line f → IsTrue (new_suspects f.place)
       ↔ ((IsTrue (suspects f.place) × (f.place ≢ e.place)) ⊎ IsMarked line found e.place (valuation charged found line e) f)

@@ -8,3 +8,4 @@ pub mod journal_laws;
 pub mod local_laws;
 pub mod publication_laws;
 pub mod turn_laws;
+pub mod value_laws;
