@@ -1,5 +1,6 @@
 -- In a line in posting order the movements that come before one are those that stand before it.
-use Rattle.std.proofs.Common.{◌≡◌, Bool, cond, List, [], ◌∷◌, ◌++◌, filter, refl, ap, ◌∙◌}
+use Rattle.std.proofs.Common.{◌≡◌, Bool, cond, List, [], ◌∷◌, ◌++◌, filter, refl, sym, ap, ◌∙◌}
+use Rattle.std.proofs.lemmas.Bool.{false≢true}
 use Rattle.stock_nums.specs.declared.entry.Entry.{Entry}
 use Rattle.stock_nums.proofs.PlaceOrder.{is_before-irreflexive, is_before-asymmetric}
 use Rattle.stock_model.specs.InOrder.{IsBefore, IsInPostingOrder}
@@ -35,3 +36,10 @@ earlier-pairwise (f ∷ past) e rest ordered =
 pub earlier-is_past : (past : List Entry) (e : Entry) (rest : List Entry) → IsInPostingOrder (past ++ e ∷ rest)
     → earlier (past ++ e ∷ rest) e ≡ past
 earlier-is_past past e rest ordered = earlier-pairwise past e rest (Pairwise-from_AllPairs IsBefore (past ++ e ∷ rest) ordered)
+
+-- of two movements at most one comes before the other
+pub never_both : (a b : Entry) → IsBefore a b → IsBefore b a → ⊥
+never_both a b h k = false≢true (sym (is_before-asymmetric a.place b.place h) ∙ k)
+
+pub never_itself : (a : Entry) → IsBefore a a → ⊥
+never_itself a h = never_both a a h h

@@ -170,7 +170,8 @@ linked-small journal found rows past e TransferLeaves linked lines small = taken
     (cost-small (cost_by e.method rows e) small)
 linked-small journal found rows past e TransferEnters linked lines small = omega (arith, linked, lines (own_line e))
 linked-small journal found rows past e (CustomerReturn target issued) linked lines small = omega (arith, linked, lines target)
-linked-small journal found rows past e (SupplierReturn target amount received) linked lines small = taken-small e.method found rows past e refl linked (cost-small (cost_by e.method rows e) small)
+linked-small journal found rows past e (SupplierReturn target amount received) linked lines small =
+    taken-small e.method found rows past e refl linked (cost-small (cost_by e.method rows e) small)
 
 pub first-can : (journal : List Record) (found : Found) (suspects : Suspects) (e : Entry) → AreLegal journal
     → IsBuilt (added journal) (posting_line journal) found suspects → IsFirst (posting_line journal) suspects e

@@ -11,3 +11,4 @@ pub mod MoreCharges
 pub mod MoreRecords
 pub mod SincePublished
 pub mod FirstSuspect
+pub mod NextOnes

@@ -1,6 +1,5 @@
 -- The movements of a journal with more records are the old ones and new ones, in one order.
 use Rattle.std.proofs.Common.{◌≡◌, ℕ, ◌+◌, ◌<◌, ◌≤◌, true, ◌||◌, List, [], ◌∷◌, ◌++◌, length, filter, inl, inr, refl, sym, ap, ◌∙◌, subst, arith, append_assoc, length-append, Contains, ◌⊎◌}
-use Rattle.std.proofs.lemmas.Bool.{false≢true}
 use Rattle.std.proofs.lemmas.Bool.Decides.{nat_tests}
 use Rattle.std.proofs.lemmas.List.{append-nil}
 use Rattle.std.proofs.lemmas.List.Kept.{AllPairs-filter}
@@ -8,7 +7,6 @@ use Rattle.std.proofs.lemmas.List.Sorted.{IsPermutation-sym, Contains-permutatio
 use Rattle.stock_nums.specs.declared.cause.Cause.{Cause}
 use Rattle.stock_nums.specs.declared.cause.Cause.TheVariants.{Receipt, Issue, TransferLeaves, TransferEnters, CustomerReturn, SupplierReturn}
 use Rattle.stock_nums.specs.declared.entry.Entry.{Entry}
-use Rattle.stock_nums.proofs.PlaceOrder.{is_before-irreflexive, is_before-asymmetric}
 use Rattle.stock_model.specs.Entries.{movements, entries, entries_after, all_entries}
 use Rattle.stock_model.specs.InOrder.{IsBefore}
 use Rattle.stock_model.specs.Journals.{AreLegal, AreSoundAfter, AreSound}
@@ -27,6 +25,7 @@ use Rattle.stock_laws.proofs.PostingLine.{IsInPostingOrder-posting_line, IsPermu
 use Rattle.stock_laws.proofs.RecordsAt.{what_at-within}
 use Rattle.repost_laws.specs.Builds.{Suspects, IsOfOldLine, IsFetch}
 use Rattle.repost_laws.specs.Touched.{is_old, is_touched, is_charged_by}
+use Rattle.repost_laws.proofs.EarlierOnes.{never_both, never_itself}
 use Rattle.repost_laws.proofs.Filtered.{Contains-filtered, Contains-filter}
 use Rattle.repost_laws.proofs.MoreCharges.{added-more}
 use Rattle.repost_laws.proofs.Spreading.{Each-Contains}
@@ -108,19 +107,13 @@ old-number n e is = grind (arith, nat_tests)
 is_old-from : (n : ℕ) (e : Entry) → e.place.voucher.0 ≤ n → is_old n e ≡ true
 is_old-from n e few = grind (arith, nat_tests)
 
-never_itself : (e : Entry) → IsBefore e e → ⊥
-never_itself e h = false≢true (sym (is_before-irreflexive e.place) ∙ h)
-
-one_way : (a b : Entry) → IsBefore a b → IsBefore b a → ⊥
-one_way a b h k = false≢true (sym (is_before-asymmetric a.place b.place h) ∙ k)
-
 -- the old movements stand as they stood
 pub posting_line-old : (journal more : List Record) → AreSound journal
     → filter (is_old (length journal)) (posting_line (journal ++ more)) ≡ posting_line journal
 posting_line-old journal more sound =
     let n = length journal in
     let all = journal ++ more in
-    Pairwise-unique IsBefore never_itself one_way (filter (is_old n) (posting_line all)) (posting_line journal)
+    Pairwise-unique IsBefore never_itself never_both (filter (is_old n) (posting_line all)) (posting_line journal)
     (Pairwise-from_AllPairs IsBefore (filter (is_old n) (posting_line all))
     (AllPairs-filter IsBefore (is_old n) (posting_line all) (IsInPostingOrder-posting_line all)))
     (Pairwise-from_AllPairs IsBefore (posting_line journal) (IsInPostingOrder-posting_line journal))

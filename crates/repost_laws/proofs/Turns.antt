@@ -37,7 +37,7 @@ place-cases p q =
       ]
     ]
 
-both-true : (a b : Bool) → (a && b) ≡ true → (a ≡ true) × (b ≡ true)
+pub both-true : (a b : Bool) → (a && b) ≡ true → (a ≡ true) × (b ≡ true)
 both-true true b h = (refl, h)
 both-true false b h = absurd (false≢true h)
 
@@ -152,7 +152,7 @@ IsLocal-valued charged line found new_found e at =
     (never_marked_itself line found (valuation charged found line e) e)))
 
 -- in a line in order no two movements have one place
-one_place : (line : List Entry) (e f : Entry) → Pairwise IsBefore line → Contains line e → Contains line f → f.place ≡ e.place
+pub one_place : (line : List Entry) (e f : Entry) → Pairwise IsBefore line → Contains line e → Contains line f → f.place ≡ e.place
     → f ≡ e
 one_place [] e f ordered held other same = absurd (omega (arith, held.1))
 one_place (g ∷ line) e f ordered held other same =

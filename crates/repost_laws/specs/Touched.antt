@@ -1,9 +1,10 @@
 -- Which movements need a new value when records come in, and when what was found of one movement changes.
-use Rattle.std.specs.Prelude.{ℕ, ◌≡◌, Bool, false, ◌&&◌, ◌||◌, ◌==◌, not, List, [], filter, nat_lt, Some, Contains, ◌⊎◌}
-use Rattle.std.specs.List.{list_any}
+use Rattle.std.specs.Prelude.{ℕ, ◌≡◌, Bool, false, ◌&&◌, ◌||◌, ◌==◌, not, List, [], filter, nat_lt, Option, Some, Contains, ◌⊎◌}
+use Rattle.std.specs.List.{find, list_any}
 use Rattle.std.specs.Option.{option_map, option_map_or}
 use Rattle.std.specs.Ordering.{int_eq}
 use Rattle.stock_nums.specs.Causes.{is_entering}
+use Rattle.stock_nums.specs.Places.{is_before}
 use Rattle.stock_nums.specs.Targets.{is_same_target}
 use Rattle.stock_nums.specs.declared.cause.Cause.{Cause}
 use Rattle.stock_nums.specs.declared.cause.Cause.TheVariants.{CustomerReturn, SupplierReturn}
@@ -103,3 +104,10 @@ charges_to line item = list_any (is_the_line line) (landed_lines item.what)
 -- one of the records charges something to the line
 abbrev pub is_charged_by : List Record → Target → Bool
 is_charged_by more line = list_any (charges_to line) more
+
+-- the first movement of the line that comes after this one and is of the same item in the same warehouse
+abbrev pub follows_in_key : Entry → Entry → Bool
+follows_in_key g f = is_of_key (entry_key g) f && is_before g.place f.place
+
+abbrev pub next_of_key : List Entry → Entry → Option Entry
+next_of_key line g = find (follows_in_key g) line
