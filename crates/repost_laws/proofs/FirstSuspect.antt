@@ -54,12 +54,12 @@ use Rattle.repost_laws.proofs.MoreRecords.{Contains-front}
 use Rattle.repost_laws.proofs.Turns.{false-from}
 
 -- an element of a list stands between those before it and those after it
-record IsSplit (line : List Entry) (e : Entry) : Type 0 where
-  past : List Entry
-  rest : List Entry
-  parts : past ++ e ∷ rest ≡ line
+pub record IsSplit (line : List Entry) (e : Entry) : Type 0 where
+  pub past : List Entry
+  pub rest : List Entry
+  pub parts : past ++ e ∷ rest ≡ line
 
-split-at : (line : List Entry) (e : Entry) → Contains line e → IsSplit line e
+pub split-at : (line : List Entry) (e : Entry) → Contains line e → IsSplit line e
 split-at [] e held = absurd (omega (arith, held.1))
 split-at (f ∷ line) e held =
     elim (Contains-cases f line e held) [

@@ -12,3 +12,4 @@ pub mod MoreRecords
 pub mod SincePublished
 pub mod FirstSuspect
 pub mod NextOnes
+pub mod RangePieces

@@ -40,7 +40,7 @@ use Rattle.repost_laws.proofs.FoundRows.{IsTakenFrom-found, valued-is}
 take-past : (past rest : List Entry) → take (length past) (past ++ rest) ≡ past
 take-past past rest = take-append-le (length past) past rest (omega arith) ∙ take_all (length past) past (omega arith)
 
-take-next : (past : List Entry) (e : Entry) (rest : List Entry) → take (length (past ++ e ∷ [])) (past ++ e ∷ rest)
+pub take-next : (past : List Entry) (e : Entry) (rest : List Entry) → take (length (past ++ e ∷ [])) (past ++ e ∷ rest)
     ≡ past ++ e ∷ []
 take-next past e rest = ap (take (length (past ++ e ∷ []))) (sym (append_assoc past (e ∷ []) rest))
     ∙ take-past (past ++ e ∷ []) rest

@@ -165,7 +165,7 @@ module _ (p : Entry → Bool) where
       ])
 
 -- what is before or after a movement of the line, or is it
-place_of : (line : List Entry) (f e : Entry) → Pairwise IsBefore line → Contains line f → Contains line e → (f ≡ e)
+pub place_of : (line : List Entry) (f e : Entry) → Pairwise IsBefore line → Contains line f → Contains line e → (f ≡ e)
     ⊎ (IsBefore f e ⊎ IsBefore e f)
 place_of line f e ordered held other =
     elim (is_before-total f.place e.place) [

@@ -76,7 +76,7 @@ abbrev is_as_published_at : ValuedSince → Entry → Bool
 is_as_published_at valued e = not (valued e.place)
 
 -- where all that pass one test pass another, those that pass both are those that pass the first
-filter-implied : (p q : Entry → Bool) (es : List Entry) → ((e : Entry) → Contains es e → p e ≡ true → q e ≡ true)
+pub filter-implied : (p q : Entry → Bool) (es : List Entry) → ((e : Entry) → Contains es e → p e ≡ true → q e ≡ true)
     → filter p (filter q es) ≡ filter p es
 filter-implied p q [] implied = refl
 filter-implied p q (e ∷ es) implied = by_cases (p e) refl (q e) refl

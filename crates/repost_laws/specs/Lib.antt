@@ -2,3 +2,4 @@ pub mod Pieces
 pub mod Valuations
 pub mod Touched
 pub mod Builds
+pub mod Ranges
