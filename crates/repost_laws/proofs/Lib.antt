@@ -13,3 +13,4 @@ pub mod SincePublished
 pub mod FirstSuspect
 pub mod NextOnes
 pub mod RangePieces
+pub mod InOrderFound

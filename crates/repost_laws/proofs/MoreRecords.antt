@@ -69,7 +69,7 @@ all_entries-more journal more =
     ∙ ap (λ (es : List Entry). es ++ entries_after journal more) (sym (all_entries-after journal))
 
 -- an element of two lists
-Contains-parts : (xs ys : List Entry) (e : Entry) → Contains (xs ++ ys) e → Contains xs e ⊎ Contains ys e
+pub Contains-parts : (xs ys : List Entry) (e : Entry) → Contains (xs ++ ys) e → Contains xs e ⊎ Contains ys e
 Contains-parts [] ys e held = inr held
 Contains-parts (x ∷ xs) ys e held =
     elim (Contains-cases x (xs ++ ys) e held) [

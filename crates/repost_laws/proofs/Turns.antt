@@ -145,7 +145,7 @@ never_marked_itself line found now e (inr (takes, changed)) = false≢true
     (sym (is_before-irreflexive e.place) ∙ spread-before line e.place e (inr takes))
 
 -- the movement that is valued is what it is valued at
-IsLocal-valued : (charged : Target → ℕ) (line : List Entry) (found new_found : Found) (e : Entry)
+pub IsLocal-valued : (charged : Target → ℕ) (line : List Entry) (found new_found : Found) (e : Entry)
     → IsFoundAt found new_found e.place (valuation charged found line e) → IsLocal charged new_found line e
 IsLocal-valued charged line found new_found e at =
     at.own ∙ ap Some (sym (valuation-unmarked charged line found new_found e.place (valuation charged found line e) e at

@@ -1,8 +1,9 @@
 -- How a movement is valued from what was found of the movements before it, by its line alone and with no replay.
-use Rattle.std.specs.Prelude.{ℕ, pos, ◌≡◌, ◌+◌, Bool, ◌&&◌, not, List, [], map, filter, reverse, sum_by, unsigned_abs, Option, Some, None, Contains}
+use Rattle.std.specs.Prelude.{ℕ, pos, ◌≡◌, ◌+◌, Bool, ◌&&◌, not, List, [], map, filter, reverse, fold, sum_by, unsigned_abs, Option, Some, None, if◌then◌else◌, Contains}
 use Rattle.std.specs.List.{find}
 use Rattle.std.specs.Option.{option_map_or}
 use Rattle.stock_nums.specs.Causes.{is_entering}
+use Rattle.stock_nums.specs.Places.{is_before}
 use Rattle.stock_nums.specs.Targets.{is_same_target}
 use Rattle.stock_nums.specs.declared.cause.Cause.{Cause}
 use Rattle.stock_nums.specs.declared.cause.Cause.TheVariants.{Receipt, TransferEnters, CustomerReturn, SupplierReturn}
@@ -147,3 +148,18 @@ IsLocal charged found line e = found e.place ≡ Some (valuation charged found l
 -- so it is of each movement of the line
 abbrev pub AreLocal : (Target → ℕ) → Found → List Entry → Type 0
 AreLocal charged found line = (e : Entry) → Contains line e → IsLocal charged found line e
+
+-- the two places are one: neither comes before the other
+abbrev pub is_one_place : Place → Place → Bool
+is_one_place p q = not (is_before p q) && not (is_before q p)
+
+-- what was found, with one more movement valued
+abbrev pub found_with : (Target → ℕ) → List Entry → Found → Entry → Found
+found_with charged line found e place = if is_one_place place e.place then Some (valuation charged found line e) else found place
+
+abbrev pub nothing_found : Found
+nothing_found place = None
+
+-- what is found where all movements of a line are valued in their order
+abbrev pub found_in_order : (Target → ℕ) → List Entry → Found
+found_in_order charged line = fold (found_with charged line) nothing_found line
