@@ -13,7 +13,8 @@ use Rattle.repost_laws.specs.Valuations.{Valued, Found, valuation}
 use Rattle.repost_laws.proofs.Spreading.{spread-before}
 
 -- what is marked lies later
-pub marked-before : (line : List Entry) (found : Found) (place : Place) (now : Valued) (f : Entry) → IsMarked line found place now f
+pub marked-before : (line : List Entry) (found : Found) (place : Place) (now : Valued) (f : Entry)
+    → IsMarked line found place now f
     → is_before place f.place ≡ true
 marked-before line found place now f (inl (starts, changed)) = spread-before line place f (inl starts)
 marked-before line found place now f (inr (takes, changed)) = spread-before line place f (inr takes)

@@ -13,7 +13,8 @@ ghost use Rattle.stock_model.specs.Replay.{valued, value_next, rows_of, replay};
 ghost use Rattle.stock_model.specs.declared.records.Record.{Record};
 ghost use Rattle.cost_links.specs.Stocks.{IsAverageOf};
 ghost use Rattle.repost_laws.specs.Pieces.{pieces, has_units, piece_value};
-ghost use Rattle.repost_laws.specs.Valuations.{Found, found_row, found_rows, last_of_key, held_then, valuation, AreLocal, found_in_order};
+ghost use Rattle.repost_laws.specs.Valuations.{Found, found_row, found_rows, last_of_key};
+ghost use Rattle.repost_laws.specs.Valuations.{held_then, valuation, AreLocal, found_in_order};
 
 /// What units cost first in, first out is the sum of the parts of what entered: of each movement the part that falls to
 /// those of its units that are taken.
@@ -45,7 +46,8 @@ pub fn one_valuation_is_that_of_the_replay()
 /// Each line in posting order has something found that is local at each movement: what is found where they are valued in
 /// their order.
 pub fn each_line_has_local_values()
-    ensures { (charged : Target → ℕ) (line : List Entry) → IsInPostingOrder line → AreLocal charged (found_in_order charged line) line }
+    ensures { (charged : Target → ℕ) (line : List Entry) → IsInPostingOrder line
+        → AreLocal charged (found_in_order charged line) line }
 {}
 
 /// Where each movement of a legal journal was found to be what it is valued at from what was found of those that it looks
