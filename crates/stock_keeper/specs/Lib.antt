@@ -1,0 +1,4 @@
+pub mod Worths
+pub mod Changed
+pub mod Keeping
+pub mod Memory
