@@ -1,3 +1,4 @@
 pub mod Pairs
 pub mod SpotOrder
 pub mod Putting
+pub mod Images

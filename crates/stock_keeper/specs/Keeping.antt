@@ -25,3 +25,7 @@ MayMake change told before now = Within (λ t. before t ⊎ IsMade change told t
 -- after so many calls this one failed if the plan has its number, and only then, where a plan is told
 abbrev pub FailsAsPlanned : {T : Type 0} → Option (List ℕ) → ℕ → Result T KeepFault → Type 0
 FailsAsPlanned plan calls result = IfSome plan (λ numbers. (result ≡ Err Failed) ↔ Contains numbers (raised calls))
+
+-- the tables that are told first and those that are told second are the same, where both are
+abbrev pub TellSame : (Tables → Type 0) → (Tables → Type 0) → Type 0
+TellSame first second = (s t : Tables) → first s → second t → t ≡ s

@@ -6,5 +6,10 @@ pub mod changes;
 pub mod fault;
 pub mod keeper;
 pub mod memory_keeper;
+pub mod memory_shelf;
+mod sending;
+pub mod shelf;
 pub mod tables;
+#[cfg(test)]
+mod tests;
 mod worths;

@@ -1,11 +1,12 @@
 //! The double of a keeper: what a crash may leave can be looked at.
-ghost use Rattle.std.specs.Prelude.{◌≡◌, ◌↔◌, [], IfOk, OnOk, OnErr, IsErr, IsTrue, if◌then◌else◌, Err};
+ghost use Rattle.std.specs.Prelude.{◌≡◌, ◌↔◌, ◌^◌, ◌<◌, ℕ, length, IsOk, [], IfOk, OnOk, OnErr, IsErr, IsTrue, if◌then◌else◌, Err};
 ghost use Rattle.stock_io.specs.Counts.{NeverFalls};
 ghost use Rattle.stock_io.specs.Memory.{NextFails};
 ghost use Rattle.stock_keeper.specs.Changed.{new_tables, appended, published, Follows, CoversMore, CoversRecords};
-ghost use Rattle.stock_keeper.specs.Memory.{new_keeper, after_change, after_other_call, after_failed_call, HasTried};
+ghost use Rattle.stock_keeper.specs.Memory.{new_keeper, restarted, image_at, MayLeave, after_change, after_other_call, after_failed_call, HasTried};
 ghost use Rattle.stock_keeper.specs.Worths.{AreInOrder};
 ghost use Rattle.stock_keeper.specs.declared.fault.KeepFault.TheVariants as fault;
+ghost use Rattle.stock_keeper.specs.declared.tables.Tables.{Tables};
 
 use crate::changes::Changes;
 use crate::fault::KeepFault;
@@ -31,12 +32,16 @@ pub struct MemKeeper {
 
 impl Model for MemKeeper {
     ghost use Rattle.std.specs.Prelude.{All};
-    ghost use Rattle.stock_keeper.specs.Memory.{Kept};
+    ghost use Rattle.stock_keeper.specs.Memory.{PlannedKeeper};
     ghost use Rattle.stock_keeper.specs.Worths.{AreInOrder};
 
-    ghost Value = { Kept };
+    ghost Value = { PlannedKeeper };
 
-    ghost view = { λ k. record { tables = k.tables; images = k.images.items; plan = record { failing = k.failing; calls = k.calls; faults = k.faults } } };
+    ghost view = { λ k. record {
+      tables = k.tables;
+      images = k.images.items;
+      plan = record { failing = k.failing; calls = k.calls; faults = k.faults };
+    } };
 
     ghost invariant = { λ k. AreInOrder k.tables.worths × All (λ t. AreInOrder t.worths) k.images.items };
 }
@@ -63,6 +68,71 @@ impl MemKeeper {
             calls: 0,
             faults: 0,
         }
+    }
+
+    /// What a crash now leaves, as a keeper of which no call fails: the image with this index, or the tables
+    /// where there is none. `images` tells how many there are.
+    ///
+    /// # Errors
+    ///
+    /// None: it takes no memory.
+    pub fn crash(self, pick: usize) -> Result<MemKeeper, NoMemory>
+        ensures image { IfOk result (λ keeper. keeper ≡ new_keeper (image_at self pick) []) }
+        ensures done { IsOk result }
+        ensures one { IfOk result (λ keeper. MayLeave self keeper.tables) }
+
+        // Each that a crash may leave is left for some index.
+        ensures every { (t : Tables) → MayLeave self t → (p : ℕ) × (p < 2 ^ 64) × (image_at self p ≡ t) }
+    {
+        let MemKeeper {
+            alloc,
+            tables,
+            mut images,
+            failing: _,
+            calls: _,
+            faults: _,
+        } = self;
+        let left = if pick < images.len() {
+            images.swap_remove(pick)
+        } else {
+            tables
+        };
+        Ok(MemKeeper::of(alloc, left, Lines::new(alloc)))
+    }
+
+    /// This keeper as it is handed out again: its tables, and its plan from the beginning.
+    pub(crate) fn restarted(self) -> MemKeeper
+        ensures { result ≡ restarted self }
+    {
+        MemKeeper::of(self.alloc, self.tables, self.failing)
+    }
+
+    /// The tables.
+    pub fn tables(&self) -> &Tables
+        ensures { result.now ≡ self.now.tables }
+    {
+        &self.tables
+    }
+
+    /// How many images there are beside the tables.
+    pub fn images(&self) -> usize
+        ensures { result ≡ length self.now.images }
+    {
+        self.images.len()
+    }
+
+    /// How many calls failed, all of them planned. The count stays at `u64::MAX`.
+    pub fn faults(&self) -> u64
+        ensures { result ≡ self.now.plan.faults }
+    {
+        self.faults
+    }
+
+    /// How many calls there were of `append`, `publish` and `load` together. The count stays at `u64::MAX`.
+    pub fn calls(&self) -> u64
+        ensures { result ≡ self.now.plan.calls }
+    {
+        self.calls
     }
 
     // Counts a call, and a fault where it is one of those that fail. Says whether it is.
@@ -96,7 +166,6 @@ impl MemKeeper {
 impl Keeper for MemKeeper {
     ghost use Rattle.std.specs.Prelude.{Some};
     ghost use Rattle.std.proofs.Common.{inl};
-    ghost use Rattle.stock_keeper.specs.Memory.{MayLeave};
 
     ghost tells = { λ k t. t ≡ k.tables };
 
@@ -163,7 +232,8 @@ impl Keeper for MemKeeper {
         ensures tables { IfOk result (λ copy. copy ≡ self.old.tables) }
         ensures in_order { IfOk result (λ copy. AreInOrder copy.worths) }
         ensures after_failed { result ≡ Err fault.Failed → self.new ≡ after_failed_call self.old self.old.images }
-        ensures after_other { (result ≡ Err fault.Failed → ⊥) → self.new ≡ after_other_call self.old }
+        ensures after_ok { OnOk result (self.new ≡ after_other_call self.old) }
+        ensures after_no_memory { result ≡ Err fault.NoMemory → self.new ≡ after_other_call self.old }
     {
         if self.next_fails() {
             return Err(KeepFault::Failed);
