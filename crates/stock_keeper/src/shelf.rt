@@ -10,8 +10,8 @@ use crate::keeper::Keeper;
 
 /// Where keepers come from, and where they go to.
 pub trait Shelf {
-    /// A keeper that is handed out.
-    type Kept: Keeper + Send + Drop;
+    /// A keeper that is handed out. It can't be dropped where only this is known of it, so that each goes back.
+    type Kept: Keeper + Send;
 
     // The tables of the keeper that is handed out next, where the shelf tells them.
     ghost tells: { Self → Tables → Type 0 };

@@ -1,5 +1,6 @@
-ghost use Rattle.std.specs.Prelude.{◌≡◌, pos, length, IfOk};
-ghost use Rattle.stock_keeper.specs.Changed.{new_tables};
+ghost use Rattle.std.specs.Prelude.{◌≡◌, pos, length, IfOk, OnOk};
+ghost use Rattle.stock_keeper.specs.Changed.{appended, new_tables};
+ghost use Rattle.stock_keeper.specs.declared.tables.Tables.{Tables};
 
 use crate::changes::{Changes, SpotWorth};
 use crate::fault::KeepFault;
@@ -55,7 +56,17 @@ fn failing_at(alloc: Global, calls: &[u64]) -> Result<MemKeeper, NoMemory>
     Ok(MemKeeper::of(alloc, tables, lines_of(alloc, calls)?))
 }
 
-// Appends two records, the second of which is tried twice where the first try fails.
+// Appends two records to a keeper in which nothing is kept. This is proved for every keeper.
+fn append_both<K: Keeper>(keeper: &mut K, first: &[u8], second: &[u8]) -> Result<(), KeepFault>
+    requires { (t : Tables) → K.tells keeper.old t → t ≡ new_tables }
+    ensures { OnOk result ((t : Tables) → K.tells keeper.new t
+        → t ≡ appended (record { 0 = 2 }) second.now (appended (record { 0 = 1 }) first.now new_tables)) }
+{
+    keeper.append(RecordNo(1), first)?;
+    keeper.append(RecordNo(2), second)
+}
+
+// Appends a record twice, or a second one where the first append was done.
 fn append_two(keeper: &mut MemKeeper) -> (Result<(), KeepFault>, Result<(), KeepFault>)
     requires { keeper.old.tables ≡ new_tables }
 {
@@ -89,7 +100,7 @@ fn shape(tables: &Tables) -> (usize, i64, u8, i64, usize) {
 #[test]
 fn a_keeper_in_memory_keeps_what_was_appended(rt: HostRuntime) -> Result<(), Fail> {
     let mut keeper = MemKeeper::new(rt.alloc());
-    assert_eq!(rt; append_two(&mut keeper), (Ok(()), Ok(())));
+    append_both(&mut keeper, b"one", b"two")?;
     let tables = keeper.load()?;
     assert_eq!(rt; shape(&tables), (2, 2, b't', 0, 0));
     assert_eq!(rt; shape(keeper.tables()), (2, 2, b't', 0, 0));
