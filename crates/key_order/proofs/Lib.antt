@@ -1,0 +1,6 @@
+pub mod SamePlaces
+pub mod KeyOrdering
+pub mod KeyPoints
+pub mod KeyPlaces
+pub mod KeyRuns
+pub mod KeyLacks
