@@ -14,14 +14,16 @@ use Rattle.stock_model.specs.PostingOrder.{put}
 use Rattle.stock_model.specs.Sheets.{is_key_before}
 use Rattle.stock_model.proofs.Pairwise.{Pairwise, Each, Each-weaker, Pairwise-from_AllPairs}
 use Rattle.stock_laws.proofs.Enough.{is_same_key-true, is_same_key-refl}
-use Rattle.posting_order.specs.Changes.{change_of, changes_of, of_key}
+use Rattle.key_order.specs.Changes.{change_of, changes_of, of_key}
 use Rattle.posting_order.specs.KeyLines.{AreOf}
-use Rattle.posting_order.specs.KeyOrders.{precedes, AreInKeyOrder, HasNoneAt, put_change, is_change_at, without_change}
-use Rattle.posting_order.specs.Timelines.{is_same_place, is_at, entry_at, without}
-use Rattle.posting_order.specs.declared.change.Change.{Change}
-use Rattle.posting_order.proofs.KeyOrdering.{Before, or-fails_second, and-rest, and-second, either-of, key-irreflexive, precedes-transitive}
+use Rattle.key_order.specs.KeyOrders.{precedes, AreInKeyOrder, HasNoneAt, put_change, is_change_at, without_change}
+use Rattle.key_order.specs.SamePlace.{is_same_place}
+use Rattle.posting_order.specs.Timelines.{is_at, entry_at, without}
+use Rattle.key_order.specs.declared.change.Change.{Change}
+use Rattle.key_order.proofs.KeyOrdering.{Before, or-fails_second, and-rest, and-second, either-of, key-irreflexive, precedes-transitive}
 use Rattle.posting_order.proofs.Parting.{Fails, Each-from_Precedes, All-from_Each, Fails-from_none}
-use Rattle.posting_order.proofs.Places.{is_same_place-refl, not_at-later}
+use Rattle.key_order.proofs.SamePlaces.{is_same_place-refl}
+use Rattle.posting_order.proofs.Places.{not_at-later}
 
 -- what each has where it passes the test, those that are kept have
 Each-kept : {X : Type 0} (P : X → Type 0) (p : X → Bool) (xs : List X) → Each (λ x. p x ≡ true → P x) xs → Each P (filter p xs)

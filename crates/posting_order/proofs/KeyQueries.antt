@@ -9,11 +9,11 @@ use Rattle.stock_nums.specs.declared.entry.Entry.{Entry}
 use Rattle.stock_nums.specs.declared.entry.Key.{Key}
 use Rattle.stock_nums.specs.declared.place.Place.{Place}
 use Rattle.stock_model.specs.Enough.{is_of_key}
-use Rattle.posting_order.specs.Changes.{change_of, changes_of, of_key, change_place, next_change, previous_change, change_units, is_before_end, first_lack}
+use Rattle.key_order.specs.Changes.{change_of, changes_of, of_key, change_place, next_change, previous_change, change_units, is_after_start, is_before_end, first_lack}
 use Rattle.posting_order.specs.KeyLines.{AreOf}
 use Rattle.posting_order.specs.Timelines.{entry_place, next_place, previous_place}
-use Rattle.posting_order.specs.declared.change.Change.{Change}
-use Rattle.posting_order.specs.declared.change.Lack.{Lack}
+use Rattle.key_order.specs.declared.change.Change.{Change}
+use Rattle.key_order.specs.declared.change.Lack.{Lack}
 
 -- the first movement of the key at a place that passes a test is the first such change
 find-changes : (q : Place → Bool) (key : Key) (es : List Entry)
@@ -55,7 +55,7 @@ of_key-reverse key (e ∷ es) =
     ∙ reverse-kept (is_of_key key e) (change_of e) (of_key key (changes_of es))
 
 -- the next place of a key
-pub next_place-change : (es : List Entry) (cs : List Change) (key : Key) (place : Place) → AreOf es cs → next_change cs key place ≡ next_place es key place
+pub next_place-change : (es : List Entry) (cs : List Change) (key : Key) (place : Place) → AreOf es cs → next_change cs key (Some place) ≡ next_place es key place
 next_place-change es cs key place are =
     ap (λ ds. option_map change_place (find (λ (c : Change). is_before place c.place) ds)) (are key) ∙ find-changes (λ p. is_before place p) key es
 
@@ -71,12 +71,12 @@ abbrev held_more : List Change → ℤ → Change → ℤ
 held_more own more c = more +ℤ total change_units (filter (λ d. not (is_before c.place d.place)) own)
 
 -- the first lack among the changes of a key
-abbrev lack_among : Place → Option Place → ℤ → List Change → Option Lack
+abbrev lack_among : Option Place → Option Place → ℤ → List Change → Option Lack
 lack_among from end more own =
     option_map (λ c. record { place = c.place; lacking = record { 0 = unsigned_abs (held_more own more c) } })
-    (find (λ c. (is_before from c.place && is_before_end end c.place) && int_lt (held_more own more c) (pos 0)) own)
+    (find (λ c. (is_after_start from c.place && is_before_end end c.place) && int_lt (held_more own more c) (pos 0)) own)
 
 -- the first lack of a key
-pub first_lack-change : (es : List Entry) (cs : List Change) (key : Key) (from : Place) (end : Option Place) (more : ℤ) → AreOf es cs
+pub first_lack-change : (es : List Entry) (cs : List Change) (key : Key) (from end : Option Place) (more : ℤ) → AreOf es cs
     → first_lack cs key from end more ≡ first_lack (changes_of es) key from end more
 first_lack-change es cs key from end more are = ap (lack_among from end more) (are key)

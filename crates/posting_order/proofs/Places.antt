@@ -17,28 +17,10 @@ use Rattle.stock_nums.specs.Places.{is_later}
 use Rattle.stock_model.specs.InOrder.{IsBefore, IsInPostingOrder}
 use Rattle.stock_model.specs.PostingOrder.{put}
 use Rattle.stock_model.proofs.Pairwise.{Precedes, Pairwise, Each, Pairwise-from_AllPairs, AllPairs-from_Pairwise}
-use Rattle.posting_order.specs.Timelines.{is_same_place, is_at, entry_at, without, comes_before, comes_after, is_until}
+use Rattle.key_order.specs.SamePlace.{is_same_place}
+use Rattle.key_order.proofs.SamePlaces.{is_same_place-true, is_same_place-refl, is_same_place-before, is_same_place-after}
+use Rattle.posting_order.specs.Timelines.{is_at, entry_at, without, comes_before, comes_after, is_until}
 use Rattle.posting_order.proofs.Parting.{Fails, PassesBack, Pairwise-weaker, Each-from_Precedes, passes_from_not_fails, fails_from_not_passes, find-none, Fails-from_none, first_fails, first_passes, length-filter-parted}
-
--- the test tells the same places
-pub is_same_place-true : (p q : Place) → is_same_place p q ≡ true → p ≡ q
-is_same_place-true p q h = Place-same p q (grind (arith, nat_tests))
-
--- a place is the same as itself
-pub is_same_place-refl : (p : Place) → is_same_place p p ≡ true
-is_same_place-refl p = grind (arith, nat_tests)
-
--- a place that comes before a second is another
-pub is_same_place-before : (p q : Place) → is_before p q ≡ true → is_same_place p q ≡ false
-is_same_place-before p q before =
-    fails_from_not_passes (is_same_place p) q
-    (λ same. false≢true (sym (is_before-irreflexive q) ∙ subst (λ (r : Place). is_before r q ≡ true) (is_same_place-true p q same) before))
-
--- a place that comes after a second is another
-pub is_same_place-after : (p q : Place) → is_before q p ≡ true → is_same_place p q ≡ false
-is_same_place-after p q after =
-    fails_from_not_passes (is_same_place p) q
-    (λ same. false≢true (sym (is_before-irreflexive p) ∙ subst (λ (r : Place). is_before r p ≡ true) (sym (is_same_place-true p q same)) after))
 
 -- a place that is another and does not come before comes after
 pub is_before-other : (p q : Place) → is_same_place p q ≡ false → is_before p q ≡ false → is_before q p ≡ true

@@ -3,8 +3,8 @@ use Rattle.std.specs.Prelude.{◌≡◌, List}
 use Rattle.stock_nums.specs.declared.entry.Entry.{Entry}
 use Rattle.stock_nums.specs.declared.entry.Key.{Key}
 use Rattle.stock_model.specs.InOrder.{IsInPostingOrder}
-use Rattle.posting_order.specs.Changes.{changes_of, of_key}
-use Rattle.posting_order.specs.declared.change.Change.{Change}
+use Rattle.key_order.specs.Changes.{changes_of, of_key}
+use Rattle.key_order.specs.declared.change.Change.{Change}
 
 -- of each item in each warehouse, the changes are those of the movements in their order
 abbrev pub AreOf : List Entry → List Change → Type 0

@@ -1,19 +1,15 @@
 -- Movements by their places: the one at a place, its neighbours of an item in a warehouse, those up to a moment.
-use Rattle.std.specs.Prelude.{◌≡◌, ℕ, Bool, ◌&&◌, ◌==◌, not, List, length, filter, reverse, Option, IsTrue, All, Contains}
+use Rattle.std.specs.Prelude.{◌≡◌, ℕ, Bool, ◌&&◌, not, List, length, filter, reverse, Option, IsTrue, All, Contains}
 use Rattle.std.specs.List.{find}
 use Rattle.std.specs.Option.{option_map}
-use Rattle.stock_nums.specs.Places.{side_rank, is_before}
+use Rattle.stock_nums.specs.Places.{is_before}
 use Rattle.stock_nums.specs.declared.entry.Entry.{Entry}
 use Rattle.stock_nums.specs.declared.entry.Key.{Key}
 use Rattle.stock_nums.specs.declared.moment.Moment.{Moment}
 use Rattle.stock_nums.specs.declared.place.Place.{Place}
 use Rattle.stock_nums.specs.Places.{is_later}
 use Rattle.stock_model.specs.Enough.{entry_key, is_of_key}
-
--- the two places are one
-abbrev pub is_same_place : Place → Place → Bool
-is_same_place p q =
-    (p.moment.date == q.moment.date) && ((p.moment.second == q.moment.second) && ((p.voucher.0 == q.voucher.0) && ((p.line == q.line) && (side_rank p.side == side_rank q.side))))
+use Rattle.key_order.specs.SamePlace.{is_same_place}
 
 -- the movement stands at this place
 abbrev pub is_at : Place → Entry → Bool

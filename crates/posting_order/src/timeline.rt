@@ -1,14 +1,14 @@
 //! The movements of a book in posting order, and what is found in them.
-ghost use Rattle.std.specs.Prelude.{◌≡◌, ◌+◌, ◌<◌, ◌≤◌, ◌^◌, [], length, take, drop, filter, unsigned_abs, None, OnOk, IfOk, IfSome, IfNone};
+ghost use Rattle.std.specs.Prelude.{◌≡◌, ◌+◌, ◌<◌, ◌≤◌, ◌^◌, [], length, take, drop, filter, unsigned_abs, None, Some, OnOk, IfOk, IfSome, IfNone};
 ghost use Rattle.std.specs.Option.{option_copied};
 ghost use Rattle.stock_model.specs.InOrder.{IsInPostingOrder};
 ghost use Rattle.stock_model.specs.PostingOrder.{put};
-ghost use Rattle.posting_order.specs.Changes.{changes_of, rank_of, held_before, first_lack};
+ghost use Rattle.key_order.specs.Changes.{changes_of, rank_of, held_before, first_lack};
 ghost use Rattle.posting_order.specs.Timelines.{entry_at, without, next_place, previous_place, IsNextPlace, IsPreviousPlace, HasNoneAfter, HasNoneBefore, is_until, count_until};
 
-use crate::change::{Change, Lack};
 use crate::entry_line::EntryLine;
-use crate::key_order::KeyOrder;
+use key_order::change::{Change, Lack};
+use key_order::order::KeyOrder;
 use std::alloc::Global;
 use std::marker::Model;
 use stock_nums::entry::{Entry, Key};
@@ -122,7 +122,7 @@ impl Timeline {
         ensures next { IfSome result (IsNextPlace self.now.entries key place.now) }
         ensures last { IfNone result (HasNoneAfter self.now.entries key place.now) }
     {
-        self.keys.next(key, place)
+        self.keys.next(key, Some(*place))
     }
 
     /// The place of the last movement of this item in this warehouse that comes before the place. None
@@ -154,9 +154,9 @@ impl Timeline {
     /// if so many more were held. It takes no memory.
     pub fn first_lack(&self, key: Key, from: &Place, end: Option<Place>, more: i64) -> Option<Lack>
         requires bound { unsigned_abs more ≤ 2 ^ 53 }
-        ensures { result ≡ first_lack (changes_of self.now.entries) key from.now end more }
+        ensures { result ≡ first_lack (changes_of self.now.entries) key (Some from.now) end more }
     {
-        self.keys.first_lack(key, from, end, more)
+        self.keys.first_lack(key, Some(*from), end, more)
     }
 
     /// How many movements have a moment that is not after this one. They are the first ones. It takes no

@@ -6,9 +6,10 @@ use Rattle.std.proofs.lemmas.List.{append_assoc}
 use Rattle.stock_nums.specs.declared.entry.Entry.{Entry}
 use Rattle.stock_nums.specs.declared.place.Place.{Place}
 use Rattle.stock_model.proofs.Pairwise.{Pairwise, Across, Each, Each-append, Pairwise-append, AllPairs-from_Pairwise, Pairwise-from_AllPairs}
-use Rattle.posting_order.specs.Timelines.{is_same_place, is_at, entry_at}
+use Rattle.key_order.specs.SamePlace.{is_same_place}
+use Rattle.key_order.proofs.SamePlaces.{is_same_place-refl}
+use Rattle.posting_order.specs.Timelines.{is_at, entry_at}
 use Rattle.posting_order.proofs.Parting.{Fails, Fails-from_none, find-none}
-use Rattle.posting_order.proofs.Places.{is_same_place-refl}
 use Rattle.quantity_check.specs.OwnPlaces.{StandApart, HaveOwnPlaces}
 
 -- one more of the movements

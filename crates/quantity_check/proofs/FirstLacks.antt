@@ -11,12 +11,12 @@ use Rattle.stock_nums.proofs.PlaceOrder.{is_before-irreflexive, is_before-asymme
 use Rattle.stock_model.specs.Enough.{is_of_key}
 use Rattle.stock_model.specs.InOrder.{IsBefore}
 use Rattle.stock_model.proofs.Pairwise.{Precedes, Pairwise}
-use Rattle.posting_order.specs.Changes.{change_of, changes_of, of_key, lacks_within, lack_at}
-use Rattle.posting_order.specs.declared.change.Change.{Change}
-use Rattle.posting_order.specs.declared.change.Lack.{Lack}
+use Rattle.key_order.specs.Changes.{change_of, changes_of, of_key, lacks_within, lack_at}
+use Rattle.key_order.specs.declared.change.Change.{Change}
+use Rattle.key_order.specs.declared.change.Lack.{Lack}
 use Rattle.quantity_check.proofs.Members.{AnyOf}
 
-module _ (cs : List Change) (key : Key) (from : Place) (end : Option Place) (more : ℤ) where
+module _ (cs : List Change) (key : Key) (from end : Option Place) (more : ℤ) where
   -- the movement is of the key, and lacks within the stretch
   abbrev pub LacksThere : Entry → Type 0
   LacksThere m = (is_of_key key m ≡ true) × (lacks_within cs key from end more (change_of m) ≡ true)

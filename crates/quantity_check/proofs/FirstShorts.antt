@@ -13,7 +13,7 @@ use Rattle.stock_model.specs.InOrder.{IsBefore}
 use Rattle.stock_model.specs.declared.shortages.Shortage.{Shortage}
 use Rattle.stock_model.proofs.Pairwise.{Precedes, Pairwise, Each, Each-weaker, Each-from_Precedes}
 use Rattle.stock_laws.proofs.Enough.{shortage-none}
-use Rattle.posting_order.specs.Changes.{changes_of, held_with}
+use Rattle.key_order.specs.Changes.{changes_of, held_with}
 use Rattle.posting_order.proofs.Parting.{Fails, find-none, Fails-from_none}
 use Rattle.quantity_check.specs.Stretches.{shortage_with_held}
 use Rattle.quantity_check.proofs.HeldSums.{held_with-append, held_with-all, held_with-later}

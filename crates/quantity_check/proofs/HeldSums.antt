@@ -12,8 +12,9 @@ use Rattle.stock_nums.specs.declared.place.Place.{Place}
 use Rattle.stock_model.specs.Enough.{entry_key, is_same_key, is_of_key, enters_under, leaves_under, entry_units, entered, departed}
 use Rattle.stock_model.specs.PostingOrder.{put, put_all}
 use Rattle.stock_model.proofs.Pairwise.{Each, Each-weaker}
-use Rattle.posting_order.specs.Changes.{change_of, changes_of, change_units, of_key, held_before, held_with}
-use Rattle.posting_order.specs.declared.change.Change.{Change}
+use Rattle.key_order.specs.Changes.{change_of, changes_of, change_units, of_key, held_before, held_with}
+use Rattle.key_order.specs.Units.{signed_units}
+use Rattle.key_order.specs.declared.change.Change.{Change}
 use Rattle.quantity_check.specs.Stretches.{is_until_of, units_until}
 use Rattle.quantity_check.proofs.OwnPlaceLemmas.{drop-next}
 use Rattle.quantity_check.proofs.PlaceSteps.{before_apart}
@@ -100,7 +101,7 @@ held_with-later es key place h =
     no_more false false is = refl
 
 -- what movements that stand up to the place change is what enters less what leaves
-units_signed : (k enters : Bool) (n : ℕ) → cond (k && true) (cond enters (pos n) (pos 0 -ℤ pos n)) (pos 0) ≡ pos (cond (k && enters) n 0) -ℤ pos (cond (k && not enters) n 0)
+units_signed : (k enters : Bool) (n : ℕ) → cond (k && true) (signed_units enters n) (pos 0) ≡ pos (cond (k && enters) n 0) -ℤ pos (cond (k && not enters) n 0)
 units_signed true true n = omega (arith, ints)
 units_signed true false n = omega (arith, ints)
 units_signed false true n = refl

@@ -9,9 +9,10 @@ use Rattle.stock_nums.proofs.PlaceOrder.{is_before-irreflexive}
 use Rattle.stock_model.specs.InOrder.{IsBefore, IsInPostingOrder}
 use Rattle.stock_model.specs.PostingOrder.{put, put_all}
 use Rattle.stock_model.proofs.Pairwise.{Precedes, Pairwise, Across, Each, Each-weaker, Pairwise-append, AllPairs-from_Pairwise, Pairwise-from_AllPairs}
+use Rattle.key_order.proofs.SamePlaces.{is_same_place-true}
 use Rattle.posting_order.specs.Timelines.{is_at, entry_at}
 use Rattle.posting_order.proofs.Parting.{Fails, Pairwise-weaker, fails_from_not_passes, find-none}
-use Rattle.posting_order.proofs.Places.{is_same_place-true, put-Precedes, IsInPostingOrder-put}
+use Rattle.posting_order.proofs.Places.{put-Precedes, IsInPostingOrder-put}
 use Rattle.quantity_check.specs.OwnPlaces.{StandApart, HaveOwnPlaces}
 
 -- a movement before another stands apart from it

@@ -9,7 +9,7 @@ use Rattle.stock_nums.specs.declared.place.Place.{Place}
 use Rattle.stock_nums.proofs.PlaceOrder.{is_before-irreflexive, is_before-transitive}
 use Rattle.stock_model.specs.Enough.{is_of_key}
 use Rattle.stock_model.proofs.Pairwise.{Each, Each-weaker}
-use Rattle.posting_order.specs.Changes.{change_of, changes_of, change_units, held_with, is_before_end}
+use Rattle.key_order.specs.Changes.{change_of, changes_of, change_units, held_with, is_before_end}
 use Rattle.quantity_check.specs.Stretches.{is_until_of, units_until, is_later_of, nearer, nearer_after, nearest_after}
 use Rattle.quantity_check.proofs.HeldSums.{held_with-cons}
 use Rattle.quantity_check.proofs.Members.{IsIn}

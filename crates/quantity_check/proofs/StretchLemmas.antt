@@ -15,8 +15,8 @@ use Rattle.stock_model.specs.PostingOrder.{put_all}
 use Rattle.stock_model.specs.declared.shortages.Shortage.{Shortage}
 use Rattle.stock_model.proofs.Pairwise.{Pairwise, Across, Each, Each-weaker, Each-from_Precedes, Pairwise-from_AllPairs}
 use Rattle.stock_laws.proofs.Enough.{is_same_key-true, is_same_key-refl}
-use Rattle.posting_order.specs.Changes.{change_of, changes_of, held_with, is_before_end, lacks_within, lack_at, first_lack}
-use Rattle.posting_order.specs.declared.change.Lack.{Lack}
+use Rattle.key_order.specs.Changes.{change_of, changes_of, held_with, is_before_end, lacks_within, lack_at, first_lack}
+use Rattle.key_order.specs.declared.change.Lack.{Lack}
 use Rattle.quantity_check.specs.OwnPlaces.{StandApart, HaveOwnPlaces}
 use Rattle.quantity_check.specs.Stretches.{is_until_of, is_later_of, nearest_after, shortage_with_held, shortage_by_lack, units_more, end_of_stretch, held_with_new, lacks_itself, shortage_after, shortage_in_stretch, earlier, first_of_stretches}
 use Rattle.quantity_check.proofs.FirstLacks.{found_among-some, found_among-first, LacksThere}
@@ -125,7 +125,7 @@ map_some f None y h = cc
 map_some f (Some x) y h = let same : f x ≡ y = cc in (x, refl, sym same)
 
 -- the lack of a movement of the line in a stretch is its shortage
-lack-told : (line es : List Entry) (e m : Entry) (lack : Lack) → LacksThere (changes_of line) (entry_key e) e.place (end_of_stretch es e) (units_more es e) m
+lack-told : (line es : List Entry) (e m : Entry) (lack : Lack) → LacksThere (changes_of line) (entry_key e) (Some e.place) (end_of_stretch es e) (units_more es e) m
     → lack ≡ lack_at (changes_of line) (entry_key e) (units_more es e) (change_of m)
     → (lacks (put_all line es) m ≡ true) × (shortage_by_lack (entry_key e) lack ≡ told (put_all line es) m)
 lack-told line es e m lack there is =
@@ -158,11 +158,11 @@ true_from_never false never = absurd (never refl)
 -- the first lack after a new movement is that of a movement of the line
 shortage_after-true : (line es : List Entry) (e : Entry) → IsTrueOf (put_all line es) (shortage_after line es e)
 shortage_after-true line es e s is =
-    let found = map_some (shortage_by_lack (entry_key e)) (first_lack (changes_of line) (entry_key e) e.place (end_of_stretch es e) (units_more es e)) s is in
-    let one = found_among-some (changes_of line) (entry_key e) e.place (end_of_stretch es e) (units_more es e) line found.0 found.1 in
+    let found = map_some (shortage_by_lack (entry_key e)) (first_lack (changes_of line) (entry_key e) (Some e.place) (end_of_stretch es e) (units_more es e)) s is in
+    let one = found_among-some (changes_of line) (entry_key e) (Some e.place) (end_of_stretch es e) (units_more es e) line found.0 found.1 in
     AnyOf-put_all_line (λ m. (lacks (put_all line es) m ≡ true) × (s ≡ told (put_all line es) m)) line es
     (AnyOf-weaker
-    (λ m. LacksThere (changes_of line) (entry_key e) e.place (end_of_stretch es e) (units_more es e) m × (found.0 ≡ lack_at (changes_of line) (entry_key e) (units_more es e) (change_of m)))
+    (λ m. LacksThere (changes_of line) (entry_key e) (Some e.place) (end_of_stretch es e) (units_more es e) m × (found.0 ≡ lack_at (changes_of line) (entry_key e) (units_more es e) (change_of m)))
     (λ m. (lacks (put_all line es) m ≡ true) × (s ≡ told (put_all line es) m))
     (λ m h. let both = lack-told line es e m found.0 h.0 h.1 in (both.0, found.2 ∙ both.1)) line one)
 
@@ -198,15 +198,15 @@ found-old line es e m order here of_key after within short = by_test (lacks_itse
     held : units_more es e +ℤ held_with (changes_of line) (entry_key e) m.place ≡ held_with (changes_of (put_all line es)) (entry_key m) m.place
     held = held_with-old line es e m.place (is_before-asymmetric e.place m.place after) within ∙ ap (λ (k : Key). held_with (changes_of (put_all line es)) k m.place) (sym same)
 
-    lacks_there : lacks_within (changes_of line) (entry_key e) e.place (end_of_stretch es e) (units_more es e) (change_of m) ≡ true
+    lacks_there : lacks_within (changes_of line) (entry_key e) (Some e.place) (end_of_stretch es e) (units_more es e) (change_of m) ≡ true
     lacks_there =
         all_true (is_before e.place m.place) (is_before_end (end_of_stretch es e) m.place) (int_lt (units_more es e +ℤ held_with (changes_of line) (entry_key e) m.place) (pos 0)) after within (ap (λ (z : ℤ). int_lt z (pos 0)) held ∙ short)
 
     by_test : (b : Bool) → lacks_itself line es e ≡ b → IsFoundBy (cond b (Some (shortage_with_held e (held_with_new line es e))) (shortage_after line es e)) m.place
     by_test true own = (shortage_with_held e (held_with_new line es e), refl, is_before-asymmetric e.place m.place after)
     by_test false own =
-        let found = found_among-first (changes_of line) (entry_key e) e.place (end_of_stretch es e) (units_more es e) line m.place order
-        (AnyOf-from_in (λ n. LacksThere (changes_of line) (entry_key e) e.place (end_of_stretch es e) (units_more es e) n × (n.place ≡ m.place)) m line here ((of_key, lacks_there), refl)) in
+        let found = found_among-first (changes_of line) (entry_key e) (Some e.place) (end_of_stretch es e) (units_more es e) line m.place order
+        (AnyOf-from_in (λ n. LacksThere (changes_of line) (entry_key e) (Some e.place) (end_of_stretch es e) (units_more es e) n × (n.place ≡ m.place)) m line here ((of_key, lacks_there), refl)) in
         (shortage_by_lack (entry_key e) found.0, ap (option_map (shortage_by_lack (entry_key e))) found.1, found.2)
 
 -- the last new movement of a key up to a place is that of the stretch

@@ -8,8 +8,8 @@ use Rattle.stock_nums.specs.declared.entry.Key.{Key}
 use Rattle.stock_nums.specs.declared.place.Place.{Place}
 use Rattle.stock_model.specs.Enough.{entry_key, is_of_key}
 use Rattle.stock_model.specs.declared.shortages.Shortage.{Shortage}
-use Rattle.posting_order.specs.Changes.{change_of, changes_of, change_units, held_before, held_with, is_before_end, first_lack}
-use Rattle.posting_order.specs.declared.change.Lack.{Lack}
+use Rattle.key_order.specs.Changes.{change_of, changes_of, change_units, held_before, held_with, is_before_end, first_lack}
+use Rattle.key_order.specs.declared.change.Lack.{Lack}
 
 -- the movement is of the key, and does not come after the place
 abbrev pub is_until_of : Key → Place → Entry → Bool
@@ -62,7 +62,7 @@ lacks_itself line es e = int_lt (held_with_new line es e) (pos 0)
 
 -- the first lack of the line in the stretch of the new movement
 abbrev pub lack_after : List Entry → List Entry → Entry → Option Lack
-lack_after line es e = first_lack (changes_of line) (entry_key e) e.place (end_of_stretch es e) (units_more es e)
+lack_after line es e = first_lack (changes_of line) (entry_key e) (Some e.place) (end_of_stretch es e) (units_more es e)
 
 -- the same as a shortage
 abbrev pub shortage_after : List Entry → List Entry → Entry → Option Shortage

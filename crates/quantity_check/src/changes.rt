@@ -1,7 +1,7 @@
 //! What new movements change of what is held, and where the next of them stands. They are in no order.
 ghost use Rattle.std.specs.Prelude.{◌≡◌, ◌^◌, ◌≤◌, length, unsigned_abs, None};
 ghost use Rattle.stock_model.specs.Enough.{is_of_key};
-ghost use Rattle.posting_order.specs.Changes.{change_of, changes_of, change_units, held_with};
+ghost use Rattle.key_order.specs.Changes.{change_of, changes_of, change_units, held_with};
 ghost use Rattle.quantity_check.specs.Stretches.{is_later_of, units_until, nearer, nearer_after, nearest_after};
 
 use stock_nums::entry::{Entry, Key};

@@ -7,7 +7,7 @@ ghost use Rattle.quantity_check.specs.OwnPlaces.{HaveOwnPlaces};
 ghost use Rattle.quantity_check.specs.Stretches.{units_more, shortage_with_held, shortage_by_lack, shortage_after, shortage_in_stretch, earlier};
 
 use crate::changes::{held_with, nearest_after};
-use posting_order::change::Lack;
+use key_order::change::Lack;
 use posting_order::timeline::Timeline;
 use stock_model::shortages::{Shortage, entry_key};
 use stock_nums::entry::{Entry, Key};

@@ -1,6 +1,6 @@
 -- Each movement adds what it changes.
 use Rattle.std.proofs.Common.{◌≡◌, ◌+◌, ◌*◌, ◌≤◌, ℤ, ◌+ℤ◌, unsigned_abs, length, drop, sym, ap, ◌∙◌, subst, arith, to_z, of_z, to_z-of_z, w64}
-use Rattle.posting_order.specs.Changes.{changes_of, held_with}
+use Rattle.key_order.specs.Changes.{changes_of, held_with}
 use Rattle.quantity_check.proofs.HeldSums.{held_with-step, abs-step, fits-step}
 use Rattle.quantity_check.proofs.changes.held_with.Goals as goal
 

@@ -1,6 +1,6 @@
 -- What the rest changes, and what those so far did, is what all change. Each changes at most 10^9 units.
 use Rattle.std.proofs.Common.{◌≡◌, ◌*◌, ◌≤◌, ◌+ℤ◌, unsigned_abs, drop}
-use Rattle.posting_order.specs.Changes.{changes_of, held_with}
+use Rattle.key_order.specs.Changes.{changes_of, held_with}
 use Rattle.quantity_check.proofs.changes.held_with.Given as goal
 
 abbrev pub invariant-loop-entry : goal.invariant-loop-entry

@@ -1,12 +1,12 @@
 -- What the movement changes goes in where the movement goes in.
 use Rattle.std.proofs.Common.{◌≡◌, List, length, None, sym, ap, ◌∙◌, subst, arith}
 use Rattle.stock_nums.specs.declared.entry.Entry.{Entry}
-use Rattle.posting_order.specs.Changes.{change_of}
+use Rattle.key_order.specs.Changes.{change_of}
 use Rattle.posting_order.specs.KeyLines.{AreOf}
-use Rattle.posting_order.specs.KeyOrders.{HasNoneAt, put_change}
+use Rattle.key_order.specs.KeyOrders.{HasNoneAt, put_change}
 use Rattle.posting_order.specs.State.{TimelineState}
 use Rattle.posting_order.specs.Timelines.{entry_at}
-use Rattle.posting_order.specs.declared.change.Change.{Change}
+use Rattle.key_order.specs.declared.change.Change.{Change}
 use Rattle.posting_order.proofs.KeyLines.{AreOf-length, AreOf-put, HasNoneAt-from_none}
 use Rattle.posting_order.proofs.timeline.Timeline.insert.Goals as goal
 

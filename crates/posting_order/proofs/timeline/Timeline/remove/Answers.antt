@@ -3,9 +3,9 @@ use Rattle.std.proofs.Common.{◌≡◌, List, Some, None, sym, ap, ◌∙◌, s
 use Rattle.stock_nums.specs.declared.entry.Entry.{Entry}
 use Rattle.stock_model.specs.Enough.{entry_key}
 use Rattle.posting_order.specs.KeyLines.{AreOf}
-use Rattle.posting_order.specs.KeyOrders.{without_change}
+use Rattle.key_order.specs.KeyOrders.{without_change}
 use Rattle.posting_order.specs.Timelines.{is_at, entry_at}
-use Rattle.posting_order.specs.declared.change.Change.{Change}
+use Rattle.key_order.specs.declared.change.Change.{Change}
 use Rattle.posting_order.proofs.KeyLines.{AreOf-without}
 use Rattle.posting_order.proofs.Parting.{Fails-from_none}
 use Rattle.posting_order.proofs.Places.{kept_apart}
