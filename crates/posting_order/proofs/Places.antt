@@ -12,7 +12,7 @@ use Rattle.stock_nums.specs.Places.{is_before}
 use Rattle.stock_nums.specs.declared.entry.Entry.{Entry}
 use Rattle.stock_nums.specs.declared.moment.Moment.{Moment}
 use Rattle.stock_nums.specs.declared.place.Place.{Place}
-use Rattle.stock_nums.proofs.PlaceOrder.{is_before-irreflexive, is_before-transitive, is_before-total, Place-same}
+use Rattle.stock_nums.proofs.PlaceOrder.{is_before-transitive, is_before-total}
 use Rattle.stock_nums.specs.Places.{is_later}
 use Rattle.stock_model.specs.InOrder.{IsBefore, IsInPostingOrder}
 use Rattle.stock_model.specs.PostingOrder.{put}
