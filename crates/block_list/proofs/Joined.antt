@@ -1,10 +1,10 @@
 -- Blocks side by side: what is before a block, in it, and after it.
-use Rattle.std.proofs.Common.{◌≡◌, ℕ, suc, ◌+◌, ◌<◌, ◌≤◌, get_or, set, slice_get, Some, zero, List, [], ◌∷◌, ◌++◌, length, take, drop, refl, sym, ap, ap₂, ◌∙◌, subst, arith, length-append, append_assoc}
+use Rattle.std.proofs.Common.{◌≡◌, ℕ, suc, ◌+◌, ◌-◌, ◌<◌, ◌≤◌, get_or, set, slice_get, Some, zero, List, [], ◌∷◌, ◌++◌, length, take, drop, refl, sym, ap, ap₂, ◌∙◌, subst, arith, length-append, append_assoc}
 use Rattle.std.specs.List.{insert, remove, All}
 use Rattle.std.proofs.Math.Seq.{take-append-add, take-append_seam, drop-append-add, drop-append_seam}
 use Rattle.std.proofs.lemmas.List.Elements.{All-set, All-append, All-take, All-cons, All-drop}
 use Rattle.std.proofs.lemmas.Grind.{flat_map-append, take_at_read}
-use Rattle.std.proofs.lemmas.List.{set_split, set-get_or, set-set, take-take, drop_more, length-take-le, append-nil, take-append-le, drop-append-le, take-append-drop, take-set, drop-set-lt, get_or-set_same, length-set, length-take, length-drop, get_or-append-add, get_or_append_left}
+use Rattle.std.proofs.lemmas.List.{set-append_left, set-append_right, set_split, set-get_or, set-set, take-take, drop_more, length-take-le, append-nil, take-append-le, drop-append-le, take-append-drop, take-set, drop-set-lt, get_or-set_same, length-set, length-take, length-drop, get_or-append-add, get_or_append_left}
 use Rattle.std.proofs.lemmas.Option.{slice_get-get_or, get_or_from_slice_get}
 use Rattle.block_list.specs.Blocks.{joined, block_at, IsFilled, IsSpot, IsGap}
 use Rattle.block_list.specs.declared.sums.TheConstants.{MOST}
@@ -172,3 +172,24 @@ joined-front bs at i o within inside is =
     let b = block_at bs i in
     let rest = joined (drop (suc i) bs) in
     ap₂ take is (joined-around bs i within) ∙ take-append-add front (b ++ rest) o ∙ ap (λ xs. front ++ xs) (take-append-le o b rest inside)
+
+-- another item in the place of one of a block is in its place in the list
+pub joined-replaced : {T : Type 0} (bs : List (List T)) (at i o : ℕ) (x : T) → IsSpot bs at i o → joined (set bs i (set (block_at bs i) o x)) ≡ set (joined bs) at x
+joined-replaced bs at i o x spot =
+    let front = joined (take i bs) in
+    let b = block_at bs i in
+    let rest = joined (drop (suc i) bs) in
+    let same : at - length front ≡ o = omega (arith, spot.is) in
+    joined-set bs i (set b o x) spot.within
+    ∙ sym (ap (λ xs. set xs at x) (joined-around bs i spot.within)
+    ∙ set-append_right front (b ++ rest) (length front) at x refl (omega (arith, spot.is))
+    ∙ ap (λ n. front ++ set (b ++ rest) n x) same
+    ∙ ap (λ xs. front ++ xs) (set-append_left b rest o x spot.inside))
+
+-- and the block has as many items as before
+pub filled-replaced : {T : Type 0} (bs : List (List T)) (i o : ℕ) (x : T) → i < length bs → All IsFilled bs → All IsFilled (set bs i (set (block_at bs i) o x))
+filled-replaced bs i o x within filled =
+    let b = block_at bs i in
+    let own : IsFilled b = filled i [] within in
+    let same : length (set b o x) ≡ length b = length-set b o x in
+    All-set IsFilled bs i (set b o x) (record { some = omega (arith, same, own.some); room = omega (arith, same, own.room) }) filled

@@ -1,5 +1,5 @@
 //! A block of a list: items side by side, with their sums.
-ghost use Rattle.std.specs.Prelude.{◌≡◌, ◌+◌, ◌-◌, ◌*◌, ◌^◌, ◌<◌, ◌≤◌, ◌≤ℤ◌, ℕ, List, Some, [], ◌++◌, unsigned_abs, length, take, drop, insert, remove, slice_get, vec_len, vec_capacity, IfOk};
+ghost use Rattle.std.specs.Prelude.{◌≡◌, ◌+◌, ◌-◌, ◌*◌, ◌^◌, ◌<◌, ◌≤◌, ◌≤ℤ◌, ℕ, List, Some, [], ◌++◌, unsigned_abs, length, take, drop, insert, remove, slice_get, slice_set, vec_len, vec_capacity, IfOk};
 ghost use Rattle.std.specs.Option.{option_copied};
 ghost use Rattle.block_list.specs.Bounds.{first_passes};
 ghost use Rattle.block_list.specs.Sums.{total, IsFirstBelow};
@@ -94,6 +94,15 @@ impl<T: Copy, W: Weigh<T>> Block<T, W> {
         let item = self.items.remove(index);
         self.sums = measure::<T, W>(self.items.as_slice());
         item
+    }
+
+    /// Puts an item in the place of the one at the index.
+    pub(crate) fn set(&mut self, index: usize, item: T)
+        requires { index < length self.old }
+        ensures { self.new ≡ slice_set self.old index item }
+    {
+        self.items[index] = item;
+        self.sums = measure::<T, W>(self.items.as_slice());
     }
 
     /// Moves the items from the index on into a block with none.

@@ -338,6 +338,19 @@ pub(crate) fn take_out<T: Copy, W: Weigh<T>>(
     item
 }
 
+/// Puts an item in the place of the one at an index.
+pub(crate) fn replace<T: Copy, W: Weigh<T>>(blocks: &mut Vec<Block<T, W>>, index: usize, item: T)
+    requires within { index < length (joined blocks.old.items) }
+    requires filled { All IsFilled blocks.old.items }
+    ensures items { joined blocks.new.items ≡ slice_set (joined blocks.old.items) index item }
+    ensures filled { All IsFilled blocks.new.items }
+    ensures room { vec_capacity blocks.new ≡ vec_capacity blocks.old }
+    ensures count { vec_len blocks.new ≡ vec_len blocks.old }
+{
+    let spot = spot_of(blocks.as_slice(), index);
+    blocks[spot.block].set(spot.index, item);
+}
+
 /// Fills the pool up to so many empty blocks.
 ///
 /// # Errors

@@ -1,12 +1,12 @@
 //! A list in blocks.
-ghost use Rattle.std.specs.Prelude.{◌≡◌, ◌+◌, ◌<◌, ◌≤◌, ◌^◌, ℕ, [], Some, length, insert, remove, take, drop, slice_get, unsigned_abs, true, false, OnOk};
+ghost use Rattle.std.specs.Prelude.{◌≡◌, ◌+◌, ◌<◌, ◌≤◌, ◌^◌, ℕ, [], Some, length, insert, remove, take, drop, slice_get, slice_set, unsigned_abs, true, false, OnOk};
 ghost use Rattle.std.specs.Option.{option_copied};
 ghost use Rattle.std.specs.List.Sorted.{IsPartitionedBy, IsPartitionPoint};
 ghost use Rattle.block_list.specs.Bounds.{HasSides};
 ghost use Rattle.block_list.specs.Sums.{total, IsFirstBelow};
 
 use crate::block::Block;
-use crate::blocks::{fill, put, put_before, spot_of, take_out};
+use crate::blocks::{fill, put, put_before, replace, spot_of, take_out};
 use crate::bound::Bound;
 use crate::crossing::Crossing;
 use crate::walks::{first_below, partition_point, sum_before};
@@ -113,6 +113,15 @@ impl<T: Copy, W: Weigh<T>> BlockList<T, W> {
         let item = take_out(&mut self.blocks, &mut self.pool, index);
         self.len -= 1;
         item
+    }
+
+    /// Puts an item in the place of the one at the index. It takes no memory.
+    pub fn set(&mut self, index: usize, item: T)
+        requires { index < length self.old.items }
+        ensures items { self.new.items ≡ slice_set self.old.items index item }
+        ensures room { self.new.spare ≡ self.old.spare }
+    {
+        replace(&mut self.blocks, index, item);
     }
 
     /// Makes room for `n` more items. The items stay as they are, and no room is lost.

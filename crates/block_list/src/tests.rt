@@ -136,5 +136,7 @@ fn tells_where_a_sum_falls_below_0(rt: HostRuntime) -> Result<(), Fail> {
         301,
     );
     assert_eq!(rt; enough.index, 301);
+    list.set(200, 1);
+    assert_eq!(rt; list.sum_before(301), 45_151);
     Ok(())
 }

@@ -1,7 +1,6 @@
 -- The bound falls in the last block that begins before it, or before all.
-use Rattle.std.proofs.Common.{◌≡◌, ℕ, ◌+◌, ◌-◌, ◌<◌, List, [], length, refl, sym, ◌∙◌, subst, arith}
+use Rattle.std.proofs.Common.{ℕ, ◌-◌, ◌<◌, List, [], length, refl, ◌∙◌, subst, arith}
 use Rattle.std.proofs.lemmas.List.{get_or_default}
-use Rattle.block_list.specs.Blocks.{joined, block_at}
 use Rattle.block_list.specs.Bounds.{HasSides, first_passes}
 use Rattle.block_list.proofs.Sides.{sides-none, sides-joined}
 use Rattle.block_list.proofs.blocks.gap_before.Goals as goal

@@ -1,5 +1,5 @@
 -- The item is put into a block, and a full block is parted.
-use Rattle.std.proofs.Common.{◌≡◌, ◌<◌, List, [], length, ap, sym, ◌∙◌, subst, arith}
+use Rattle.std.proofs.Common.{◌≡◌, ◌<◌, [], length, ap, sym, ◌∙◌, subst, arith}
 use Rattle.std.specs.List.{insert, All}
 use Rattle.std.proofs.lemmas.List.{length-set, get_or_default}
 use Rattle.block_list.specs.Blocks.{joined, block_at, IsFilled}
