@@ -44,7 +44,8 @@ find-crossed (s ∷ slots) (suc n) within enough crossed =
         rest (omega (arith, ints, above)) (λ less. let sum = below less in omega (arith, ints, sum))
 
 -- so it does where a running sum from nothing first falls below it
-pub find-first_below : (slots : List Slot) (n : ℕ) (before : ℤ) → IsFirstBelow suspect_weight slots 0 (length slots) (pos 0) n before
+pub find-first_below : (slots : List Slot) (n : ℕ) (before : ℤ)
+    → IsFirstBelow suspect_weight slots 0 (length slots) (pos 0) n before
     → find is_suspect slots ≡ slice_get slots n
 find-first_below slots n before below =
     let enough : pos 0 ≤ℤ total suspect_weight (take n slots) = elim (cases_lt 0 n) [

@@ -28,7 +28,8 @@ published-none (s ∷ slots) (suc m) none =
     (published-none slots m (λ k d less within. none (suc k) d (omega (arith, less)) (omega (arith, within))))
 
 -- it goes on over those that were not valued
-pub published-skip : (slots : List Slot) (i m n : ℕ) → n ≡ i + m → AreNotRevalued (drop i slots) m → published_until slots n ≡ published_until slots i
+pub published-skip : (slots : List Slot) (i m n : ℕ) → n ≡ i + m → AreNotRevalued (drop i slots) m
+    → published_until slots n ≡ published_until slots i
 published-skip [] i m n is none = published-nil n ∙ sym (published-nil i)
 published-skip (s ∷ slots) zero m n is none =
     let same : n ≡ m = omega (arith, is) in
@@ -68,7 +69,8 @@ position-none : (run : List Slot) → position is_revalued run ≡ None → AreN
 position-none run none k d less within =
     by_cases (nat_lt (position_or_len is_revalued run) (length run)) refl none
   where
-    by_cases : (b : Bool) → nat_lt (position_or_len is_revalued run) (length run) ≡ b → cond b (Some (position_or_len is_revalued run)) None ≡ None
+    by_cases : (b : Bool) → nat_lt (position_or_len is_revalued run) (length run) ≡ b
+        → cond b (Some (position_or_len is_revalued run)) None ≡ None
         → is_revalued (get_or run k d) ≡ false
     by_cases true is h = cc
     by_cases false is h =
@@ -78,7 +80,8 @@ position-none run none k d less within =
 position-some : (run : List Slot) (i : ℕ) → position is_revalued run ≡ Some i → (i < length run) × AreNotRevalued run i
 position-some run i found = by_cases (nat_lt (position_or_len is_revalued run) (length run)) refl found
   where
-    by_cases : (b : Bool) → nat_lt (position_or_len is_revalued run) (length run) ≡ b → cond b (Some (position_or_len is_revalued run)) None ≡ Some i
+    by_cases : (b : Bool) → nat_lt (position_or_len is_revalued run) (length run) ≡ b
+        → cond b (Some (position_or_len is_revalued run)) None ≡ Some i
         → (i < length run) × AreNotRevalued run i
     by_cases true is h =
         let first : position_or_len is_revalued run ≡ i = cc in
@@ -87,7 +90,8 @@ position-some run i found = by_cases (nat_lt (position_or_len is_revalued run) (
     by_cases false is h = cc
 
 -- those that stand beside an index are the next ones of all
-run-beside : (slots items run : List Slot) (index : ℕ) → items ≡ published_until slots index → run ≡ take (length run) (drop index items)
+run-beside : (slots items run : List Slot) (index : ℕ) → items ≡ published_until slots index
+    → run ≡ take (length run) (drop index items)
     → run ≡ take (length run) (drop index slots)
 run-beside slots items run index is beside =
     beside ∙ ap (λ (xs : List Slot). take (length run) (drop index xs)) is ∙ ap (take (length run)) (drop-published slots index)
@@ -97,13 +101,15 @@ read-beside : (slots run : List Slot) (index k : ℕ) (d : Slot) → run ≡ tak
 read-beside slots run index k d beside less =
     sym (get_or-take (length run) (drop index slots) k d less) ∙ ap (λ (xs : List Slot). get_or xs k d) (sym beside)
 
-not-beside : (slots run : List Slot) (index m : ℕ) → run ≡ take (length run) (drop index slots) → m ≤ length run → AreNotRevalued run m
+not-beside : (slots run : List Slot) (index m : ℕ) → run ≡ take (length run) (drop index slots) → m ≤ length run
+    → AreNotRevalued run m
     → AreNotRevalued (drop index slots) m
 not-beside slots run index m beside few none k d less within =
     ap is_revalued (read-beside slots run index k d beside (omega (arith, less, few))) ∙ none k d less (omega (arith, less, few))
 
 -- where none of those that stand beside an index was valued, all of them are passed
-pub published-run : (slots items run : List Slot) (index : ℕ) → items ≡ published_until slots index → run ≡ take (length run) (drop index items)
+pub published-run : (slots items run : List Slot) (index : ℕ) → items ≡ published_until slots index
+    → run ≡ take (length run) (drop index items)
     → position is_revalued run ≡ None → items ≡ published_until slots (index + length run)
 published-run slots items run index is beside none =
     let own = run-beside slots items run index is beside in

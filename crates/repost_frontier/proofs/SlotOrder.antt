@@ -25,7 +25,8 @@ not-false true h = refl
 not-false false h = absurd (false≢true (sym h))
 
 -- a change of the one at a place is a change of what stands there
-map-standing : (f : Slot → Slot) (slots : List Slot) (place : Place) (n : ℕ) (s : Slot) → IsInPostingOrder (map slot_entry slots)
+map-standing : (f : Slot → Slot) (slots : List Slot) (place : Place) (n : ℕ) (s : Slot)
+    → IsInPostingOrder (map slot_entry slots)
     → IsStanding slots place n s → map (λ t. cond (is_slot_at place t) (f t) t) slots ≡ set slots n (f s)
 map-standing f slots place n s order standing =
     let at = (find-found (is_slot_at place) slots s standing.found).0 in
@@ -36,7 +37,8 @@ map-no_standing : (f : Slot → Slot) (slots : List Slot) (place : Place) → sl
     → map (λ t. cond (is_slot_at place t) (f t) t) slots ≡ slots
 map-no_standing f slots place none = map-none (is_slot_at place) f slots (Fails-from_none (is_slot_at place) slots none)
 
-pub marks-standing : (slots : List Slot) (place : Place) (n : ℕ) (s : Slot) → IsInPostingOrder (map slot_entry slots) → IsStanding slots place n s
+pub marks-standing : (slots : List Slot) (place : Place) (n : ℕ) (s : Slot) → IsInPostingOrder (map slot_entry slots)
+    → IsStanding slots place n s
     → set slots n (marked s) ≡ marks slots place
 marks-standing slots place n s order standing = sym (map-standing marked slots place n s order standing)
 
@@ -52,7 +54,8 @@ set-same [] (suc n) s read = cc
 set-same (t ∷ slots) zero s read = let same : s ≡ t = cc in ap (λ (u : Slot). u ∷ slots) same
 set-same (t ∷ slots) (suc n) s read = ap (λ ts. t ∷ ts) (set-same slots n s read)
 
-pub marks-suspect : (slots : List Slot) (place : Place) (n : ℕ) (s : Slot) → IsInPostingOrder (map slot_entry slots) → IsStanding slots place n s
+pub marks-suspect : (slots : List Slot) (place : Place) (n : ℕ) (s : Slot) → IsInPostingOrder (map slot_entry slots)
+    → IsStanding slots place n s
     → not s.is_suspect ≡ false → slots ≡ marks slots place
 marks-suspect slots place n s order standing suspect =
     sym (set-same slots n s standing.read) ∙ ap (set slots n) (sym (marked-same s suspect)) ∙ marks-standing slots place n s order standing
@@ -60,15 +63,18 @@ marks-suspect slots place n s order standing suspect =
 pub marks-none : (slots : List Slot) (place : Place) → slot_at slots place ≡ None → slots ≡ marks slots place
 marks-none slots place none = sym (map-no_standing marked slots place none)
 
-pub with_value-standing : (slots : List Slot) (place : Place) (found : Valued) (n : ℕ) (s : Slot) → IsInPostingOrder (map slot_entry slots)
+pub with_value-standing : (slots : List Slot) (place : Place) (found : Valued) (n : ℕ) (s : Slot)
+    → IsInPostingOrder (map slot_entry slots)
     → IsStanding slots place n s → set slots n (with_found found s) ≡ with_value slots place found
 with_value-standing slots place found n s order standing = sym (map-standing (with_found found) slots place n s order standing)
 
-pub with_value-none : (slots : List Slot) (place : Place) (found : Valued) → slot_at slots place ≡ None → slots ≡ with_value slots place found
+pub with_value-none : (slots : List Slot) (place : Place) (found : Valued) → slot_at slots place ≡ None
+    → slots ≡ with_value slots place found
 with_value-none slots place found none = sym (map-no_standing (with_found found) slots place none)
 
 -- what keeps the movement of each keeps all
-entries-same : (f : Slot → Slot) → ((s : Slot) → slot_entry (f s) ≡ slot_entry s) → (slots : List Slot) → map slot_entry (map f slots) ≡ map slot_entry slots
+entries-same : (f : Slot → Slot) → ((s : Slot) → slot_entry (f s) ≡ slot_entry s) → (slots : List Slot)
+    → map slot_entry (map f slots) ≡ map slot_entry slots
 entries-same f same [] = refl
 entries-same f same (s ∷ slots) =
     ap (λ e. e ∷ map slot_entry (map f slots)) (same s) ∙ ap (λ es. slot_entry s ∷ es) (entries-same f same slots)
@@ -84,14 +90,16 @@ entry-valued_at place found s =
 pub entries-marks : (slots : List Slot) (place : Place) → map slot_entry (marks slots place) ≡ map slot_entry slots
 entries-marks slots place = entries-same (mark_at place) (entry-mark_at place) slots
 
-pub entries-with_value : (slots : List Slot) (place : Place) (found : Valued) → map slot_entry (with_value slots place found) ≡ map slot_entry slots
+pub entries-with_value : (slots : List Slot) (place : Place) (found : Valued)
+    → map slot_entry (with_value slots place found) ≡ map slot_entry slots
 entries-with_value slots place found = entries-same (valued_at place found) (entry-valued_at place found) slots
 
 pub entries-published : (slots : List Slot) → map slot_entry (map as_published slots) ≡ map slot_entry slots
 entries-published slots = entries-same as_published (λ s. refl) slots
 
 -- what is put among the others is put among their movements
-pub entries-put_slot : (slots : List Slot) (s : Slot) → map slot_entry (put_slot slots s) ≡ put (map slot_entry slots) (slot_entry s)
+pub entries-put_slot : (slots : List Slot) (s : Slot)
+    → map slot_entry (put_slot slots s) ≡ put (map slot_entry slots) (slot_entry s)
 entries-put_slot [] s = refl
 entries-put_slot (t ∷ ts) s =
     elim (is_before (slot_place s) (slot_place t))
@@ -107,7 +115,8 @@ Precedes-along s t (u ∷ us) h k =
     (is_before-transitive (slot_place s) (slot_place t) (slot_place u) h k.0, Precedes-along s t us h k.1)
 
 -- one that comes before each and before one more comes before all with that one
-put_slot-Precedes : (t : Slot) (slots : List Slot) (s : Slot) → Precedes IsSlotBefore t slots → IsSlotBefore t s → Precedes IsSlotBefore t (put_slot slots s)
+put_slot-Precedes : (t : Slot) (slots : List Slot) (s : Slot) → Precedes IsSlotBefore t slots → IsSlotBefore t s
+    → Precedes IsSlotBefore t (put_slot slots s)
 put_slot-Precedes t [] s h r = (r, tt)
 put_slot-Precedes t (u ∷ us) s h r =
     elim (is_before (slot_place s) (slot_place u)) as (λ b. Precedes IsSlotBefore t (cond b (s ∷ u ∷ us) (u ∷ put_slot us s))) [
@@ -116,18 +125,21 @@ put_slot-Precedes t (u ∷ us) s h r =
     ]
 
 -- a movement put among those in order, none of them at its place, leaves them in order
-put_slot-Pairwise : (slots : List Slot) (s : Slot) → Pairwise IsSlotBefore slots → Each (Fails (is_slot_at (slot_place s))) slots → Pairwise IsSlotBefore (put_slot slots s)
+put_slot-Pairwise : (slots : List Slot) (s : Slot) → Pairwise IsSlotBefore slots
+    → Each (Fails (is_slot_at (slot_place s))) slots → Pairwise IsSlotBefore (put_slot slots s)
 put_slot-Pairwise [] s h apart = (tt, tt)
 put_slot-Pairwise (t ∷ ts) s h apart = by_cases (is_before (slot_place s) (slot_place t)) refl (put_slot-Pairwise ts s h.1 apart.1)
   where
-    by_cases : (b : Bool) → is_before (slot_place s) (slot_place t) ≡ b → Pairwise IsSlotBefore (put_slot ts s) → Pairwise IsSlotBefore (cond b (s ∷ t ∷ ts) (t ∷ put_slot ts s))
+    by_cases : (b : Bool) → is_before (slot_place s) (slot_place t) ≡ b → Pairwise IsSlotBefore (put_slot ts s)
+        → Pairwise IsSlotBefore (cond b (s ∷ t ∷ ts) (t ∷ put_slot ts s))
     by_cases true is rest = ((is, Precedes-along s t ts is h.0), h)
     by_cases false is rest =
         let before : IsSlotBefore t s = passes_from_not_fails (is_before (slot_place t)) (slot_place s)
         (λ not_before. false≢true (sym is ∙ is_before-other (slot_place t) (slot_place s) apart.0 not_before)) in
         (put_slot-Precedes t ts s h.0 before, rest)
 
-pub put_slot-in_order : (slots : List Slot) (s : Slot) → IsInPostingOrder (map slot_entry slots) → slot_at slots (slot_place s) ≡ None
+pub put_slot-in_order : (slots : List Slot) (s : Slot) → IsInPostingOrder (map slot_entry slots)
+    → slot_at slots (slot_place s) ≡ None
     → IsInPostingOrder (map slot_entry (put_slot slots s))
 put_slot-in_order slots s order none =
     from-ordered (put_slot slots s)

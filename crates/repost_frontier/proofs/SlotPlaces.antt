@@ -19,11 +19,13 @@ abbrev pub IsSlotBefore : Slot → Slot → Type 0
 IsSlotBefore a b = IsTrue (is_before (slot_place a) (slot_place b))
 
 -- a movement that comes before others does so with what was found of them, and back
-Precedes-slots : (s : Slot) (slots : List Slot) → Precedes IsBefore (slot_entry s) (map slot_entry slots) → Precedes IsSlotBefore s slots
+Precedes-slots : (s : Slot) (slots : List Slot) → Precedes IsBefore (slot_entry s) (map slot_entry slots)
+    → Precedes IsSlotBefore s slots
 Precedes-slots s [] h = tt
 Precedes-slots s (t ∷ ts) h = (h.0, Precedes-slots s ts h.1)
 
-Precedes-entries : (s : Slot) (slots : List Slot) → Precedes IsSlotBefore s slots → Precedes IsBefore (slot_entry s) (map slot_entry slots)
+Precedes-entries : (s : Slot) (slots : List Slot) → Precedes IsSlotBefore s slots
+    → Precedes IsBefore (slot_entry s) (map slot_entry slots)
 Precedes-entries s [] h = tt
 Precedes-entries s (t ∷ ts) h = (h.0, Precedes-entries s ts h.1)
 
@@ -119,7 +121,8 @@ abbrev pub HoldsBack : (Slot → Bool) → Type 0
 HoldsBack p = (a b : Slot) → IsSlotBefore a b → p b ≡ true → p a ≡ true
 
 -- such a test parts movements in posting order
-pub IsPartitionedBy-HoldsBack : (p : Slot → Bool) → HoldsBack p → (slots : List Slot) → Pairwise IsSlotBefore slots → IsPartitionedBy p slots
+pub IsPartitionedBy-HoldsBack : (p : Slot → Bool) → HoldsBack p → (slots : List Slot) → Pairwise IsSlotBefore slots
+    → IsPartitionedBy p slots
 IsPartitionedBy-HoldsBack p back slots order i j d le within passes =
     elim (cases_lt i j) [
       | inl less ↦ back (get_or slots i d) (get_or slots j d) (AllPairs-from_Pairwise IsSlotBefore slots order i j d less within) passes
@@ -130,7 +133,8 @@ pub comes_before-back : (place : Place) → HoldsBack (slot_comes_before place)
 comes_before-back place a b before passes = is_before-transitive (slot_place a) (slot_place b) place before passes
 
 -- what is read at an index is in the list
-pub read-within : (slots : List Slot) (n : ℕ) (s : Slot) → slice_get slots n ≡ Some s → (n < length slots) × (s ≡ get_or slots n s)
+pub read-within : (slots : List Slot) (n : ℕ) (s : Slot) → slice_get slots n ≡ Some s
+    → (n < length slots) × (s ≡ get_or slots n s)
 read-within slots n s read =
     elim (cases_lt n (length slots)) [
       | inl within ↦ (within, sym (get_or_from_slice_get slots n s s read))
@@ -142,13 +146,15 @@ abbrev pub IsPointOf : Place → List Slot → ℕ → Type 0
 IsPointOf place slots n = IsPartitionPoint (λ s. slot_comes_before place s ≡ true) (λ s. slot_comes_before place s ≡ false) slots n
 
 -- there stands the movement of the place
-pub found-there : (place : Place) (slots : List Slot) (n : ℕ) (s : Slot) → IsInPostingOrder (map slot_entry slots) → slice_get slots n ≡ Some s
+pub found-there : (place : Place) (slots : List Slot) (n : ℕ) (s : Slot) → IsInPostingOrder (map slot_entry slots)
+    → slice_get slots n ≡ Some s
     → is_slot_at place s ≡ true → slot_at slots place ≡ Some s
 found-there place slots n s order read at =
     find-StandsAt (is_slot_at place) slots n (stands place slots n s (ordered slots order) read at) ∙ read
 
 -- or none does
-pub found-other : (place : Place) (slots : List Slot) (n : ℕ) (s : Slot) → IsInPostingOrder (map slot_entry slots) → IsPointOf place slots n
+pub found-other : (place : Place) (slots : List Slot) (n : ℕ) (s : Slot) → IsInPostingOrder (map slot_entry slots)
+    → IsPointOf place slots n
     → slice_get slots n ≡ Some s → is_slot_at place s ≡ false → slot_at slots place ≡ None
 found-other place slots n s order point read other =
     let within = read-within slots n s read in
@@ -170,12 +176,14 @@ found-past place slots n order point past =
 pub found-place : (slots : List Slot) (place : Place) (s : Slot) → slot_at slots place ≡ Some s → slot_place s ≡ place
 found-place slots place s found = is_slot_at-true place s (find-found (is_slot_at place) slots s found).0
 
-pub told-place : (slots : List Slot) (place : Place) (o : Option Slot) → o ≡ slot_at slots place → IfSome o (λ s. slot_place s ≡ place)
+pub told-place : (slots : List Slot) (place : Place) (o : Option Slot) → o ≡ slot_at slots place
+    → IfSome o (λ s. slot_place s ≡ place)
 told-place slots place None is = tt
 told-place slots place (Some s) is = found-place slots place s (sym is)
 
 -- a movement of the list is found at its place
-pub Contains-found : (slots : List Slot) (s : Slot) → IsInPostingOrder (map slot_entry slots) → Contains slots s → slot_at slots (slot_place s) ≡ Some s
+pub Contains-found : (slots : List Slot) (s : Slot) → IsInPostingOrder (map slot_entry slots) → Contains slots s
+    → slot_at slots (slot_place s) ≡ Some s
 Contains-found slots s order (n, within, is) =
     let read : slice_get slots n ≡ Some s = slice_get-get_or slots n s within ∙ ap Some is in
     found-there (slot_place s) slots n s order read (is_slot_at-own s)

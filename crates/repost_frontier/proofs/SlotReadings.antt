@@ -23,7 +23,8 @@ use Rattle.repost_frontier.proofs.SlotPlaces.{IsSlotBefore, ordered, is_slot_at-
 abbrev KeepsEntries : (Slot → Slot) → Type 0
 KeepsEntries f = (s : Slot) → slot_entry (f s) ≡ slot_entry s
 
-slot_at-map : (f : Slot → Slot) → KeepsEntries f → (slots : List Slot) (p : Place) → slot_at (map f slots) p ≡ option_map f (slot_at slots p)
+slot_at-map : (f : Slot → Slot) → KeepsEntries f → (slots : List Slot) (p : Place)
+    → slot_at (map f slots) p ≡ option_map f (slot_at slots p)
 slot_at-map f keeps slots p =
     let of_entry : Entry → Bool = λ e. is_slot_at p (new_slot e) in
     find-map (is_slot_at p) f (λ s. ap of_entry (keeps s)) slots
@@ -43,7 +44,8 @@ read-kept read none f keeps slots p same =
     by_cases (Some s) is = same s (found-place slots p s is)
 
 -- where it makes something of the one at a place
-read-made : {R : Type 0} (read : Slot → R) (none : R) (f : Slot → Slot) → KeepsEntries f → (slots : List Slot) (p : Place) (s : Slot) (made : R)
+read-made : {R : Type 0} (read : Slot → R) (none : R) (f : Slot → Slot) → KeepsEntries f
+    → (slots : List Slot) (p : Place) (s : Slot) (made : R)
     → slot_at slots p ≡ Some s → read (f s) ≡ made → read_at read none (map f slots) p ≡ made
 read-made read none f keeps slots p s made found is =
     ap (λ (o : Option Slot). option_map_or read o none) (slot_at-map f keeps slots p ∙ ap (option_map f) found) ∙ is
@@ -90,7 +92,8 @@ suspect-valued slots place v =
     ap (λ (o : Option Slot). option_map_or is_suspect o false) (slot_at-map (valued_at place v) (entry-valued_at place v) slots place)
     ∙ by_cases (slot_at slots place) refl
   where
-    by_cases : (o : Option Slot) → slot_at slots place ≡ o → option_map_or is_suspect (option_map (valued_at place v) o) false ≡ false
+    by_cases : (o : Option Slot) → slot_at slots place ≡ o
+        → option_map_or is_suspect (option_map (valued_at place v) o) false ≡ false
     by_cases None is = refl
     by_cases (Some s) is = ap is_suspect (valued_at-own place v s (found-place slots place s is))
 
@@ -100,12 +103,14 @@ suspects-valued slots place v p other =
     read-kept is_suspect false (valued_at place v) (entry-valued_at place v) slots p (λ t at. ap is_suspect (valued_at-other place p v t other at))
 
 -- marks
-pub suspect-marked : (slots : List Slot) (place : Place) (s : Slot) → slot_at slots place ≡ Some s → suspects_of (marks slots place) place ≡ true
+pub suspect-marked : (slots : List Slot) (place : Place) (s : Slot) → slot_at slots place ≡ Some s
+    → suspects_of (marks slots place) place ≡ true
 suspect-marked slots place s found =
     read-made is_suspect false (mark_at place) (entry-mark_at place) slots place s true found
     (ap is_suspect (mark_at-own place s (found-place slots place s found)))
 
-pub suspects-marked : (slots : List Slot) (place p : Place) → p ≢ place → suspects_of (marks slots place) p ≡ suspects_of slots p
+pub suspects-marked : (slots : List Slot) (place p : Place) → p ≢ place
+    → suspects_of (marks slots place) p ≡ suspects_of slots p
 suspects-marked slots place p other =
     read-kept is_suspect false (mark_at place) (entry-mark_at place) slots p (λ t at. ap is_suspect (mark_at-other place p t other at))
 
@@ -144,7 +149,8 @@ slot_at-put_own (t ∷ ts) s p at none =
       | false ↦ rw none.0 (slot_at-put_own ts s p at none.1)
     ]
 
-slot_at-put_other : (slots : List Slot) (s : Slot) (p : Place) → is_slot_at p s ≡ false → slot_at (put_slot slots s) p ≡ slot_at slots p
+slot_at-put_other : (slots : List Slot) (s : Slot) (p : Place) → is_slot_at p s ≡ false
+    → slot_at (put_slot slots s) p ≡ slot_at slots p
 slot_at-put_other [] s p other = rw other refl
 slot_at-put_other (t ∷ ts) s p other =
     elim (is_before (slot_place s) (slot_place t))
@@ -179,20 +185,25 @@ read-put read none slots e p apart nothing =
       | inr other ↦ read-put_other read none slots e p other
     ]
 
-pub suspect-put : (slots : List Slot) (e : Entry) → slot_at slots e.place ≡ None → suspects_of (put_slot slots (new_slot e)) e.place ≡ true
+pub suspect-put : (slots : List Slot) (e : Entry) → slot_at slots e.place ≡ None
+    → suspects_of (put_slot slots (new_slot e)) e.place ≡ true
 suspect-put slots e apart = read-put_own is_suspect false slots e apart
 
-pub suspects-put : (slots : List Slot) (e : Entry) (p : Place) → p ≢ e.place → suspects_of (put_slot slots (new_slot e)) p ≡ suspects_of slots p
+pub suspects-put : (slots : List Slot) (e : Entry) (p : Place) → p ≢ e.place
+    → suspects_of (put_slot slots (new_slot e)) p ≡ suspects_of slots p
 suspects-put slots e p other = read-put_other is_suspect false slots e p other
 
-pub found-put : (slots : List Slot) (e : Entry) (p : Place) → slot_at slots e.place ≡ None → found_of (put_slot slots (new_slot e)) p ≡ found_of slots p
+pub found-put : (slots : List Slot) (e : Entry) (p : Place) → slot_at slots e.place ≡ None
+    → found_of (put_slot slots (new_slot e)) p ≡ found_of slots p
 found-put slots e p apart = read-put slot_found None slots e p apart refl
 
-pub revalued-put : (slots : List Slot) (e : Entry) (p : Place) → slot_at slots e.place ≡ None → revalued_of (put_slot slots (new_slot e)) p ≡ revalued_of slots p
+pub revalued-put : (slots : List Slot) (e : Entry) (p : Place) → slot_at slots e.place ≡ None
+    → revalued_of (put_slot slots (new_slot e)) p ≡ revalued_of slots p
 revalued-put slots e p apart = read-put is_revalued false slots e p apart refl
 
 -- a movement of the line with what was found of it
-pub Contains-slot : (slots : List Slot) (e : Entry) → Contains (map slot_entry slots) e → (s : Slot) × Contains slots s × (slot_entry s ≡ e)
+pub Contains-slot : (slots : List Slot) (e : Entry) → Contains (map slot_entry slots) e
+    → (s : Slot) × Contains slots s × (slot_entry s ≡ e)
 Contains-slot [] e held = absurd (omega (arith, held.1))
 Contains-slot (s ∷ slots) e held =
     elim (Contains-cases (slot_entry s) (map slot_entry slots) e held) [

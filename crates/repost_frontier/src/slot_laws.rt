@@ -4,6 +4,7 @@ ghost use Rattle.std.specs.List.{find};
 ghost use Rattle.stock_nums.specs.declared.entry.Entry.{Entry};
 ghost use Rattle.stock_nums.specs.declared.place.Place.{Place};
 ghost use Rattle.stock_model.specs.InOrder.{IsInPostingOrder};
+ghost use Rattle.stock_model.specs.PostingOrder.{put};
 ghost use Rattle.cost_links.specs.declared.values.Valued.{Valued};
 ghost use Rattle.repost_laws.specs.Builds.{IsFoundAt, IsValuedAt, IsFirst, IsClean};
 ghost use Rattle.repost_frontier.specs.Readings.{value_of, found_of, suspects_of, revalued_of};
@@ -45,6 +46,8 @@ pub fn new_ones_are_suspect()
         → found_of (put_slot slots (new_slot e)) p ≡ found_of slots p }
     ensures revalued { (slots : List Slot) (e : Entry) (p : Place) → slot_at slots e.place ≡ None
         → revalued_of (put_slot slots (new_slot e)) p ≡ revalued_of slots p }
+    ensures entries { (slots : List Slot) (e : Entry)
+        → map slot_entry (put_slot slots (new_slot e)) ≡ put (map slot_entry slots) e }
 {}
 
 /// The first movement in posting order that is suspect is the first suspect of the line, and where there is none the line is
