@@ -1,8 +1,8 @@
 pub mod ChargeSums
 pub mod LastOne
 pub mod LinkSteps
-pub mod LinksBefore
 pub mod ReadyRows
+pub mod ReturnSteps
 pub mod RowSums
 pub mod Splits
 pub mod StockMoves

@@ -1,4 +1,5 @@
 pub mod Charged
+pub mod Ends
 pub mod Formulas
 pub mod Linked
 pub mod Ready

@@ -1,27 +1,22 @@
 -- What is kept for lines of vouchers, and for items in warehouses.
 use Rattle.std.specs.Prelude.{ℕ, List, [], Option, Some, None, unwrap_or, unsigned_abs}
 use Rattle.std.specs.BTreeMap.{get}
+use Rattle.std.specs.Option.{option_map}
+use Rattle.std.specs.Vec.{vec_items}
 use Rattle.std.specs.declared.cmp.Ordering.{Ordering}
 use Rattle.stock_nums.specs.FirstIn.{Layer}
 use Rattle.stock_nums.specs.LineSums.{target_cmp}
 use Rattle.stock_nums.specs.contracts.entry.KeyOrd.TheImpl as key_order
-use Rattle.stock_nums.specs.contracts.place.SpotOrd.TheImpl as spot_order
 use Rattle.stock_nums.specs.declared.cause.Target.{Target}
 use Rattle.stock_nums.specs.declared.entry.Entry.{Entry}
 use Rattle.stock_nums.specs.declared.entry.Key.{Key}
-use Rattle.stock_nums.specs.declared.place.Place.{Place}
-use Rattle.stock_nums.specs.declared.place.Spot.{Spot}
 use Rattle.cost_formulas.specs.Lots.{Lot}
 use Rattle.cost_formulas.specs.declared.average.Average.{Average}
 use Rattle.cost_links.specs.declared.averages.Averages.{Averages}
-use Rattle.cost_links.specs.declared.dependants.Dependants.{Dependants}
 use Rattle.cost_links.specs.declared.queues.Queues.{Queues}
 use Rattle.cost_links.specs.declared.returns.Returns.{Returns}
 
--- the order of movements without their moments, and of items in warehouses
-abbrev pub spot_cmp : Spot → Spot → Ordering
-spot_cmp = (spot_order.ghosts).cmp
-
+-- the order of items in warehouses
 abbrev pub key_cmp : Key → Key → Ordering
 key_cmp = (key_order.ghosts).cmp
 
@@ -44,8 +39,4 @@ layers_of queues key = unwrap_or (get key_cmp queues.by_key key) []
 
 -- the movements that return units of a line
 abbrev pub entries_to : Returns → Target → List Entry
-entries_to returns line = unwrap_or (get target_cmp returns.by_line line) []
-
--- the places of the movements that take their value over from the one at a spot
-abbrev pub places_of : Dependants → Spot → List Place
-places_of dependants spot = unwrap_or (get spot_cmp dependants.by_source spot) []
+entries_to returns line = unwrap_or (option_map vec_items (get target_cmp returns.by_line line)) []

@@ -10,16 +10,13 @@ use Rattle.stock_nums.specs.declared.cause.Method.TheVariants.{Fifo, Average}
 use Rattle.stock_nums.specs.declared.entry.Entry.{Entry}
 use Rattle.stock_nums.specs.declared.entry.Row.{Row}
 use Rattle.stock_nums.specs.declared.limits.TheConstants.{MAX_UNITS, MAX_VALUE}
-use Rattle.stock_nums.specs.declared.numbers.Minor.{Minor}
 use Rattle.stock_model.specs.Enough.{entry_key}
 use Rattle.stock_model.specs.LandedCost.{added}
 use Rattle.stock_model.specs.Values.{own_line, line_cost, returned_before, fifo_cost}
 use Rattle.stock_model.specs.declared.records.Record.{Record}
-use Rattle.cost_formulas.specs.declared.average.Average.{Average as AverageHeld}
-use Rattle.cost_links.specs.declared.links.Links.{Links}
-use Rattle.cost_links.specs.Linked.{charged_of, back_of}
 use Rattle.cost_links.specs.Stocks.{IsAverageOf}
 use Rattle.cost_links.specs.Tables.{Held, held_by}
+use Rattle.cost_links.specs.declared.values.TakenOver.{TakenOver}
 
 -- what is charged to the movement's line, how many units of its target were returned before, what is held before it at the
 -- moving average, and what its units cost first in, first out, or what its source is worth
@@ -29,10 +26,10 @@ pub record Taken : Type 0 where
   pub held : Held
   pub linked : ℕ
 
--- what the movement takes over from these
-abbrev pub taken : Links → AverageHeld → Minor → Entry → Taken
-taken links before linked e =
-    record { charged = charged_of links (own_line e); back = back_of links e; held = held_by (Some before); linked = unsigned_abs linked.0 }
+-- these as numbers
+abbrev pub taken_of : TakenOver → Taken
+taken_of t =
+    record { charged = unsigned_abs t.charged.0; back = t.back.0; held = held_by (Some t.held); linked = unsigned_abs t.linked.0 }
 
 -- what units that leave cost by the item's formula
 abbrev pub cost_taken : Method → Held → ℕ → ℕ → ℕ

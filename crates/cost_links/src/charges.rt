@@ -1,16 +1,16 @@
 //! What the landed vouchers of a journal charge to lines of receipts (IAS 2.10 and 11).
-ghost use Rattle.std.specs.Prelude.{◌≡◌, ◌+◌, ◌^◌, ◌<◌, ◌≤◌, length, map, unsigned_abs, IsTrue, OnOk, IfOk};
-ghost use Rattle.std.specs.List.{zip};
+ghost use Rattle.std.specs.Prelude.{◌≡◌, ◌+◌, ◌^◌, ◌<◌, ◌≤◌, ◌++◌, length, drop, map, unsigned_abs, IsTrue, OnOk, IfOk};
+ghost use Rattle.std.specs.List.{flat_map, zip};
 ghost use Rattle.stock_nums.specs.LineSums.{number_of};
 ghost use Rattle.stock_nums.specs.Quantities.{is_line_amount};
 ghost use Rattle.stock_nums.specs.Shares.{shares};
 ghost use Rattle.stock_nums.specs.declared.cause.Target.{Target};
-ghost use Rattle.stock_nums.specs.declared.limits.TheConstants.{MAX_AMOUNT, MAX_LINES};
-ghost use Rattle.stock_model.specs.LandedCost.{added, charged, weights};
+ghost use Rattle.stock_nums.specs.declared.limits.TheConstants.{MAX_LINES};
+ghost use Rattle.stock_model.specs.LandedCost.{added, charged, record_charged, weights};
 ghost use Rattle.stock_model.specs.Limits.{is_within_limits};
-ghost use Rattle.cost_links.specs.Charged.{amount, charged_to};
+ghost use Rattle.cost_links.specs.Charged.{HaveRoom, amount, charge_pairs, charged_to, with_nothing};
 
-use crate::sums::{add_to, amount};
+use crate::sums::amount;
 use landed_cost::shares::{ShareFault, shares};
 use std::alloc::Global;
 use stock_model::landed_weights::weight;
@@ -22,6 +22,32 @@ use stock_nums::line_sums::LineSums;
 use stock_nums::lines::Lines;
 use stock_nums::memory::NoMemory;
 use stock_nums::numbers::Minor;
+
+/// What a voucher of landed charges charges to a line of a receipt.
+#[derive(Clone, Copy, Debug, PartialEq, Eq)]
+pub struct Charge {
+    pub line: Target,
+    /// In minor units, not below 0.
+    pub amount: Minor,
+}
+
+/// What the records from an index on charge, voucher by voucher: a charge for each line that a voucher names. Lines are
+/// weighed by all of the records.
+pub fn charges_from(
+    alloc: Global,
+    records: &[Record],
+    from: usize,
+) -> Result<Lines<Charge>, NoMemory>
+    requires records { length records.now < 2 ^ 32 }
+    requires within { from ≤ length records.now }
+    ensures { IfOk result (λ charges. charge_pairs charges ≡ flat_map (record_charged records.now) (drop from records.now)) }
+{
+    let mut charges = Lines::new(alloc);
+    for record in &records[from..] {
+        push_charged(&mut charges, alloc, records, &record.what)?;
+    }
+    Ok(charges)
+}
 
 /// The records of a journal, and what all of them charge to each line of a receipt.
 #[derive(Drop)]
@@ -37,10 +63,10 @@ impl<'a> Charges<'a> {
         requires { length records.now < 2 ^ 32 }
         ensures { IfOk result (λ charges. charges.records.now ≡ records.now) }
     {
+        let charges = charges_from(alloc, records, 0)?;
         let mut by_line = LineSums::new(alloc);
-        for record in records {
-            add_charged(&mut by_line, alloc, records, &record.what)?;
-        }
+        reserve_lines(&mut by_line, charges.as_slice())?;
+        add_charges(&mut by_line, charges.as_slice());
         Ok(Charges { records, by_line })
     }
 
@@ -52,31 +78,52 @@ impl<'a> Charges<'a> {
     }
 }
 
-/// Adds what a voucher charges. For want of memory some may be missing.
-pub(crate) fn add_charged(
-    sums: &mut LineSums,
+/// Makes room for what is charged to each of the lines. It changes no number.
+pub(crate) fn reserve_lines(sums: &mut LineSums, charges: &[Charge]) -> Result<(), NoMemory>
+    ensures same { (line : Target) → number_of sums.new line ≡ number_of sums.old line }
+    ensures room { OnOk result (HaveRoom sums.new charges.now) }
+{
+    for charge in charges {
+        sums.reserve(charge.line)?;
+    }
+    Ok(())
+}
+
+/// Adds what is charged to lines for which there is room. It takes no memory.
+pub(crate) fn add_charges(sums: &mut LineSums, charges: &[Charge])
+    requires room { HaveRoom sums.old charges.now }
+    requires fits { (line : Target) → number_of sums.old line + charged_to line (charge_pairs charges.now) < 2 ^ 128 }
+    ensures { (line : Target) → number_of sums.new line ≡ number_of sums.old line + charged_to line (charge_pairs charges.now) }
+{
+    for charge in charges {
+        sums.add(charge.line, amount(charge.amount));
+    }
+}
+
+// Adds what a voucher charges at the end.
+fn push_charged(
+    charges: &mut Lines<Charge>,
     alloc: Global,
     records: &[Record],
     what: &What,
 ) -> Result<(), NoMemory>
     requires records { length records.now < 2 ^ 32 }
     requires limits { IsTrue (is_within_limits what.now) }
-    requires room { (line : Target) → number_of sums.old line + MAX_AMOUNT < 2 ^ 128 }
-    ensures { OnOk result ((line : Target) → number_of sums.new line ≡ number_of sums.old line + charged_to line (charged records.now what.now)) }
+    ensures { OnOk result (charge_pairs charges.new ≡ charge_pairs charges.old ++ charged records.now what.now) }
 {
     match what {
         What::Landed {
             charge,
             basis,
             targets,
-        } => add_charge(sums, alloc, records, *charge, *basis, targets.as_slice()),
+        } => push_charge(charges, alloc, records, *charge, *basis, targets.as_slice()),
         _ => Ok(()),
     }
 }
 
-// Adds the shares of a charge that is parted over these lines.
-fn add_charge(
-    sums: &mut LineSums,
+// Adds the shares of a charge that is parted over these lines. Where there is no basis each is 0.
+fn push_charge(
+    charges: &mut Lines<Charge>,
     alloc: Global,
     records: &[Record],
     charge: Minor,
@@ -86,13 +133,13 @@ fn add_charge(
     requires records { length records.now < 2 ^ 32 }
     requires charge { IsTrue (is_line_amount charge.0) }
     requires targets { length targets.now ≤ MAX_LINES }
-    requires room { (line : Target) → number_of sums.old line + MAX_AMOUNT < 2 ^ 128 }
-    ensures { OnOk result ((line : Target) → number_of sums.new line ≡ number_of sums.old line + charged_to line (zip targets.now (shares (unsigned_abs charge.0) (weights records.now basis targets.now)))) }
+    ensures { OnOk result (charge_pairs charges.new
+        ≡ charge_pairs charges.old ++ zip targets.now (shares (unsigned_abs charge.0) (weights records.now basis targets.now))) }
 {
     let weights = weights_of(alloc, records, basis, targets)?;
     match shares(alloc, charge, weights.as_slice()) {
-        Ok(parts) => add_shares(sums, targets, parts.as_slice()),
-        Err(ShareFault::NoBasis) => Ok(()),
+        Ok(parts) => push_shares(charges, targets, parts.as_slice()),
+        Err(ShareFault::NoBasis) => push_nothing(charges, targets),
         Err(ShareFault::NoMemory) => Err(NoMemory),
     }
 }
@@ -115,15 +162,34 @@ fn weights_of(
     Ok(found)
 }
 
-// Adds a share to each of the lines.
-fn add_shares(sums: &mut LineSums, targets: &[Target], parts: &[Minor]) -> Result<(), NoMemory>
+// Adds a share for each of the lines.
+fn push_shares(
+    charges: &mut Lines<Charge>,
+    targets: &[Target],
+    parts: &[Minor],
+) -> Result<(), NoMemory>
     requires count { length parts.now ≡ length targets.now }
-    requires room { (line : Target) → number_of sums.old line + charged_to line (zip targets.now (map amount parts.now)) < 2 ^ 128 }
-    ensures { OnOk result ((line : Target) → number_of sums.new line ≡ number_of sums.old line + charged_to line (zip targets.now (map amount parts.now))) }
+    ensures { OnOk result (charge_pairs charges.new ≡ charge_pairs charges.old ++ zip targets.now (map amount parts.now)) }
 {
     for (index, target) in targets.iter().enumerate() {
-        let share = amount(parts[index]);
-        add_to(sums, *target, share)?;
+        let amount = parts[index];
+        charges.push(Charge {
+            line: *target,
+            amount,
+        })?;
+    }
+    Ok(())
+}
+
+// Adds a share of nothing for each of the lines.
+fn push_nothing(charges: &mut Lines<Charge>, targets: &[Target]) -> Result<(), NoMemory>
+    ensures { OnOk result (charge_pairs charges.new ≡ charge_pairs charges.old ++ map with_nothing targets.now) }
+{
+    for target in targets {
+        charges.push(Charge {
+            line: *target,
+            amount: Minor(0),
+        })?;
     }
     Ok(())
 }

@@ -2,8 +2,7 @@
 #![tactic(auto)]
 
 mod averages;
-mod charges;
-mod dependants;
+pub mod charges;
 pub mod links;
 mod queues;
 pub mod replay;

@@ -11,18 +11,15 @@ ghost use Rattle.stock_model.specs.Replay.{value_next, rows_of};
 ghost use Rattle.stock_model.specs.Sums.{quantity_in, quantity_out};
 ghost use Rattle.stock_model.specs.Values.{own_line, value_by, share_by};
 ghost use Rattle.stock_model.specs.declared.records.Record.{Record};
-ghost use Rattle.cost_links.specs.declared.links.Links.{Links};
-ghost use Rattle.cost_links.specs.Linked.{AreLinksOf, back_of};
 ghost use Rattle.cost_links.specs.Stocks.{IsAverageOf};
 ghost use Rattle.cost_links.specs.Tables.{Held, held_by};
-ghost use Rattle.cost_links.specs.Taken.{Taken, taken, cost_taken, value_taken, share_taken, held_entered, held_left, held_after, CanBeTaken, IsBackBy, IsTakenFrom};
+ghost use Rattle.cost_links.specs.Taken.{Taken, taken_of, cost_taken, value_taken, share_taken, held_entered, held_left, held_after, CanBeTaken, IsTakenFrom};
 
-use crate::links::Links;
 use cost_formulas::average::Average;
 use std::sync::ledger::Ledger;
-use stock_nums::cause::{Cause, Method, Target};
+use stock_nums::cause::{Cause, Method};
 use stock_nums::entry::{Entry, Worth};
-use stock_nums::numbers::Minor;
+use stock_nums::numbers::{Minor, Qty};
 use stock_nums::part::part;
 use stock_nums::place::Side;
 use stock_nums::steps::Steps;
@@ -35,27 +32,33 @@ pub struct Valued {
     pub after: Average,
 }
 
-/// What the movement is worth, and what is held after it, from what is held before it, from the links of the journal, and
-/// from what else it takes over: what its units cost first in, first out, or what its source is worth. It counts one step,
-/// and takes no memory.
-pub fn value_entry<L: Ledger>(
-    entry: &Entry,
-    before: &Average,
-    links: &Links,
-    linked: Minor,
-    steps: &mut Steps<L>,
-) -> Valued
-    requires from_zero { pos 0 ≤ℤ linked.0 }
-    requires taken { CanBeTaken (taken links.now before.now linked entry.now) entry.now }
-    ensures value { result.worth.value.0 ≡ value_taken (taken links.now before.now linked entry.now) entry.now entry.now.cause }
-    ensures share { result.worth.share.0 ≡ share_taken (taken links.now before.now linked entry.now) entry.now entry.now.cause }
-    ensures after { held_by (Some result.after) ≡ held_after (taken links.now before.now linked entry.now) entry.now }
+/// What a movement takes over from others.
+#[derive(Clone, Copy, Debug, PartialEq, Eq)]
+pub struct TakenOver {
+    /// What is charged to its line, not below 0.
+    pub charged: Minor,
+    /// How many units of its target are returned before it.
+    pub back: Qty,
+    /// What is held before it at the moving average (IAS 2.27).
+    pub held: Average,
+    /// What its units cost first in, first out, or what its source is worth: not below 0.
+    pub linked: Minor,
+}
+
+/// What the movement is worth, and what is held after it, from what it takes over. It counts one step, and takes no memory.
+pub fn value_entry<L: Ledger>(entry: &Entry, taken: &TakenOver, steps: &mut Steps<L>) -> Valued
+    requires charged_from_zero { pos 0 ≤ℤ taken.now.charged.0 }
+    requires from_zero { pos 0 ≤ℤ taken.now.linked.0 }
+    requires taken { CanBeTaken (taken_of taken.now) entry.now }
+    ensures value { result.worth.value.0 ≡ value_taken (taken_of taken.now) entry.now entry.now.cause }
+    ensures share { result.worth.share.0 ≡ share_taken (taken_of taken.now) entry.now entry.now.cause }
+    ensures after { held_by (Some result.after) ≡ held_after (taken_of taken.now) entry.now }
     ensures steps { steps.new ≡ steps.old + 1 }
 {
     steps.tick();
     match entry.place.side {
-        Side::Enters => value_entering(entry, before, links, linked),
-        Side::Leaves => value_leaving(entry, before, links, linked),
+        Side::Enters => value_entering(entry, taken),
+        Side::Leaves => value_leaving(entry, taken),
     }
 }
 
@@ -67,39 +70,36 @@ pub fn values_are_those_of_the_replay()
     ensures after { (journal : List Record) (before : List Row) (e : Entry) (t : Taken) → IsTakenFrom journal before e t → AreBounded (value_next journal before e) → quantity_out before (entry_key e) ≤ quantity_in before (entry_key e) → e.method ≡ Method.Average → IsAverageOf (value_next journal before e) (entry_key e) (held_after t e) }
 {}
 
-/// How many units the links of a journal say were returned before a movement is what the rows before it say.
-pub fn links_say_what_came_before()
-    ensures { (journal : List Record) (links : Links) (past rest : List Entry) (e : Entry) → AreLinksOf journal links → past ++ e ∷ rest ≡ posting_line journal → IsBackBy (rows_of journal past) (back_of links e) e.cause }
-{}
-
 // The same for a movement that enters.
-fn value_entering(entry: &Entry, before: &Average, links: &Links, linked: Minor) -> Valued
+fn value_entering(entry: &Entry, taken: &TakenOver) -> Valued
     requires enters { IsTrue (is_entering entry.now.place.side) }
-    requires from_zero { pos 0 ≤ℤ linked.0 }
-    requires taken { CanBeTaken (taken links.now before.now linked entry.now) entry.now }
-    ensures value { result.worth.value.0 ≡ value_taken (taken links.now before.now linked entry.now) entry.now entry.now.cause }
-    ensures share { result.worth.share.0 ≡ share_taken (taken links.now before.now linked entry.now) entry.now entry.now.cause }
-    ensures after { held_by (Some result.after) ≡ held_after (taken links.now before.now linked entry.now) entry.now }
+    requires charged_from_zero { pos 0 ≤ℤ taken.now.charged.0 }
+    requires from_zero { pos 0 ≤ℤ taken.now.linked.0 }
+    requires taken { CanBeTaken (taken_of taken.now) entry.now }
+    ensures value { result.worth.value.0 ≡ value_taken (taken_of taken.now) entry.now entry.now.cause }
+    ensures share { result.worth.share.0 ≡ share_taken (taken_of taken.now) entry.now entry.now.cause }
+    ensures after { held_by (Some result.after) ≡ held_after (taken_of taken.now) entry.now }
 {
-    let value = entering_value(entry, before, links, linked);
-    let share = share_by(entry, before, links, linked);
+    let value = entering_value(entry, taken);
+    let share = share_by(entry, taken);
     Valued {
         worth: Worth { value, share },
-        after: entered(entry, before, value),
+        after: entered(entry, &taken.held, value),
     }
 }
 
 // The same for a movement that leaves.
-fn value_leaving(entry: &Entry, before: &Average, links: &Links, linked: Minor) -> Valued
+fn value_leaving(entry: &Entry, taken: &TakenOver) -> Valued
     requires leaves { IsTrue (not (is_entering entry.now.place.side)) }
-    requires from_zero { pos 0 ≤ℤ linked.0 }
-    requires taken { CanBeTaken (taken links.now before.now linked entry.now) entry.now }
-    ensures value { result.worth.value.0 ≡ value_taken (taken links.now before.now linked entry.now) entry.now entry.now.cause }
-    ensures share { result.worth.share.0 ≡ share_taken (taken links.now before.now linked entry.now) entry.now entry.now.cause }
-    ensures after { held_by (Some result.after) ≡ held_after (taken links.now before.now linked entry.now) entry.now }
+    requires charged_from_zero { pos 0 ≤ℤ taken.now.charged.0 }
+    requires from_zero { pos 0 ≤ℤ taken.now.linked.0 }
+    requires taken { CanBeTaken (taken_of taken.now) entry.now }
+    ensures value { result.worth.value.0 ≡ value_taken (taken_of taken.now) entry.now entry.now.cause }
+    ensures share { result.worth.share.0 ≡ share_taken (taken_of taken.now) entry.now entry.now.cause }
+    ensures after { held_by (Some result.after) ≡ held_after (taken_of taken.now) entry.now }
 {
-    let share = share_by(entry, before, links, linked);
-    let (value, after) = left(entry, before, linked);
+    let share = share_by(entry, taken);
+    let (value, after) = left(entry, &taken.held, taken.linked);
     Valued {
         worth: Worth { value, share },
         after,
@@ -107,33 +107,35 @@ fn value_leaving(entry: &Entry, before: &Average, links: &Links, linked: Minor) 
 }
 
 // What a movement that enters is worth.
-fn entering_value(entry: &Entry, before: &Average, links: &Links, linked: Minor) -> Minor
-    requires from_zero { pos 0 ≤ℤ linked.0 }
-    requires taken { CanBeTaken (taken links.now before.now linked entry.now) entry.now }
-    ensures { IsTrue (enters_by entry.now.cause) → result.0 ≡ value_taken (taken links.now before.now linked entry.now) entry.now entry.now.cause }
+fn entering_value(entry: &Entry, taken: &TakenOver) -> Minor
+    requires charged_from_zero { pos 0 ≤ℤ taken.now.charged.0 }
+    requires from_zero { pos 0 ≤ℤ taken.now.linked.0 }
+    requires taken { CanBeTaken (taken_of taken.now) entry.now }
+    ensures { IsTrue (enters_by entry.now.cause) → result.0 ≡ value_taken (taken_of taken.now) entry.now entry.now.cause }
 {
     match entry.cause {
-        Cause::Receipt { amount } => Minor(amount.0 + links.added(own_line(entry)).0),
-        Cause::TransferEnters => linked,
+        Cause::Receipt { amount } => Minor(amount.0 + taken.charged.0),
+        Cause::TransferEnters => taken.linked,
         Cause::CustomerReturn { target: _, issued } => {
-            part(linked, links.returned_before(entry), entry.qty, issued)
+            part(taken.linked, taken.back, entry.qty, issued)
         }
         _ => Minor(0),
     }
 }
 
 // The landed charges within a receipt's value, or the part of the purchase price of what goes back to a supplier.
-fn share_by(entry: &Entry, before: &Average, links: &Links, linked: Minor) -> Minor
-    requires taken { CanBeTaken (taken links.now before.now linked entry.now) entry.now }
-    ensures { result.0 ≡ share_taken (taken links.now before.now linked entry.now) entry.now entry.now.cause }
+fn share_by(entry: &Entry, taken: &TakenOver) -> Minor
+    requires charged_from_zero { pos 0 ≤ℤ taken.now.charged.0 }
+    requires taken { CanBeTaken (taken_of taken.now) entry.now }
+    ensures { result.0 ≡ share_taken (taken_of taken.now) entry.now entry.now.cause }
 {
     match entry.cause {
-        Cause::Receipt { amount: _ } => links.added(own_line(entry)),
+        Cause::Receipt { amount: _ } => taken.charged,
         Cause::SupplierReturn {
             target: _,
             amount,
             received,
-        } => part(amount, links.returned_before(entry), entry.qty, received),
+        } => part(amount, taken.back, entry.qty, received),
         _ => Minor(0),
     }
 }
@@ -172,30 +174,19 @@ fn left(entry: &Entry, before: &Average, linked: Minor) -> (Minor, Average)
     }
 }
 
-// The line of a voucher that the movement is of.
-fn own_line(entry: &Entry) -> Target
-    ensures { result ≡ own_line entry.now }
-{
-    Target {
-        voucher: entry.place.voucher,
-        line: entry.place.line,
-    }
-}
-
 #[cfg(test)]
 mod tests {
     use super::*;
     use std::marker::Brand;
     use std::sync::ledger::Blank;
     use stock_nums::moment::Moment;
-    use stock_nums::numbers::{ItemNo, Qty, RecordNo, StoreNo};
+    use stock_nums::numbers::{ItemNo, RecordNo, StoreNo};
     use stock_nums::place::Place;
 
-    fn first_receipt<L: Ledger>(links: &Links, blank: Blank) -> Valued
+    fn first_receipt<L: Ledger>(blank: Blank) -> Valued
         requires name { blank.name ≡ L.name }
         requires parts { blank.parts ≡ L.parts }
         requires some { 0 < L.parts }
-        requires links { AreLinksOf [] links.now }
     {
         let receipt = Entry {
             place: Place {
@@ -216,16 +207,21 @@ mod tests {
             },
         };
         let mut steps = Steps::<L>::new(blank);
-        value_entry(&receipt, &Average::new(), links, Minor(0), &mut steps)
+        let taken = TakenOver {
+            charged: Minor(30),
+            back: Qty(0),
+            held: Average::new(),
+            linked: Minor(0),
+        };
+        value_entry(&receipt, &taken, &mut steps)
     }
 
     #[test]
-    fn a_receipt_is_worth_its_amount(rt: HostRuntime) {
-        let links = Links::new(rt.alloc());
-        let valued = first_receipt::<Brand>(&links, Blank::new(1));
-        assert_eq!(rt; valued.worth.value, Minor(1_000));
-        assert_eq!(rt; valued.worth.share, Minor(0));
+    fn a_receipt_is_worth_its_amount_and_charges(rt: HostRuntime) {
+        let valued = first_receipt::<Brand>(Blank::new(1));
+        assert_eq!(rt; valued.worth.value, Minor(1_030));
+        assert_eq!(rt; valued.worth.share, Minor(30));
         assert_eq!(rt; valued.after.qty, Qty(10));
-        assert_eq!(rt; valued.after.value, Minor(1_000));
+        assert_eq!(rt; valued.after.value, Minor(1_030));
     }
 }

@@ -1,5 +1,5 @@
 -- The first suspect is valued from what the replay says of all before it.
-use Rattle.std.proofs.Common.{◌≡◌, ℕ, ◌≤◌, pos, true, ◌&&◌, List, [], ◌∷◌, ◌++◌, fold, Some, inl, inr, refl, sym, ap, ◌∙◌, subst, arith, append_assoc, unsigned_abs, int_le, Contains}
+use Rattle.std.proofs.Common.{◌≡◌, ℕ, ◌≤◌, pos, true, ◌&&◌, List, [], ◌∷◌, ◌++◌, fold, inl, inr, refl, sym, ap, ◌∙◌, subst, arith, append_assoc, int_le, Contains}
 use Rattle.std.proofs.lemmas.Bool.{false≢true}
 use Rattle.std.proofs.lemmas.Bool.Decides.{nat_tests}
 use Rattle.std.proofs.lemmas.Int.{ints}
@@ -13,7 +13,6 @@ use Rattle.stock_nums.specs.declared.cause.Target.{Target}
 use Rattle.stock_nums.specs.declared.entry.Entry.{Entry}
 use Rattle.stock_nums.specs.declared.entry.Row.{Row}
 use Rattle.stock_nums.specs.declared.limits.TheConstants.{MAX_VALUE}
-use Rattle.stock_nums.specs.declared.numbers.Minor.{Minor}
 use Rattle.stock_model.specs.Bounds.{AreBounded}
 use Rattle.stock_model.specs.Formulas.{HaveOneFormula}
 use Rattle.stock_model.specs.InOrder.{IsInPostingOrder}
@@ -21,7 +20,6 @@ use Rattle.stock_model.specs.Journals.{AreLegal}
 use Rattle.stock_model.specs.LandedCost.{added}
 use Rattle.stock_model.specs.PostingOrder.{posting_line}
 use Rattle.stock_model.specs.Replay.{valued, value_next, rows_of, replay}
-use Rattle.stock_model.specs.Returns.{returned}
 use Rattle.stock_model.specs.Values.{cost_by, fifo_cost, line_cost, value_by, own_line}
 use Rattle.stock_model.specs.declared.records.Record.{Record}
 use Rattle.stock_model.proofs.Pairwise.{Contains-cases, Contains-first, Contains-later}
@@ -30,22 +28,16 @@ use Rattle.stock_laws.proofs.LegalReplay.{IsLegalLine-journal, CanBeValued-split
 use Rattle.stock_laws.proofs.Legality.{IsHeld-legal}
 use Rattle.stock_laws.proofs.PostingLine.{IsInPostingOrder-posting_line}
 use Rattle.stock_laws.proofs.Valuation.{IsLegalLine}
-use Rattle.cost_formulas.specs.declared.average.Average.{Average as AverageHeld}
-use Rattle.cost_links.specs.Linked.{AreLinksOf, back_by as links_back_by, back_of}
-use Rattle.stock_nums.specs.declared.place.Place.{Place}
 use Rattle.stock_model.specs.Enough.{entry_key}
 use Rattle.stock_model.specs.Formulas.{HasFormula}
 use Rattle.std.specs.List.{All}
 use Rattle.std.proofs.lemmas.List.{append-nil}
-use Rattle.cost_links.specs.Tables.{Held, held_by}
-use Rattle.cost_links.specs.Taken.{Taken, taken, IsCostOf, IsLinkedBy, IsBackBy, IsTakenFrom, CanBeTaken}
-use Rattle.cost_links.specs.declared.links.Links.{Links}
+use Rattle.cost_links.specs.Taken.{IsCostOf, IsLinkedBy, IsTakenFrom, CanBeTaken}
 use Rattle.cost_links.specs.Ready.{IsReady}
-use Rattle.cost_links.proofs.LinksBefore.{IsBackBy-links}
-use Rattle.cost_links.proofs.ReadyRows.{entries-rows_of, IsReady-from}
+use Rattle.cost_links.proofs.ReadyRows.{IsReady-from}
 use Rattle.cost_links.proofs.TakenValues.{CanBeTaken-ready}
 use Rattle.repost_laws.specs.Builds.{Suspects, IsBuilt, IsFirst}
-use Rattle.repost_laws.specs.Valuations.{Found, earlier, held_before_by, pieces_taken_by, sources, sources_by, taken_over, back_by, taken_from, valued_with, valuation, IsLocal}
+use Rattle.repost_laws.specs.Valuations.{Found, earlier, pieces_taken_by, sources_by, taken_over, taken_from, valued_with, valuation, IsLocal}
 use Rattle.repost_laws.proofs.EarlierOnes.{earlier-is_past}
 use Rattle.repost_laws.proofs.Filtered.{Contains-filtered}
 use Rattle.repost_laws.proofs.FoundRows.{IsTakenFrom-found, valued-is}
@@ -192,50 +184,3 @@ first-can journal found suspects e legal built first =
     (sym (earlier-split journal past e split.rest split.parts))
     (CanBeTaken-ready journal rows e (taken_from (added journal) found past e) (IsHeld-legal journal legal).records ready
     (linked-small journal found rows past e e.cause from.source can.lines can.small) from)
-
--- where the movement is no return, nothing is
-abbrev NoneBack : ℕ → Cause → Type 0
-NoneBack back (CustomerReturn target issued) = Unit {0}
-NoneBack back (SupplierReturn target amount received) = Unit {0}
-NoneBack back _ = back ≡ 0
-
-none-back : (links : Links) (place : Place) (cause : Cause) → NoneBack (links_back_by links place cause) cause
-none-back links place (Receipt amount) = refl
-none-back links place (Issue sold) = refl
-none-back links place TransferLeaves = refl
-none-back links place TransferEnters = refl
-none-back links place (CustomerReturn target issued) = tt
-none-back links place (SupplierReturn target amount received) = tt
-
--- what the links say was returned
-back-is : (journal : List Record) (past : List Entry) (back : ℕ) (cause : Cause) → IsBackBy (rows_of journal past) back cause
-    → NoneBack back cause → back ≡ back_by past cause
-back-is journal past back (Receipt amount) is none = none
-back-is journal past back (Issue sold) is none = none
-back-is journal past back TransferLeaves is none = none
-back-is journal past back TransferEnters is none = none
-back-is journal past back (CustomerReturn target issued) is none = is
-    ∙ ap (λ (es : List Entry). returned es target) (entries-rows_of journal past)
-back-is journal past back (SupplierReturn target amount received) is none = is
-    ∙ ap (λ (es : List Entry). returned es target) (entries-rows_of journal past)
-
-pub taken-links : (journal : List Record) (links : Links) (found : Found) (e : Entry) (before : AverageHeld) (linked : Minor)
-    → AreLinksOf journal links → Contains (posting_line journal) e
-    → held_by (Some before) ≡ held_before_by e.method found (earlier (posting_line journal) e) e → unsigned_abs linked.0
-    ≡ taken_over found (sources (earlier (posting_line journal) e) e)
-    → taken links before linked e ≡ taken_from (added journal) found (earlier (posting_line journal) e) e
-taken-links journal links found e before linked links_of held starts takes =
-    let split = split-at (posting_line journal) e held in
-    let past = split.past in
-    let back : back_of links e ≡ back_by past e.cause =
-    back-is journal past (back_of links e) e.cause (IsBackBy-links journal links past split.rest e links_of split.parts)
-    (none-back links e.place e.cause) in
-    let all : back_of links e ≡ back_by (earlier (posting_line journal) e) e.cause =
-    back ∙ ap (λ (es : List Entry). back_by es e.cause) (sym (earlier-split journal past e split.rest split.parts)) in
-    let of : ℕ → ℕ → Held → ℕ → Taken = λ c b h l. record { charged = c; back = b; held = h; linked = l } in
-    ap (λ (c : ℕ). of c (back_of links e) (held_by (Some before)) (unsigned_abs linked.0)) (links_of.charged (own_line e))
-    ∙ ap (λ (b : ℕ). of (added journal (own_line e)) b (held_by (Some before)) (unsigned_abs linked.0)) all
-    ∙ ap (λ (h : Held). of (added journal (own_line e)) (back_by (earlier (posting_line journal) e) e.cause) h
-    (unsigned_abs linked.0)) starts
-    ∙ ap (of (added journal (own_line e)) (back_by (earlier (posting_line journal) e) e.cause)
-    (held_before_by e.method found (earlier (posting_line journal) e) e)) takes
