@@ -14,3 +14,4 @@ pub mod FirstSuspect
 pub mod NextOnes
 pub mod RangePieces
 pub mod InOrderFound
+pub mod WholeSteps

@@ -3,3 +3,4 @@ pub mod Valuations
 pub mod Touched
 pub mod Builds
 pub mod Ranges
+pub mod WholeBuilds

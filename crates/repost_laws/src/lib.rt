@@ -10,3 +10,4 @@ pub mod local_laws;
 pub mod publication_laws;
 pub mod turn_laws;
 pub mod value_laws;
+pub mod whole_laws;

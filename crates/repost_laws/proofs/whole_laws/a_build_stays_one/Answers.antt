@@ -1,0 +1,14 @@
+use Rattle.repost_laws.proofs.WholeSteps.{IsBuildOf-start, IsBuildOf-fetch, IsBuildOf-turn, IsBuildOf-published}
+use Rattle.repost_laws.proofs.whole_laws.a_build_stays_one.Goals as goal
+
+pub returns-clause-start : goal.returns-clause-start
+returns-clause-start c = IsBuildOf-start
+
+pub returns-clause-fetch : goal.returns-clause-fetch
+returns-clause-fetch c = IsBuildOf-fetch
+
+pub returns-clause-turn : goal.returns-clause-turn
+returns-clause-turn c = IsBuildOf-turn
+
+pub returns-clause-publication : goal.returns-clause-publication
+returns-clause-publication c = IsBuildOf-published
