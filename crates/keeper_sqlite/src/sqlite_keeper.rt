@@ -1,0 +1,91 @@
+//! A keeper over a database. It tells no tables yet, so no clause says what is written or read.
+ghost use Rattle.std.specs.Prelude.{◌≡◌, false, IfOk};
+
+use crate::refusing::counted;
+use crate::{reading, schema, writing};
+use sqlite::{Alter, Connection, Error};
+use std::alloc::Global;
+use stock_keeper::changes::Changes;
+use stock_keeper::fault::KeepFault;
+use stock_keeper::keeper::Keeper;
+use stock_keeper::tables::Tables;
+use stock_nums::numbers::RecordNo;
+
+/// A keeper over a database, with a transaction for each call, whose commit is the last step of a change. What it
+/// tells are its faults: each refusal of the database other than want of memory is one. Of its tables nothing
+/// is told, and nothing is claimed of what a crash leaves. It has no plan.
+#[derive(Drop)]
+pub struct SqliteKeeper<S: Alter> {
+    alloc: Global,
+    conn: Connection<S>,
+    faults: u64,
+    ghost settled: { conn.in_transaction ≡ false },
+}
+
+impl<S: Alter + Drop> SqliteKeeper<S> {
+    /// A keeper over this database, which had no fault yet. The tables are made where they aren't there, all in
+    /// one transaction.
+    ///
+    /// # Errors
+    ///
+    /// What the database refuses: the tables that weren't there still aren't, and the database is closed as it is.
+    pub fn over(alloc: Global, mut conn: Connection<S>) -> Result<SqliteKeeper<S>, Error>
+        requires { conn.in_transaction ≡ false }
+        ensures fresh { IfOk result (λ keeper. keeper.faults ≡ 0) }
+    {
+        schema::make_tables(&mut conn)?;
+        Ok(SqliteKeeper {
+            alloc,
+            conn,
+            faults: 0,
+        })
+    }
+}
+
+impl<S: Alter> SqliteKeeper<S> {
+    /// The database, for good.
+    pub fn into_connection(self) -> Connection<S>
+        ensures { result.in_transaction ≡ false }
+    {
+        self.conn
+    }
+
+    /// How many calls the database refused for another cause than want of memory. The count stays at `u64::MAX`.
+    pub fn faults(&self) -> u64
+        ensures { result ≡ self.now.faults }
+    {
+        self.faults
+    }
+}
+
+impl<S: Alter> Keeper for SqliteKeeper<S> {
+    ghost use Rattle.std.specs.Prelude.{None};
+
+    // It holds of no tables, so each clause on those that are told says nothing.
+    ghost tells = { λ _ _. ⊥ };
+
+    ghost may_leave = { λ _ _. ⊥ };
+
+    ghost faults = { λ k. k.faults };
+
+    ghost plan = { λ _. None };
+
+    ghost calls = { λ _. 0 };
+
+    fn append(&mut self, number: RecordNo, body: &[u8]) -> Result<(), KeepFault> {
+        let done = writing::append(&mut self.conn, number, body);
+        counted(done, &mut self.faults)
+    }
+
+    fn publish(&mut self, covered: RecordNo, changes: &Changes) -> Result<(), KeepFault> {
+        let done = writing::publish(&mut self.conn, covered, changes);
+        counted(done, &mut self.faults)
+    }
+
+    fn load(&mut self) -> Result<Tables, KeepFault> {
+        let loaded = reading::load(self.alloc, &mut self.conn);
+        counted(loaded, &mut self.faults)
+    }
+
+    ghost stays = { λ _ _ told. told };
+}

@@ -1,0 +1,80 @@
+//! A shelf whose keepers are files.
+ghost use Rattle.std.specs.Prelude.{◌≡◌, IfOk};
+
+use crate::refusing::counted;
+use crate::sqlite_keeper::SqliteKeeper;
+use sqlite::{Connection, Error, File, FileStore};
+use stock_keeper::fault::KeepFault;
+use stock_keeper::shelf::Shelf;
+
+/// A shelf whose keepers are files. It tells its faults and those of the keeper that was put back last, and neither
+/// tables nor a plan. A file is locked while its keeper is out. No clause says which file is opened, or what it holds.
+#[derive(Drop)]
+pub struct SqliteShelf {
+    rt: HostRuntime,
+    faults: u64,
+    kept_faults: u64,
+}
+
+impl SqliteShelf {
+    /// A shelf that had no fault yet. It opens nothing.
+    pub fn new(rt: &HostRuntime) -> SqliteShelf
+        ensures faults { result.faults ≡ 0 }
+        ensures kept_faults { result.kept_faults ≡ 0 }
+    {
+        SqliteShelf {
+            rt: *rt,
+            faults: 0,
+            kept_faults: 0,
+        }
+    }
+
+    /// How many openings failed, for another cause than want of memory. The count stays at `u64::MAX`.
+    pub fn faults(&self) -> u64
+        ensures { result ≡ self.now.faults }
+    {
+        self.faults
+    }
+
+    /// How many faults the keeper had that was put back last. 0 before any.
+    pub fn kept_faults(&self) -> u64
+        ensures { result ≡ self.now.kept_faults }
+    {
+        self.kept_faults
+    }
+}
+
+impl Shelf for SqliteShelf {
+    type Kept = SqliteKeeper<FileStore<File>>;
+
+    ghost use Rattle.std.specs.Prelude.{None};
+
+    ghost tells = { λ _ _. ⊥ };
+
+    ghost plan = { λ _. None };
+
+    ghost faults = { λ s. s.faults };
+
+    ghost kept_faults = { λ s. s.kept_faults };
+
+    // The file is made where it isn't there. One that another process has open, that can't be opened or isn't a
+    // database fails at once.
+    fn open_keeper(&mut self, path: &str) -> Result<SqliteKeeper<FileStore<File>>, KeepFault> {
+        counted(opened(&self.rt, path), &mut self.faults)
+    }
+
+    // What was committed stays in the file and its log beside it, so it is there at the next opening also where
+    // the log can't be copied into the file.
+    fn put_back(&mut self, kept: SqliteKeeper<FileStore<File>>) {
+        self.kept_faults = kept.faults();
+        let _ = kept.into_connection().close();
+    }
+}
+
+// A keeper over the file, which is made if it isn't there.
+fn opened(rt: &HostRuntime, path: &str) -> Result<SqliteKeeper<FileStore<File>>, Error>
+    ensures fresh { IfOk result (λ keeper. keeper.faults ≡ 0) }
+{
+    let conn = Connection::open(rt, path)?;
+    SqliteKeeper::over(rt.alloc(), conn)
+}
