@@ -1,5 +1,11 @@
 //! What a keeper reads: all of a ledger's tables. Nothing else can write between the three reads.
-ghost use Rattle.std.specs.Prelude.{◌≡◌, false};
+ghost use Rattle.std.specs.Prelude.{◌≡◌, false, pos, IfOk};
+ghost use Rattle.sqlite_value.specs.declared.value.Value.TheVariants.{Int};
+ghost use Rattle.sqlite_value.specs.Order.{column};
+ghost use Rattle.stock_nums.specs.Places.{side_rank};
+ghost use Rattle.keeper_sqlite.specs.Rows.{IsRecordOf, IsWorthOf};
+ghost use Rattle.keeper_sqlite.specs.Running.{HasShown};
+ghost use Rattle.keeper_sqlite.specs.Texts as texts;
 
 use sqlite::{Alter, Connection, Error, Row, Transaction};
 use std::alloc::Global;
@@ -28,47 +34,35 @@ pub(crate) fn load<S: Alter>(alloc: Global, conn: &mut Connection<S>) -> Result<
     ensures ended { conn.new.in_transaction ≡ false }
 {
     let mut tx = conn.transaction();
-    let records = stored_records(alloc, &mut tx)?;
-    let worths = stored_worths(alloc, &mut tx)?;
+    let records = record_rows(&mut tx)?;
+    let worths = worth_rows(&mut tx)?;
     let head = stored_head(&mut tx)?;
     tx.rollback();
     Ok(Tables {
         version: head.version,
-        records,
+        records: records_of(alloc, records.as_slice())?,
         covered: head.covered,
-        worths,
+        worths: worths_of(alloc, worths.as_slice())?,
     })
 }
 
-fn stored_records<S: Alter>(
-    alloc: Global,
-    tx: &mut Transaction<'_, S>,
-) -> Result<Lines<StoredRecord>, Error>
+// The rows of the records, by number.
+fn record_rows<S: Alter>(tx: &mut Transaction<'_, S>) -> Result<Vec<Row>, Error>
     ensures same_reference { tx.new.conn.ghost_name ≡ tx.old.conn.ghost_name }
+    ensures shown { IfOk result (λ rows. HasShown S.Store texts.select_records tx.old.conn.now tx.new.conn.now rows.items) }
 {
-    let rows = tx.query_all("SELECT no, body FROM records ORDER BY no", &[])?;
-    let mut records = Vec::with_capacity(alloc, rows.len())?;
-    for row in &rows {
-        records.push(record_of(row)?)?;
-    }
-    Ok(Lines::from_vec(records))
+    tx.query_all("SELECT no, body FROM records ORDER BY no", &[])
 }
 
-fn stored_worths<S: Alter>(
-    alloc: Global,
-    tx: &mut Transaction<'_, S>,
-) -> Result<Lines<SpotWorth>, Error>
+// The rows of the worths, by record, line and side.
+fn worth_rows<S: Alter>(tx: &mut Transaction<'_, S>) -> Result<Vec<Row>, Error>
     ensures same_reference { tx.new.conn.ghost_name ≡ tx.old.conn.ghost_name }
+    ensures shown { IfOk result (λ rows. HasShown S.Store texts.select_worths tx.old.conn.now tx.new.conn.now rows.items) }
 {
-    let rows = tx.query_all(
+    tx.query_all(
         "SELECT voucher, line, side, value, share FROM worths ORDER BY voucher, line, side",
         &[],
-    )?;
-    let mut worths = Vec::with_capacity(alloc, rows.len())?;
-    for row in &rows {
-        worths.push(worth_of(row)?)?;
-    }
-    Ok(Lines::from_vec(worths))
+    )
 }
 
 fn stored_head<S: Alter>(tx: &mut Transaction<'_, S>) -> Result<Head, Error>
@@ -81,7 +75,17 @@ fn stored_head<S: Alter>(tx: &mut Transaction<'_, S>) -> Result<Head, Error>
     })
 }
 
-fn record_of(row: &Row) -> Result<StoredRecord, Error> {
+fn records_of(alloc: Global, rows: &[Row]) -> Result<Lines<StoredRecord>, Error> {
+    let mut records = Vec::with_capacity(alloc, rows.len())?;
+    for row in rows {
+        records.push(record_of(row)?)?;
+    }
+    Ok(Lines::from_vec(records))
+}
+
+fn record_of(row: &Row) -> Result<StoredRecord, Error>
+    ensures { IfOk result (λ r. IsRecordOf row.now r) }
+{
     let number = row.get(0)?;
     let body: Vec<u8> = row.get(1)?;
     Ok(StoredRecord {
@@ -90,7 +94,17 @@ fn record_of(row: &Row) -> Result<StoredRecord, Error> {
     })
 }
 
-fn worth_of(row: &Row) -> Result<SpotWorth, Error> {
+fn worths_of(alloc: Global, rows: &[Row]) -> Result<Lines<SpotWorth>, Error> {
+    let mut worths = Vec::with_capacity(alloc, rows.len())?;
+    for row in rows {
+        worths.push(worth_of(row)?)?;
+    }
+    Ok(Lines::from_vec(worths))
+}
+
+fn worth_of(row: &Row) -> Result<SpotWorth, Error>
+    ensures { IfOk result (λ w. IsWorthOf row.now w) }
+{
     let spot = Spot {
         voucher: RecordNo(row.get(0)?),
         line: row.get(1)?,
@@ -104,7 +118,9 @@ fn worth_of(row: &Row) -> Result<SpotWorth, Error> {
 }
 
 // The side, in its column of a row of worths.
-fn side_of(row: &Row) -> Result<Side, Error> {
+fn side_of(row: &Row) -> Result<Side, Error>
+    ensures { IfOk result (λ side. column row.now 2 ≡ Int (pos (side_rank side))) }
+{
     let number: i64 = row.get(2)?;
     match number {
         0 => Ok(Side::Leaves),

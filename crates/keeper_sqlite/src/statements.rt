@@ -1,6 +1,14 @@
 //! The statements that write a ledger's tables.
-ghost use Rattle.std.specs.Prelude.{◌≡◌};
+ghost use Rattle.std.specs.Prelude.{◌≡◌, pos, [], ◌∷◌};
+ghost use Rattle.sqlite_value.specs.declared.value.Value.TheVariants.{Int};
+ghost use Rattle.sqlite.specs.Values.{bound};
+ghost use Rattle.stock_nums.specs.Places.{side_rank};
+ghost use Rattle.stock_keeper.specs.Changed.{stored};
+ghost use Rattle.keeper_sqlite.specs.Rows.{record_row, worth_row, spot_row};
+ghost use Rattle.keeper_sqlite.specs.Running.{HasRun};
+ghost use Rattle.keeper_sqlite.specs.Texts as texts;
 
+use sqlite::types::{ToSql, ValueRef};
 use sqlite::{Alter, Error, Transaction, params};
 use stock_keeper::changes::SpotWorth;
 use stock_nums::numbers::RecordNo;
@@ -13,6 +21,7 @@ pub(crate) fn insert_record<S: Alter>(
     body: &[u8],
 ) -> Result<usize, Error>
     ensures same_reference { tx.new.conn.ghost_name ≡ tx.old.conn.ghost_name }
+    ensures runs { HasRun S.Store texts.insert_record (record_row (stored number body.now)) tx.old.conn.now tx.new.conn.now result }
 {
     tx.execute(
         "INSERT INTO records(no, body) VALUES(?1, ?2)",
@@ -26,18 +35,11 @@ pub(crate) fn put_worth<S: Alter>(
     row: &SpotWorth,
 ) -> Result<usize, Error>
     ensures same_reference { tx.new.conn.ghost_name ≡ tx.old.conn.ghost_name }
+    ensures runs { HasRun S.Store texts.put_worth (worth_row row.now) tx.old.conn.now tx.new.conn.now result }
 {
-    let spot = &row.spot;
-    let worth = &row.worth;
     tx.execute(
         "INSERT INTO worths(voucher, line, side, value, share) VALUES(?1, ?2, ?3, ?4, ?5) ON CONFLICT(voucher, line, side) DO UPDATE SET value = ?4, share = ?5",
-        params![
-            spot.voucher.0,
-            spot.line,
-            side_number(spot.side),
-            worth.value.0,
-            worth.share.0
-        ],
+        &worth_values(row),
     )
 }
 
@@ -47,6 +49,7 @@ pub(crate) fn remove_worth<S: Alter>(
     spot: &Spot,
 ) -> Result<usize, Error>
     ensures same_reference { tx.new.conn.ghost_name ≡ tx.old.conn.ghost_name }
+    ensures runs { HasRun S.Store texts.remove_worth (spot_row spot.now) tx.old.conn.now tx.new.conn.now result }
 {
     tx.execute(
         "DELETE FROM worths WHERE voucher = ?1 AND line = ?2 AND side = ?3",
@@ -60,6 +63,7 @@ pub(crate) fn cover<S: Alter>(
     covered: RecordNo,
 ) -> Result<usize, Error>
     ensures same_reference { tx.new.conn.ghost_name ≡ tx.old.conn.ghost_name }
+    ensures runs { HasRun S.Store texts.cover (Int (pos covered.0) ∷ []) tx.old.conn.now tx.new.conn.now result }
 {
     tx.execute(
         "UPDATE head SET covered = ?1 WHERE id = 1",
@@ -67,8 +71,25 @@ pub(crate) fn cover<S: Alter>(
     )
 }
 
+// A worth with its spot as they are stored.
+fn worth_values(row: &SpotWorth) -> [ValueRef<'static>; 5]
+    ensures { bound result ≡ worth_row row.now }
+{
+    let spot = &row.spot;
+    let worth = &row.worth;
+    [
+        spot.voucher.0.to_sql(),
+        spot.line.to_sql(),
+        side_number(spot.side).to_sql(),
+        worth.value.0.to_sql(),
+        worth.share.0.to_sql(),
+    ]
+}
+
 // A side as it is stored.
-fn side_number(side: Side) -> u32 {
+fn side_number(side: Side) -> u32
+    ensures { result ≡ side_rank side }
+{
     match side {
         Side::Leaves => 0,
         Side::Enters => 1,

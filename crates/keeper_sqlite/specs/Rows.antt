@@ -1,0 +1,30 @@
+-- How records, worths and the head stand in rows.
+use Rattle.std.specs.Prelude.{◌≡◌, ℕ, ℤ, pos, List, [], ◌∷◌}
+use Rattle.sqlite_value.specs.declared.value.Value.TheVariants.{Int, Blob}
+use Rattle.sqlite_value.specs.Order.{Row, column}
+use Rattle.stock_nums.specs.Places.{side_rank}
+use Rattle.stock_nums.specs.declared.place.Spot.{Spot}
+use Rattle.stock_keeper.specs.declared.changes.SpotWorth.{SpotWorth}
+use Rattle.stock_keeper.specs.declared.tables.StoredRecord.{StoredRecord}
+
+abbrev pub record_row : StoredRecord → Row
+record_row r = Int r.number ∷ Blob r.body ∷ []
+
+-- the side is 0 of what leaves and 1 of what enters
+abbrev pub spot_row : Spot → Row
+spot_row s = Int (pos s.voucher.0) ∷ Int (pos s.line) ∷ Int (pos (side_rank s.side)) ∷ []
+
+abbrev pub worth_row : SpotWorth → Row
+worth_row w =
+    Int (pos w.spot.voucher.0) ∷ Int (pos w.spot.line) ∷ Int (pos (side_rank w.spot.side)) ∷ Int w.worth.value.0 ∷ Int w.worth.share.0 ∷ []
+
+-- the row is that of a record, and of a worth, in its first columns
+abbrev pub IsRecordOf : Row → StoredRecord → Type 0
+IsRecordOf row r = (column row 0 ≡ Int r.number) × (column row 1 ≡ Blob r.body)
+
+pub record IsWorthOf (row : Row) (w : SpotWorth) : Type 0 where
+  pub voucher : column row 0 ≡ Int (pos w.spot.voucher.0)
+  pub line : column row 1 ≡ Int (pos w.spot.line)
+  pub side : column row 2 ≡ Int (pos (side_rank w.spot.side))
+  pub value : column row 3 ≡ Int w.worth.value.0
+  pub share : column row 4 ≡ Int w.worth.share.0
