@@ -1,5 +1,8 @@
-//! A keeper over a database. It tells no tables yet, so no clause says what is written or read.
-ghost use Rattle.std.specs.Prelude.{◌≡◌, false, IfOk};
+//! A keeper over a database. It tells no tables yet, so no clause says what a publication writes or a load reads.
+ghost use Rattle.std.specs.Prelude.{◌≡◌, false, Err, IfOk, OnOk};
+ghost use Rattle.stock_io.specs.Counts.{NeverFalls, raised};
+ghost use Rattle.stock_keeper.specs.declared.fault.KeepFault.TheVariants as fault;
+ghost use Rattle.keeper_sqlite.specs.Running.{HasAppended};
 
 use crate::refusing::counted;
 use crate::{reading, schema, writing};
@@ -72,17 +75,33 @@ impl<S: Alter> Keeper for SqliteKeeper<S> {
 
     ghost calls = { λ _. 0 };
 
-    fn append(&mut self, number: RecordNo, body: &[u8]) -> Result<(), KeepFault> {
+    fn append(&mut self, number: RecordNo, body: &[u8]) -> Result<(), KeepFault>
+        ensures appended { OnOk result (HasAppended S.Store number body.now self.old.conn self.new.conn) }
+        ensures faults_kept { OnOk result (self.new.faults ≡ self.old.faults) }
+        ensures fault { result ≡ Err fault.Failed → self.new.faults ≡ raised self.old.faults }
+        ensures free { result ≡ Err fault.NoMemory → self.new.faults ≡ self.old.faults }
+        ensures never_falls { NeverFalls self.old.faults self.new.faults }
+    {
         let done = writing::append(&mut self.conn, number, body);
         counted(done, &mut self.faults)
     }
 
-    fn publish(&mut self, covered: RecordNo, changes: &Changes) -> Result<(), KeepFault> {
+    fn publish(&mut self, covered: RecordNo, changes: &Changes) -> Result<(), KeepFault>
+        ensures faults_kept { OnOk result (self.new.faults ≡ self.old.faults) }
+        ensures fault { result ≡ Err fault.Failed → self.new.faults ≡ raised self.old.faults }
+        ensures free { result ≡ Err fault.NoMemory → self.new.faults ≡ self.old.faults }
+        ensures never_falls { NeverFalls self.old.faults self.new.faults }
+    {
         let done = writing::publish(&mut self.conn, covered, changes);
         counted(done, &mut self.faults)
     }
 
-    fn load(&mut self) -> Result<Tables, KeepFault> {
+    fn load(&mut self) -> Result<Tables, KeepFault>
+        ensures faults_kept { OnOk result (self.new.faults ≡ self.old.faults) }
+        ensures fault { result ≡ Err fault.Failed → self.new.faults ≡ raised self.old.faults }
+        ensures free { result ≡ Err fault.NoMemory → self.new.faults ≡ self.old.faults }
+        ensures never_falls { NeverFalls self.old.faults self.new.faults }
+    {
         let loaded = reading::load(self.alloc, &mut self.conn);
         counted(loaded, &mut self.faults)
     }

@@ -1,5 +1,6 @@
 //! What a keeper writes: each change in one transaction, whose commit is the last step.
-ghost use Rattle.std.specs.Prelude.{◌≡◌, false};
+ghost use Rattle.std.specs.Prelude.{◌≡◌, false, OnOk};
+ghost use Rattle.keeper_sqlite.specs.Running.{HasAppended};
 
 use crate::statements;
 use sqlite::{Alter, Connection, Error, Transaction};
@@ -15,10 +16,12 @@ pub(crate) fn append<S: Alter>(
 ) -> Result<(), Error>
     requires { conn.old.in_transaction ≡ false }
     ensures ended { conn.new.in_transaction ≡ false }
+    ensures appended { OnOk result (HasAppended S.Store number body.now conn.old conn.new) }
 {
     let mut tx = conn.transaction();
     statements::insert_record(&mut tx, number, body)?;
-    tx.commit()
+    tx.commit()?;
+    Ok(())
 }
 
 /// Changes the worths, and says from how many records they are made now.
