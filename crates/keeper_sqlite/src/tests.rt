@@ -128,7 +128,6 @@ fn after<S: Alter + Drop>(
     sql: &str,
 ) -> Result<SqliteKeeper<S>, Error> {
     let mut conn = keeper.into_connection();
-    conn.transaction().commit()?;
     let mut tx = conn.transaction();
     tx.execute(sql, &[])?;
     tx.commit()?;
