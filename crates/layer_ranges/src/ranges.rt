@@ -84,6 +84,8 @@ impl Ranges {
         ensures entering { self.new.entering ≡ put_entering self.old.entering entry.now }
         ensures leaving { self.new.leaving ≡ put_leaving self.old.leaving entry.now }
         ensures room { self.old.spare ≤ self.new.spare + 1 }
+        ensures entering_before { AreLeaving self.old.entering }
+        ensures leaving_before { AreLeaving self.old.leaving }
     {
         match entry.place.side {
             Side::Enters => put_in(&mut self.entering, entry),
@@ -120,6 +122,13 @@ impl Ranges {
         ensures none { IsNone result ↔ (units_of_key self.now.leaving key ≤ unit.0) }
     {
         find_unit(&self.leaving, key, unit)
+    }
+
+    /// How many units entered before a place.
+    pub fn entered_before(&self, key: Key, place: &Place) -> Qty
+        ensures { result.0 ≡ units_before self.now.entering key place.now }
+    {
+        count_before(&self.entering, key, place)
     }
 
     /// How many units left before a place.

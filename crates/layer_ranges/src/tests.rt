@@ -89,6 +89,7 @@ fn numbers_units_of_both_sides(rt: HostRuntime) -> Result<(), Fail> {
     assert!(rt; ranges.unit_in(key, Qty(10)).is_none());
     assert!(rt; ranges.unit_in(key, Qty(u64::MAX)).is_none());
     assert!(rt; ranges.unit_out(key, Qty(2)) == Some(taken));
+    assert!(rt; ranges.entered_before(key, &issue(5).place) == Qty(5));
     assert!(rt; ranges.left_before(key, &issue(10).place) == Qty(3));
     Ok(())
 }
