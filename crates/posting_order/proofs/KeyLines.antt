@@ -26,7 +26,7 @@ use Rattle.key_order.proofs.SamePlaces.{is_same_place-refl}
 use Rattle.posting_order.proofs.Places.{not_at-later}
 
 -- what each has where it passes the test, those that are kept have
-Each-kept : {X : Type 0} (P : X → Type 0) (p : X → Bool) (xs : List X) → Each (λ x. p x ≡ true → P x) xs → Each P (filter p xs)
+pub Each-kept : {X : Type 0} (P : X → Type 0) (p : X → Bool) (xs : List X) → Each (λ x. p x ≡ true → P x) xs → Each P (filter p xs)
 Each-kept P p [] h = tt
 Each-kept P p (x ∷ xs) h = by_cases (p x) refl (Each-kept P p xs h.1)
   where
@@ -35,7 +35,7 @@ Each-kept P p (x ∷ xs) h = by_cases (p x) refl (Each-kept P p xs h.1)
     by_cases false is rest = rest
 
 -- and back
-Each-passing : {X : Type 0} (P : X → Type 0) (p : X → Bool) (xs : List X) → Each P (filter p xs) → Each (λ x. p x ≡ true → P x) xs
+pub Each-passing : {X : Type 0} (P : X → Type 0) (p : X → Bool) (xs : List X) → Each P (filter p xs) → Each (λ x. p x ≡ true → P x) xs
 Each-passing P p [] h = tt
 Each-passing P p (x ∷ xs) h = by_cases (p x) refl (Each-passing P p xs) h
   where
@@ -92,7 +92,7 @@ no_later-place c d key own fails same =
     and-rest (is_same_key c.key d.key) (is_before c.place d.place) alike (or-fails_second (is_key_before c.key d.key) (is_same_key c.key d.key && is_before c.place d.place) fails)
 
 -- a change put in, among those of its key
-of_key-put_change : (key : Key) (cs : List Change) (c : Change) → Pairwise Before cs → is_same_key c.key key ≡ true → of_key key (put_change cs c) ≡ put_place (of_key key cs) c
+pub of_key-put_change : (key : Key) (cs : List Change) (c : Change) → Pairwise Before cs → is_same_key c.key key ≡ true → of_key key (put_change cs c) ≡ put_place (of_key key cs) c
 of_key-put_change key [] c order own = rw own refl
 of_key-put_change key (d ∷ ds) c order own = by_cases (precedes c d) refl (of_key-put_change key ds c order.1 own)
   where
@@ -111,7 +111,7 @@ of_key-put_change key (d ∷ ds) c order own = by_cases (precedes c d) refl (of_
     by_cases false is rest = by_key (is_same_key d.key key) refl is rest
 
 -- those of another key stay
-of_key-put_change-other : (key : Key) (cs : List Change) (c : Change) → is_same_key c.key key ≡ false → of_key key (put_change cs c) ≡ of_key key cs
+pub of_key-put_change-other : (key : Key) (cs : List Change) (c : Change) → is_same_key c.key key ≡ false → of_key key (put_change cs c) ≡ of_key key cs
 of_key-put_change-other key [] c other = rw other refl
 of_key-put_change-other key (d ∷ ds) c other = by_cases (precedes c d) (of_key-put_change-other key ds c other)
   where

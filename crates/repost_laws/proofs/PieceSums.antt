@@ -34,7 +34,7 @@ module _ {X : Type 0} (units value : X → ℕ) where
           omega (arith, rest, sum_by-cons (piece_value units value) piece taken, nothing)
 
   -- the first units cost the share of the first element's that are among them, and what those after it cost
-  first_cost-cons : (e : X) (es : List X) (x : ℕ) → 0 < units e → All (λ f. 0 < units f) es
+  pub first_cost-cons : (e : X) (es : List X) (x : ℕ) → 0 < units e → All (λ f. 0 < units f) es
       → first_cost units value (e ∷ es) x ≡ value e * min (units e) x / units e + first_cost units value es (x - units e)
   first_cost-cons e es x some rest =
       elim (cases_lt x (units e)) [
@@ -63,7 +63,7 @@ module _ {X : Type 0} (units value : X → ℕ) where
       omega (arith, ends, share-mono T (min W from) (min W until) W some more)
 
   -- what the pieces are worth, after what the units before them cost
-  pieces-first_cost : (es : List X) (from until : ℕ) → All (λ e. 0 < units e) es → from ≤ until
+  pub pieces-first_cost : (es : List X) (from until : ℕ) → All (λ e. 0 < units e) es → from ≤ until
       → sum_by (piece_value units value) (pieces units es from until) + first_cost units value es from
       ≡ first_cost units value es until
   pieces-first_cost [] from until some less = refl

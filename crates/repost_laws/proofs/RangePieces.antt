@@ -133,7 +133,7 @@ sources-all line e ordered enough held leaves method =
     (departed es key + e.qty.0))) (sym here)
 
 -- how many units those of a list have that come before a movement
-abbrev units_ahead : List Entry → Entry → ℕ
+abbrev pub units_ahead : List Entry → Entry → ℕ
 units_ahead es g = sum_by entry_units (filter (comes_before g.place) es)
 
 -- the piece of a movement, where so many units come before its own
@@ -149,7 +149,7 @@ abbrev piece_after : ℕ → Entry → ℕ → ℕ → Piece Entry
 piece_after ahead g from until = piece_at g (from - ahead) (until - ahead)
 
 -- before the first of a list in order none of it comes
-ahead-first : (x : Entry) (xs : List Entry) → Precedes IsBefore x xs → units_ahead (x ∷ xs) x ≡ 0
+pub ahead-first : (x : Entry) (xs : List Entry) → Precedes IsBefore x xs → units_ahead (x ∷ xs) x ≡ 0
 ahead-first x xs after =
     ap (λ (b : Bool). sum_by entry_units (cond b (x ∷ filter (comes_before x.place) xs) (filter (comes_before x.place) xs)))
     (is_before-irreflexive x.place)
@@ -161,7 +161,7 @@ ahead-first x xs after =
         ap (λ (b : Bool). cond b (z ∷ filter (comes_before y.place) ys) (filter (comes_before y.place) ys))
         (is_before-asymmetric y.place z.place h.0) ∙ none y ys h.1
 
-ahead-later : (x : Entry) (xs : List Entry) (g : Entry) → IsBefore x g → units_ahead (x ∷ xs) g ≡ entry_units x + units_ahead xs g
+pub ahead-later : (x : Entry) (xs : List Entry) (g : Entry) → IsBefore x g → units_ahead (x ∷ xs) g ≡ entry_units x + units_ahead xs g
 ahead-later x xs g before =
     ap (λ (b : Bool). sum_by entry_units (cond b (x ∷ filter (comes_before g.place) xs)
     (filter (comes_before g.place) xs))) before
@@ -247,7 +247,7 @@ meets-to ahead units from q some brought begins ends =
     grind (arith, nat_tests)
 
 -- no more units enter among fewer movements
-sum_where-le : (p : Entry → Bool) (es : List Entry) → sum_by entry_units (filter p es) ≤ sum_by entry_units es
+pub sum_where-le : (p : Entry → Bool) (es : List Entry) → sum_by entry_units (filter p es) ≤ sum_by entry_units es
 sum_where-le p [] = omega arith
 sum_where-le p (e ∷ es) = by_cases (p e) (sum_where-le p es)
   where
@@ -256,7 +256,7 @@ sum_where-le p (e ∷ es) = by_cases (p e) (sum_where-le p es)
     by_cases true rest = omega (arith, rest, sum_by-cons entry_units e (filter p es), sum_by-cons entry_units e es)
     by_cases false rest = omega (arith, rest, sum_by-cons entry_units e es)
 
-entered-le : (line : List Entry) (key : Key) (e g : Entry) → is_before e.place g.place ≡ true → entered (earlier line e) key
+pub entered-le : (line : List Entry) (key : Key) (e g : Entry) → is_before e.place g.place ≡ true → entered (earlier line e) key
     ≤ entered (earlier line g) key
 entered-le line key e g before =
     let fewer : filter (enters_under key) (earlier line e) ≡ filter (comes_before e.place)

@@ -1,0 +1,4 @@
+pub mod IndexState
+pub mod Indexed
+pub mod Layers
+pub mod Moments
