@@ -66,7 +66,7 @@ filter-changes p q (e ∷ es) h = by_cases (q e) h.0 (filter-changes p q es h.1)
     by_cases false is rest = rw is rest
 
 -- a change put among those of one key
-abbrev put_place : List Change → Change → List Change
+abbrev pub put_place : List Change → Change → List Change
 put_place [] c = c ∷ []
 put_place (d ∷ ds) c = cond (is_before c.place d.place) (c ∷ d ∷ ds) (d ∷ put_place ds c)
 

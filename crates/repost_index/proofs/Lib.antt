@@ -1,3 +1,5 @@
 pub mod Neighbours
 pub mod UnitNumbers
 pub mod OwnPlaces
+pub mod PutLines
+pub mod PutMoments
