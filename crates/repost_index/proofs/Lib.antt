@@ -1,5 +1,7 @@
 pub mod Neighbours
+pub mod UnitsAhead
 pub mod UnitNumbers
 pub mod OwnPlaces
 pub mod PutLines
 pub mod PutMoments
+pub mod LayerParts

@@ -47,9 +47,9 @@ moment-stays : (line : List Entry) (e f : Entry) (old new : List Moment) → Can
 moment-stays line e f old new can is held at =
     elim (one-or-other f.place.voucher.0 e.place.voucher.0) [
       | inl same ↦ record {
-          numbered = at.numbered;
-          kept = ap (λ (n : ℕ). slice_get new (n - 1)) same ∙ is.own ∙ ap Some (sym (can.dated f held same));
-        }
+        numbered = at.numbered;
+        kept = ap (λ (n : ℕ). slice_get new (n - 1)) same ∙ is.own ∙ ap Some (sym (can.dated f held same));
+      }
       | inr other ↦
           let apart : f.place.voucher.0 - 1 ≢ e.place.voucher.0 - 1 =
           λ same. other (omega (arith, same, at.numbered, can.numbered)) in

@@ -23,6 +23,7 @@ use Rattle.repost_laws.proofs.Filtered.{filter-swap, Contains-filtered}
 use Rattle.repost_laws.proofs.RangePieces.{units_ahead, ahead-first, ahead-later}
 use Rattle.repost_laws.proofs.Turns.{both-true}
 use Rattle.repost_index.specs.Layers.{IsLayerIn, IsLayerOut}
+use Rattle.repost_index.proofs.UnitsAhead.{side-ordered, ahead-in, ahead-out}
 
 -- a number of units that leave is that number
 leaving-number : (n : ℕ) → unsigned_abs (neg_ℤ (pos n)) ≡ n
@@ -147,7 +148,7 @@ layer_at-among : (test : Entry → Bool) (line : List Entry) (key : Key) (cs : L
     → IsLayerAmong (filter test line) 0 layer
 layer_at-among test line key cs unit layer ordered are found =
     layer_from-among leaving_change (λ e. refl) moved-units (filter test line) 0 unit layer
-    (Pairwise-from_AllPairs IsBefore (filter test line) (AllPairs-filter IsBefore test line ordered))
+    (side-ordered test line ordered)
     (sym (ap (λ (ds : List Change). layer_from ds 0 unit) are) ∙ found)
 
 -- so of those that entered
@@ -158,10 +159,7 @@ layer-in line key cs unit layer ordered are found holds =
     let among = layer_at-among (enters_under key) line key cs unit layer ordered are found in
     let g = among.mover in
     let of = Contains-filtered (enters_under key) line g among.held in
-    let own : entry_key g ≡ key = is_same_key-true (entry_key g) key (both-true (is_of_key key g) (is_entering g.place.side) of.1).0 in
-    let ahead : units_ahead (filter (enters_under key) line) g ≡ units_in_before line g =
-    ap (sum_by entry_units) (filter-swap (comes_before g.place) (enters_under key) line)
-    ∙ ap (entered (earlier line g)) (sym own) in
+    let ahead = ahead-in line key g of.1 in
     record {
       giver = g;
       held = of.0;
@@ -181,11 +179,7 @@ layer-out line key cs unit layer ordered are found holds =
     let among = layer_at-among (leaves_under key) line key cs unit layer ordered are found in
     let g = among.mover in
     let of = Contains-filtered (leaves_under key) line g among.held in
-    let own : entry_key g ≡ key = is_same_key-true (entry_key g) key
-    (both-true (is_of_key key g) (not (is_entering g.place.side)) of.1).0 in
-    let ahead : units_ahead (filter (leaves_under key) line) g ≡ units_out_before line g =
-    ap (sum_by entry_units) (filter-swap (comes_before g.place) (leaves_under key) line)
-    ∙ ap (departed (earlier line g)) (sym own) in
+    let ahead = ahead-out line key g of.1 in
     record {
       taker = g;
       held = of.0;
