@@ -1,5 +1,5 @@
 -- What units are worth first in, first out, by the parts of the movements that brought them.
-use Rattle.std.proofs.Common.{◌≡◌, ℕ, ◌+◌, ◌-◌, ◌*◌, ◌/◌, ◌<◌, ◌≤◌, Bool, min, List, [], ◌∷◌, get_or, length, filter, sum_by, All, Contains, inl, inr, refl, sym, ap, ap₂, ◌∙◌, subst, arith}
+use Rattle.std.proofs.Common.{◌≡◌, ℕ, ◌+◌, ◌-◌, ◌*◌, ◌/◌, ◌<◌, ◌≤◌, min, List, [], ◌∷◌, get_or, filter, sum_by, All, Contains, inl, inr, refl, sym, ap, ap₂, ◌∙◌, subst, arith}
 use Rattle.std.proofs.lemmas.List.Sums.{sum_by-cons}
 use Rattle.stock_nums.specs.FirstIn.{first_cost}
 use Rattle.stock_nums.specs.Part.{part}
@@ -11,7 +11,7 @@ use Rattle.stock_model.specs.Enough.{enters_under, entered, entry_units}
 use Rattle.stock_model.specs.InOrder.{IsBefore, IsInPostingOrder}
 use Rattle.stock_model.proofs.Pairwise.{Precedes, Pairwise, Precedes-Contains, Contains-cases}
 use Rattle.layer_ranges.specs.declared.layer.Layer.{Layer}
-use Rattle.repost_laws.specs.Pieces.{Piece, pieces, has_units, piece_value}
+use Rattle.repost_laws.specs.Pieces.{Piece, pieces, piece_value}
 use Rattle.repost_laws.proofs.Filtered.{Contains-filter}
 use Rattle.repost_laws.proofs.PieceSums.{sum_by-has_units, first_cost-cons, pieces-first_cost}
 use Rattle.repost_laws.proofs.RangePieces.{units_ahead, ahead-first, ahead-later}

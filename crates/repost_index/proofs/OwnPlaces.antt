@@ -1,10 +1,9 @@
 -- Where a movement stands, by its line of a voucher, its side, and the moment that is kept for the record.
-use Rattle.std.proofs.Common.{◌≡◌, ℕ, ◌-◌, ◌<◌, List, Some, None, Contains, refl, sym, ap, ◌∙◌, subst, arith}
+use Rattle.std.proofs.Common.{◌≡◌, ◌-◌, ◌<◌, List, Some, Contains, sym, ap, ◌∙◌, subst}
 use Rattle.std.specs.List.{slice_get}
 use Rattle.stock_nums.specs.declared.cause.Target.{Target}
 use Rattle.stock_nums.specs.declared.entry.Entry.{Entry}
 use Rattle.stock_nums.specs.declared.moment.Moment.{Moment}
-use Rattle.stock_nums.specs.declared.numbers.RecordNo.{RecordNo}
 use Rattle.stock_nums.specs.declared.place.Place.{Place}
 use Rattle.stock_nums.specs.declared.place.Side.{Side}
 use Rattle.stock_model.specs.InOrder.{IsBefore}

@@ -1,5 +1,5 @@
 -- A movement put into a line, and its change put among those of its side.
-use Rattle.std.proofs.Common.{◌≡◌, ℕ, ◌<◌, ◌≤◌, Bool, true, false, cond, ◌&&◌, not, List, [], ◌∷◌, length, map, filter, None, All, refl, sym, ap, ◌∙◌, subst, arith}
+use Rattle.std.proofs.Common.{◌≡◌, ◌≤◌, Bool, true, false, cond, ◌&&◌, not, List, [], ◌∷◌, length, map, filter, None, All, refl, sym, ap, ◌∙◌, subst, arith}
 use Rattle.std.proofs.lemmas.List.{length-map}
 use Rattle.std.proofs.lemmas.List.Sums.{length-filter, count_by-le-length}
 use Rattle.stock_nums.specs.Places.{is_before}
@@ -7,7 +7,7 @@ use Rattle.stock_nums.specs.declared.entry.Entry.{Entry}
 use Rattle.stock_nums.specs.declared.entry.Key.{Key}
 use Rattle.stock_nums.specs.declared.place.Place.{Place}
 use Rattle.stock_nums.proofs.PlaceOrder.{is_before-transitive}
-use Rattle.stock_model.specs.Enough.{entry_key, is_of_key, is_same_key}
+use Rattle.stock_model.specs.Enough.{is_of_key, is_same_key}
 use Rattle.stock_model.specs.InOrder.{IsBefore, IsInPostingOrder}
 use Rattle.stock_model.specs.PostingOrder.{put}
 use Rattle.stock_model.proofs.Pairwise.{Pairwise, Each, Each-weaker, Pairwise-from_AllPairs}

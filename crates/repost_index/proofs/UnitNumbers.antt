@@ -1,27 +1,21 @@
 -- The units of a line's movements by their numbers, found among changes that count units as leaving.
-use Rattle.std.proofs.Common.{◌≡◌, ℕ, zero, suc, ◌+◌, pos, neg_ℤ, unsigned_abs, Bool, true, false, cond, ◌&&◌, not, nat_lt, List, [], ◌∷◌, map, filter, sum_by, Option, Some, None, is_some, IfSome, Contains, ◌⊎◌, inl, inr, refl, sym, ap, ◌∙◌, subst, arith}
+use Rattle.std.proofs.Common.{◌≡◌, ℕ, zero, suc, ◌+◌, pos, neg_ℤ, unsigned_abs, Bool, true, false, cond, nat_lt, List, [], ◌∷◌, map, filter, sum_by, Option, Some, None, is_some, IfSome, Contains, ◌⊎◌, inl, inr, refl, sym, ap, ◌∙◌, arith}
 use Rattle.std.proofs.lemmas.Bool.{false≢true}
 use Rattle.std.proofs.lemmas.List.Sums.{sum_by-cons}
-use Rattle.std.proofs.lemmas.List.Kept.{AllPairs-filter}
-use Rattle.stock_nums.specs.Causes.{is_entering}
 use Rattle.stock_nums.specs.Places.{is_before}
 use Rattle.stock_nums.specs.declared.entry.Entry.{Entry}
 use Rattle.stock_nums.specs.declared.entry.Key.{Key}
 use Rattle.stock_nums.specs.declared.place.Place.{Place}
-use Rattle.stock_model.specs.Enough.{entry_key, is_of_key, enters_under, leaves_under, entered, departed, entry_units}
+use Rattle.stock_model.specs.Enough.{enters_under, leaves_under, entry_units}
 use Rattle.stock_model.specs.InOrder.{IsBefore, IsInPostingOrder}
-use Rattle.stock_model.proofs.Pairwise.{Precedes, Pairwise, Precedes-Contains, Pairwise-from_AllPairs, Contains-first, Contains-later}
-use Rattle.stock_laws.proofs.Enough.{is_same_key-true}
+use Rattle.stock_model.proofs.Pairwise.{Precedes, Pairwise, Precedes-Contains, Contains-first, Contains-later}
 use Rattle.key_order.specs.Changes.{of_key, leaving_change}
 use Rattle.key_order.specs.declared.change.Change.{Change}
 use Rattle.layer_ranges.specs.Layers.{moved_units, layer_of, layer_from, layer_at, units_of_key, units_before, HoldsUnit}
 use Rattle.layer_ranges.specs.declared.layer.Layer.{Layer}
 use Rattle.cost_links.specs.Sources.{comes_before}
-use Rattle.repost_laws.specs.Ranges.{units_in_before, units_out_before}
-use Rattle.repost_laws.specs.Valuations.{earlier}
 use Rattle.repost_laws.proofs.Filtered.{filter-swap, Contains-filtered}
 use Rattle.repost_laws.proofs.RangePieces.{units_ahead, ahead-first, ahead-later}
-use Rattle.repost_laws.proofs.Turns.{both-true}
 use Rattle.repost_index.specs.Layers.{IsLayerIn, IsLayerOut}
 use Rattle.repost_index.proofs.UnitsAhead.{side-ordered, ahead-in, ahead-out}
 

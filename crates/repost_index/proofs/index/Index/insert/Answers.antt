@@ -1,5 +1,5 @@
 -- The movement's change goes where the movement goes in the line, and its moment is kept.
-use Rattle.std.proofs.Common.{◌≡◌, ◌<◌, ◌^◌, Bool, not, List, length, sym, ap, ◌∙◌, subst, arith}
+use Rattle.std.proofs.Common.{◌≡◌, ◌<◌, ◌^◌, Bool, not, length, sym, ap, ◌∙◌, subst, arith}
 use Rattle.stock_nums.specs.Causes.{is_entering}
 use Rattle.stock_nums.specs.declared.entry.Entry.{Entry}
 use Rattle.stock_model.specs.Enough.{entry_key}

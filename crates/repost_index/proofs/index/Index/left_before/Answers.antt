@@ -1,5 +1,5 @@
 -- The units of the changes before the place are those of the movements that left before it.
-use Rattle.std.proofs.Common.{◌≡◌, List, ap, ◌∙◌, sym, subst}
+use Rattle.std.proofs.Common.{ap, ◌∙◌, sym, subst}
 use Rattle.stock_nums.specs.declared.entry.Key.{Key}
 use Rattle.stock_model.specs.Enough.{entry_key, leaves_under}
 use Rattle.layer_ranges.specs.Layers.{units_before}

@@ -1,7 +1,6 @@
 -- The first change of the key after the place is that of its first movement after it.
-use Rattle.std.proofs.Common.{◌≡◌, List, ◌&&◌, Option, ap, ◌∙◌, sym, subst}
+use Rattle.std.proofs.Common.{ap, ◌∙◌, sym, subst}
 use Rattle.std.specs.Option.{option_map}
-use Rattle.stock_nums.specs.declared.entry.Entry.{Entry}
 use Rattle.cost_links.specs.Sources.{entry_place}
 use Rattle.posting_order.specs.KeyLines.{AreOf}
 use Rattle.posting_order.proofs.KeyQueries.{next_place-change}

@@ -1,5 +1,5 @@
 -- The moment that is kept for the record is that of each of its movements.
-use Rattle.std.proofs.Common.{◌≡◌, ◌-◌, List, Some, ap, sym, ◌∙◌, subst, arith}
+use Rattle.std.proofs.Common.{◌≡◌, ◌-◌, List, Some, ap, sym, ◌∙◌, arith}
 use Rattle.std.specs.List.{slice_get}
 use Rattle.std.proofs.lemmas.Option.{get_or_from_slice_get, slice_get_within}
 use Rattle.stock_nums.specs.declared.moment.Moment.{Moment}

@@ -1,5 +1,5 @@
 -- The change before is that of the last earlier movement.
-use Rattle.std.proofs.Common.{◌≡◌, List, ap, ◌∙◌, sym, subst}
+use Rattle.std.proofs.Common.{ap, ◌∙◌, sym, subst}
 use Rattle.stock_nums.specs.declared.entry.Key.{Key}
 use Rattle.key_order.specs.Changes.{previous_change}
 use Rattle.posting_order.specs.KeyLines.{AreOf}

@@ -1,7 +1,6 @@
 -- The layer that holds the unit has the units of a movement that left.
-use Rattle.std.proofs.Common.{◌≡◌, ◌≤◌, ℕ, List, ap, ◌∙◌, sym, subst}
+use Rattle.std.proofs.Common.{◌≤◌, ℕ, sym, subst}
 use Rattle.stock_model.specs.Enough.{leaves_under}
-use Rattle.layer_ranges.specs.Layers.{units_of_key}
 use Rattle.repost_index.specs.IndexState.{IndexState}
 use Rattle.repost_index.proofs.UnitNumbers.{AreOfThose, units_of_key-those, layer-out_told}
 use Rattle.repost_index.proofs.index.Index.unit_out.Goals as goal
