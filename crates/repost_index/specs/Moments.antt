@@ -16,7 +16,7 @@ pub record IsMomentPut (old new : List Moment) (index : ℕ) (moment : Moment) :
   pub others : (i : ℕ) → i < length old → i ≢ index → slice_get new i ≡ slice_get old i
 
 -- the place is of this line of a voucher, on this side
-pub record IsPlaceOf (own_line : Target) (on : Side) (place : Place) : Type 0 where
-  pub voucher : place.voucher ≡ own_line.voucher
-  pub line : place.line ≡ own_line.line
+pub record IsPlaceOf (own : Target) (on : Side) (place : Place) : Type 0 where
+  pub voucher : place.voucher ≡ own.voucher
+  pub line : place.line ≡ own.line
   pub side : place.side ≡ on
