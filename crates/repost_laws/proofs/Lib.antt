@@ -7,8 +7,10 @@ pub mod LongerLines
 pub mod Spreading
 pub mod Turns
 pub mod TurnCounts
+pub mod JournalFronts
 pub mod MoreCharges
 pub mod MoreRecords
+pub mod MoreMovements
 pub mod SincePublished
 pub mod FirstSuspect
 pub mod NextOnes

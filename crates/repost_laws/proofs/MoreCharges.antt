@@ -1,14 +1,15 @@
 -- More records change what is charged to the lines alone that they charge something to.
-use Rattle.std.proofs.Common.{◌≡◌, ℕ, ◌+◌, Bool, false, cond, List, [], ◌∷◌, ◌++◌, map, unsigned_abs, refl, sym, ap, ◌∙◌, subst, arith, append_assoc}
+use Rattle.std.proofs.Common.{◌≡◌, ℕ, ◌+◌, Bool, false, cond, List, [], ◌∷◌, ◌++◌, ◌<◌, ◌^◌, ◌||◌, length, map, sum, unsigned_abs, refl, sym, ap, ◌∙◌, subst, arith, append_assoc}
 use Rattle.std.specs.List.{flat_map, zip, list_any}
 use Rattle.std.specs.Option.{option_map_or}
 use Rattle.std.proofs.lemmas.Grind.{flat_map-append}
+use Rattle.std.proofs.lemmas.List.Folds.{list_any-append}
 use Rattle.stock_nums.specs.Shares.{shares}
 use Rattle.stock_nums.specs.Targets.{is_same_target}
 use Rattle.stock_nums.specs.declared.cause.Target.{Target}
 use Rattle.stock_model.specs.Faults.{lacks_target}
-use Rattle.stock_model.specs.Journals.{AreSoundAfter, AreSound}
-use Rattle.stock_model.specs.LandedCost.{line_weight, weight, weights, charged, record_charged, added}
+use Rattle.stock_model.specs.Journals.{AreLegal, AreSoundAfter, AreSound}
+use Rattle.stock_model.specs.LandedCost.{line_weight, weight, weights, charged, record_charged, is_charge_of, added}
 use Rattle.stock_model.specs.TargetLines.{target_line}
 use Rattle.stock_model.specs.VoucherLines.{landed_target}
 use Rattle.stock_model.specs.declared.records.Record.{Record}
@@ -19,11 +20,15 @@ use Rattle.stock_model.proofs.NoFaults.{NoFaults, NoFaults-from}
 use Rattle.stock_model.proofs.Numbered.{Fails, first_line-none}
 use Rattle.stock_model.proofs.Pairwise.{Each}
 use Rattle.stock_model.proofs.TargetItems.{some-from}
+use Rattle.stock_laws.proofs.Legality.{AreSound-from, IsHeld-legal}
 use Rattle.stock_laws.proofs.RecordsAt.{target_line-append}
 use Rattle.cost_links.specs.Charged.{charged_to}
-use Rattle.cost_links.proofs.ChargeSums.{charged_to-cons, charged_to-append}
+use Rattle.cost_links.proofs.ChargeSums.{charged_to-cons, charged_to-append, length-shares, length-weights}
+use Rattle.cost_links.proofs.LinkSteps.{added-le}
+use Rattle.repost_laws.specs.Fetches.{charges_after, is_charged_in}
 use Rattle.repost_laws.specs.Touched.{is_the_line, landed_lines, charges_to, is_charged_by}
 use Rattle.repost_laws.proofs.Filtered.{or_false}
+use Rattle.repost_laws.proofs.JournalFronts.{AreSoundAfter-first}
 
 -- the weights of lines that a journal has are the same in a longer one
 weights-longer : (journal more : List Record) (basis : Basis) (targets : List Target)
@@ -105,12 +110,65 @@ charges-none journal (r ∷ more) line none =
       charges-none journal more line other.1,
     )
 
--- so other lines have the sum of charges that they had
-pub added-more : (journal more : List Record) (line : Target) → AreSound journal → is_charged_by more line ≡ false
-    → added (journal ++ more) line ≡ added journal line
-added-more journal more line sound none =
+-- what more records charge is added
+pub added-longer : (journal more : List Record) (line : Target) → AreSound journal
+    → added (journal ++ more) line ≡ added journal line + charged_to line (charges_after journal more)
+added-longer journal more line sound =
     let all = journal ++ more in
     let parts = ap (charged_to line) (flat_map-append (record_charged all) journal more)
     ∙ charged_to-append line (flat_map (record_charged all) journal) (flat_map (record_charged all) more) in
     let before = ap (charged_to line) (charges-longer [] journal more sound) in
-    omega (arith, parts, before, charges-none all more line none)
+    omega (arith, parts, before)
+
+-- so other lines have the sum of charges that they had
+pub added-more : (journal more : List Record) (line : Target) → AreSound journal → is_charged_by more line ≡ false
+    → added (journal ++ more) line ≡ added journal line
+added-more journal more line sound none =
+    omega (arith, added-longer journal more line sound, charges-none (journal ++ more) more line none)
+
+-- a line is one of the targets exactly where one of as many charges is to it
+any-zip : (line : Target) (targets : List Target) (ns : List ℕ) → length ns ≡ length targets
+    → list_any (is_the_line line) targets ≡ list_any (is_charge_of line) (zip targets ns)
+any-zip line [] ns same = refl
+any-zip line (target ∷ targets) [] same = absurd (omega (arith, same))
+any-zip line (target ∷ targets) (n ∷ ns) same =
+    ap (λ (b : Bool). is_same_target target line || b) (any-zip line targets ns (omega (arith, same)))
+
+charged-named : (journal : List Record) (what : What) (line : Target)
+    → list_any (is_the_line line) (landed_lines what) ≡ list_any (is_charge_of line) (charged journal what)
+charged-named journal (Item code method) line = refl
+charged-named journal (Store code account) line = refl
+charged-named journal (Receipt at lines) line = refl
+charged-named journal (Issue at purpose lines) line = refl
+charged-named journal (Transfer at lines) line = refl
+charged-named journal (CustomerReturn at lines) line = refl
+charged-named journal (SupplierReturn at lines) line = refl
+charged-named journal (Landed charge basis targets) line =
+    let ws = weights journal basis targets in
+    any-zip line targets (shares (unsigned_abs charge.0) ws)
+    (length-shares (unsigned_abs charge.0) 0 (sum ws) ws ∙ length-weights journal basis targets)
+
+charges-named : (journal more : List Record) (line : Target)
+    → is_charged_by more line ≡ is_charged_in (flat_map (record_charged journal) more) line
+charges-named journal [] line = refl
+charges-named journal (r ∷ more) line =
+    ap (λ (b : Bool). b || is_charged_by more line) (charged-named journal r.what line)
+    ∙ ap (λ (b : Bool). is_charged_in (record_charged journal r) line || b) (charges-named journal more line)
+    ∙ sym (list_any-append (is_charge_of line) (record_charged journal r) (flat_map (record_charged journal) more))
+
+-- the records charge something to a line, be it 0, exactly where one of them names it
+pub is_charged_by-more : (journal more : List Record) (line : Target)
+    → is_charged_by more line ≡ is_charged_in (charges_after journal more) line
+is_charged_by-more journal more line = charges-named (journal ++ more) more line
+
+-- all that is charged to a line has room
+pub charges-fit : (journal more : List Record) (line : Target) → AreLegal (journal ++ more)
+    → added journal line + charged_to line (charges_after journal more) < 2 ^ 128
+charges-fit journal more line legal =
+    let sound = AreSoundAfter-first [] journal more (AreSound-from (journal ++ more) legal) in
+    omega (
+      arith,
+      added-longer journal more line sound,
+      added-le (journal ++ more) line,
+      (IsHeld-legal (journal ++ more) legal).records,
+    )

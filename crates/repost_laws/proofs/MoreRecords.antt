@@ -9,7 +9,7 @@ use Rattle.stock_nums.specs.declared.cause.Cause.TheVariants.{Receipt, Issue, Tr
 use Rattle.stock_nums.specs.declared.entry.Entry.{Entry}
 use Rattle.stock_model.specs.Entries.{movements, entries, entries_after, all_entries}
 use Rattle.stock_model.specs.InOrder.{IsBefore}
-use Rattle.stock_model.specs.Journals.{AreLegal, AreSoundAfter, AreSound}
+use Rattle.stock_model.specs.Journals.{AreLegal, AreSound}
 use Rattle.stock_model.specs.LandedCost.{added}
 use Rattle.stock_model.specs.PostingOrder.{posting_line}
 use Rattle.stock_model.specs.VoucherLines.{moves_of}
@@ -26,24 +26,25 @@ use Rattle.stock_laws.proofs.RecordsAt.{what_at-within}
 use Rattle.repost_laws.specs.Builds.{Suspects, IsOfOldLine, IsFetch}
 use Rattle.repost_laws.specs.Touched.{is_old, is_touched, is_charged_by}
 use Rattle.repost_laws.proofs.EarlierOnes.{never_both, never_itself}
+use Rattle.repost_laws.proofs.JournalFronts.{AreSoundAfter-first}
 use Rattle.repost_laws.proofs.Filtered.{Contains-filtered, Contains-filter}
 use Rattle.repost_laws.proofs.MoreCharges.{added-more}
 use Rattle.repost_laws.proofs.Spreading.{Each-Contains}
 
 -- the movements of further records are of these
-abbrev IsOfNumber : ℕ → Entry → Type 0
+abbrev pub IsOfNumber : ℕ → Entry → Type 0
 IsOfNumber n e = e.place.voucher.0 ≡ n
 
-abbrev IsAfter : ℕ → Entry → Type 0
+abbrev pub IsAfter : ℕ → Entry → Type 0
 IsAfter n e = n < e.place.voucher.0
 
-movements-number : (journal : List Record) (n : ℕ) (what : What) → Each (IsOfNumber n) (movements journal n what)
+pub movements-number : (journal : List Record) (n : ℕ) (what : What) → Each (IsOfNumber n) (movements journal n what)
 movements-number journal n what =
     movements-each journal n what (IsOfNumber n)
     (λ at timed i line is found found_is item named. Each-all (HoldsOf n at (1 + i) line item (IsOfNumber n))
     (λ move store. refl) (moves_of what line found))
 
-entries-new : (journal more : List Record) → Each (IsAfter (length journal)) (entries_after journal more)
+pub entries-new : (journal more : List Record) → Each (IsAfter (length journal)) (entries_after journal more)
 entries-new journal [] = tt
 entries-new journal (r ∷ more) =
     let longer = length-append journal (r ∷ []) in
@@ -53,7 +54,7 @@ entries-new journal (r ∷ more) =
     (Each-weaker (IsAfter (length (journal ++ r ∷ []))) (IsAfter (length journal)) (λ e is. omega (arith, is, longer)) _
     (entries-new (journal ++ r ∷ []) more))
 
-entries_after-append : (done xs ys : List Record) → entries_after done (xs ++ ys)
+pub entries_after-append : (done xs ys : List Record) → entries_after done (xs ++ ys)
     ≡ entries_after done xs ++ entries_after (done ++ xs) ys
 entries_after-append done [] ys = ap (λ (j : List Record). entries_after j ys) (sym (append-nil done))
 entries_after-append done (x ∷ xs) ys =
@@ -62,7 +63,7 @@ entries_after-append done (x ∷ xs) ys =
     (done ++ x ∷ []) xs ++ entries_after j ys) (append_assoc done (x ∷ []) xs))
     ∙ sym (append_assoc (entries done x) (entries_after (done ++ x ∷ []) xs) (entries_after (done ++ x ∷ xs) ys))
 
-all_entries-more : (journal more : List Record) → all_entries (journal ++ more)
+pub all_entries-more : (journal more : List Record) → all_entries (journal ++ more)
     ≡ all_entries journal ++ entries_after journal more
 all_entries-more journal more =
     all_entries-after (journal ++ more) ∙ entries_after-append [] journal more
@@ -89,15 +90,15 @@ Contains-front (x ∷ xs) ys e held =
     ]
 
 -- the posting line has the movements of the journal
-of_line : (journal : List Record) (e : Entry) → Contains (posting_line journal) e → Contains (all_entries journal) e
+pub of_line : (journal : List Record) (e : Entry) → Contains (posting_line journal) e → Contains (all_entries journal) e
 of_line journal e held = Contains-permutation (posting_line journal) (all_entries journal) e
     (IsPermutation-sym (all_entries journal) (posting_line journal) (IsPermutation-posting_line journal)) held
 
-in_line : (journal : List Record) (e : Entry) → Contains (all_entries journal) e → Contains (posting_line journal) e
+pub in_line : (journal : List Record) (e : Entry) → Contains (all_entries journal) e → Contains (posting_line journal) e
 in_line journal e held = Contains-permutation (all_entries journal) (posting_line journal) e
     (IsPermutation-posting_line journal) held
 
-known-in_line : (journal : List Record) (e : Entry) → AreSound journal → Contains (posting_line journal) e → IsOfRecord journal e
+pub known-in_line : (journal : List Record) (e : Entry) → AreSound journal → Contains (posting_line journal) e → IsOfRecord journal e
 known-in_line journal e sound held = Each-Contains (IsOfRecord journal) (all_entries journal) e (entries-known journal sound)
     (of_line journal e held)
 
@@ -152,10 +153,6 @@ old_line journal n e TransferLeaves knows few = tt
 old_line journal n e TransferEnters knows few = tt
 old_line journal n e (CustomerReturn target issued) knows few = omega (arith, knows.earlier, few)
 old_line journal n e (SupplierReturn target amount received) knows few = tt
-
-AreSoundAfter-first : (done front rest : List Record) → AreSoundAfter done (front ++ rest) → AreSoundAfter done front
-AreSoundAfter-first done [] rest sound = tt
-AreSoundAfter-first done (r ∷ front) rest sound = (sound.0, AreSoundAfter-first (done ++ r ∷ []) front rest sound.1)
 
 pub IsFetch-more : (journal more : List Record) (suspects new_suspects : Suspects) → AreLegal (journal ++ more)
     → ((e : Entry) → Contains (posting_line (journal ++ more)) e → new_suspects e.place

@@ -4,3 +4,4 @@ pub mod Touched
 pub mod Builds
 pub mod Ranges
 pub mod WholeBuilds
+pub mod Fetches
