@@ -26,8 +26,8 @@ use Rattle.stock_laws.proofs.RecordsAt.{what_at-within}
 use Rattle.repost_laws.specs.Builds.{Suspects, IsOfOldLine, IsFetch}
 use Rattle.repost_laws.specs.Touched.{is_old, is_touched, is_charged_by}
 use Rattle.repost_laws.proofs.EarlierOnes.{never_both, never_itself}
-use Rattle.repost_laws.proofs.JournalFronts.{AreSoundAfter-first}
 use Rattle.repost_laws.proofs.Filtered.{Contains-filtered, Contains-filter}
+use Rattle.repost_laws.proofs.JournalFronts.{AreSoundAfter-first}
 use Rattle.repost_laws.proofs.MoreCharges.{added-more}
 use Rattle.repost_laws.proofs.Spreading.{Each-Contains}
 
@@ -35,7 +35,7 @@ use Rattle.repost_laws.proofs.Spreading.{Each-Contains}
 abbrev pub IsOfNumber : ℕ → Entry → Type 0
 IsOfNumber n e = e.place.voucher.0 ≡ n
 
-abbrev pub IsAfter : ℕ → Entry → Type 0
+abbrev IsAfter : ℕ → Entry → Type 0
 IsAfter n e = n < e.place.voucher.0
 
 pub movements-number : (journal : List Record) (n : ℕ) (what : What) → Each (IsOfNumber n) (movements journal n what)
@@ -44,7 +44,7 @@ movements-number journal n what =
     (λ at timed i line is found found_is item named. Each-all (HoldsOf n at (1 + i) line item (IsOfNumber n))
     (λ move store. refl) (moves_of what line found))
 
-pub entries-new : (journal more : List Record) → Each (IsAfter (length journal)) (entries_after journal more)
+entries-new : (journal more : List Record) → Each (IsAfter (length journal)) (entries_after journal more)
 entries-new journal [] = tt
 entries-new journal (r ∷ more) =
     let longer = length-append journal (r ∷ []) in
@@ -54,7 +54,7 @@ entries-new journal (r ∷ more) =
     (Each-weaker (IsAfter (length (journal ++ r ∷ []))) (IsAfter (length journal)) (λ e is. omega (arith, is, longer)) _
     (entries-new (journal ++ r ∷ []) more))
 
-pub entries_after-append : (done xs ys : List Record) → entries_after done (xs ++ ys)
+entries_after-append : (done xs ys : List Record) → entries_after done (xs ++ ys)
     ≡ entries_after done xs ++ entries_after (done ++ xs) ys
 entries_after-append done [] ys = ap (λ (j : List Record). entries_after j ys) (sym (append-nil done))
 entries_after-append done (x ∷ xs) ys =
@@ -98,7 +98,8 @@ pub in_line : (journal : List Record) (e : Entry) → Contains (all_entries jour
 in_line journal e held = Contains-permutation (all_entries journal) (posting_line journal) e
     (IsPermutation-posting_line journal) held
 
-pub known-in_line : (journal : List Record) (e : Entry) → AreSound journal → Contains (posting_line journal) e → IsOfRecord journal e
+pub known-in_line : (journal : List Record) (e : Entry) → AreSound journal → Contains (posting_line journal) e
+    → IsOfRecord journal e
 known-in_line journal e sound held = Each-Contains (IsOfRecord journal) (all_entries journal) e (entries-known journal sound)
     (of_line journal e held)
 
