@@ -17,3 +17,4 @@ pub mod NextOnes
 pub mod RangePieces
 pub mod InOrderFound
 pub mod WholeSteps
+pub mod LooksTaken

@@ -5,3 +5,4 @@ pub mod Builds
 pub mod Ranges
 pub mod WholeBuilds
 pub mod Fetches
+pub mod Looks

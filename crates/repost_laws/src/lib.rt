@@ -8,6 +8,7 @@ pub mod fetch_laws;
 pub mod index_laws;
 pub mod journal_laws;
 pub mod local_laws;
+pub mod look_laws;
 pub mod publication_laws;
 pub mod turn_laws;
 pub mod value_laws;
