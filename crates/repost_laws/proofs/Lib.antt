@@ -18,3 +18,4 @@ pub mod RangePieces
 pub mod InOrderFound
 pub mod WholeSteps
 pub mod LooksTaken
+pub mod LooksTouched

@@ -1,6 +1,6 @@
 -- What a movement takes over from which others, by what the others are.
 use Rattle.std.proofs.Common.{◌≡◌, Bool, true, false, not, List, [], ◌∷◌, map, filter, inl, inr, refl, sym, ap, ◌∙◌, subst, arith, Contains, ◌⊎◌, ◌↔◌}
-use Rattle.std.proofs.lemmas.Bool.{false≢true}
+use Rattle.std.proofs.lemmas.Bool.{false≢true, not-true}
 use Rattle.stock_nums.specs.Causes.{has_side, is_entering}
 use Rattle.stock_nums.specs.Places.{is_before}
 use Rattle.stock_nums.specs.Targets.{is_same_target}
@@ -51,10 +51,6 @@ whole-in (f ∷ es) e held =
       | inr later ↦ Contains-later (whole entry_units f) (map (whole entry_units) es) (whole entry_units e)
           (whole-in es e later)
     ]
-
-not-true : (b : Bool) → not b ≡ true → b ≡ false
-not-true true h = absurd (false≢true h)
-not-true false h = refl
 
 -- a movement leaves by the line
 pub record LeavesBy (target : Target) (e : Entry) : Type 0 where

@@ -29,10 +29,10 @@ module _ (p : Entry → Bool) where
     first : (f : Entry) → Contains xs f → p f ≡ true → (f ≡ x) ⊎ IsBefore x f
 
   -- and the last
-  record IsLastOf (xs : List Entry) (x : Entry) : Type 0 where
-    held : Contains xs x
-    passes : p x ≡ true
-    last : (f : Entry) → Contains xs f → p f ≡ true → (f ≡ x) ⊎ IsBefore f x
+  pub record IsLastOf (xs : List Entry) (x : Entry) : Type 0 where
+    pub held : Contains xs x
+    pub passes : p x ≡ true
+    pub last : (f : Entry) → Contains xs f → p f ≡ true → (f ≡ x) ⊎ IsBefore f x
 
   found-first : (xs : List Entry) (x : Entry) → Pairwise IsBefore xs → find p xs ≡ Some x → IsFirstOf xs x
   found-first [] x ordered is = cc
@@ -87,7 +87,7 @@ module _ (p : Entry → Bool) where
       ≡ option_or (find p (reverse xs)) (cond (p y) (Some y) None)
   last-cons y xs = ap (find p) (reverse-append (y ∷ []) xs) ∙ find-append p (reverse xs) (y ∷ [])
 
-  none-last : (xs : List Entry) → find p (reverse xs) ≡ None → (f : Entry) → Contains xs f → p f ≡ false
+  pub none-last : (xs : List Entry) → find p (reverse xs) ≡ None → (f : Entry) → Contains xs f → p f ≡ false
   none-last [] none f held = absurd (omega (arith, held.1))
   none-last (y ∷ xs) none f held = by_cases (find p (reverse xs)) refl (p y) refl (sym (last-cons y xs) ∙ none) (none-last xs)
     where
@@ -107,7 +107,7 @@ module _ (p : Entry → Bool) where
       (last-none xs (λ f held. none f (Contains-later y xs f held)))
       ∙ ap (λ (b : Bool). cond b (Some y) None) (none y (Contains-first y xs))
 
-  found-last : (xs : List Entry) (x : Entry) → Pairwise IsBefore xs → find p (reverse xs) ≡ Some x → IsLastOf xs x
+  pub found-last : (xs : List Entry) (x : Entry) → Pairwise IsBefore xs → find p (reverse xs) ≡ Some x → IsLastOf xs x
   found-last [] x ordered is = cc
   found-last (y ∷ xs) x ordered is = by_cases (find p (reverse xs)) refl (p y) refl (sym (last-cons y xs) ∙ is)
       (found-last xs x ordered.1)
@@ -138,7 +138,7 @@ module _ (p : Entry → Bool) where
           }
       by_cases None found false passes h rest = cc
 
-  last-found : (xs : List Entry) (x : Entry) → Pairwise IsBefore xs → IsLastOf xs x → find p (reverse xs) ≡ Some x
+  pub last-found : (xs : List Entry) (x : Entry) → Pairwise IsBefore xs → IsLastOf xs x → find p (reverse xs) ≡ Some x
   last-found [] x ordered is = absurd (omega (arith, is.held.1))
   last-found (y ∷ xs) x ordered is =
       elim (Contains-cases y xs x is.held) [

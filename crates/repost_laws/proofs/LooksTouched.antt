@@ -1,0 +1,240 @@
+-- What new records touch, by which movements come before and after which.
+use Rattle.std.proofs.Common.{◌≡◌, ℕ, Bool, true, false, ◌&&◌, ◌||◌, not, List, [], ◌∷◌, filter, reverse, Option, Some, None, inl, inr, refl, sym, ap, ◌∙◌, subst, arith, Contains, ◌⊎◌, ◌↔◌}
+use Rattle.std.specs.List.{find, list_any}
+use Rattle.std.specs.Option.{option_map, option_map_or}
+use Rattle.std.proofs.lemmas.Bool.{false≢true, not-true, or_cases, or_left, or_right}
+use Rattle.std.proofs.lemmas.List.Kept.{AllPairs-filter}
+use Rattle.stock_nums.specs.Causes.{is_entering}
+use Rattle.stock_nums.specs.Places.{is_before}
+use Rattle.stock_nums.specs.Targets.{is_same_target}
+use Rattle.stock_nums.specs.declared.cause.Cause.{Cause}
+use Rattle.stock_nums.specs.declared.cause.Cause.TheVariants.{Receipt, Issue, TransferLeaves, TransferEnters, CustomerReturn, SupplierReturn}
+use Rattle.stock_nums.specs.declared.cause.Method.{Method}
+use Rattle.stock_nums.specs.declared.cause.Method.TheVariants.{Fifo, Average}
+use Rattle.stock_nums.specs.declared.cause.Target.{Target}
+use Rattle.stock_nums.specs.declared.entry.Entry.{Entry}
+use Rattle.stock_nums.specs.declared.place.Place.{Place}
+use Rattle.stock_model.specs.Enough.{entry_key, is_of_key}
+use Rattle.stock_model.specs.InOrder.{IsBefore, IsInPostingOrder}
+use Rattle.stock_model.specs.Returns.{is_return_of, returns_of}
+use Rattle.stock_model.specs.Values.{own_line}
+use Rattle.stock_model.proofs.Pairwise.{Pairwise, Pairwise-from_AllPairs, Contains-cases, Contains-first, Contains-later}
+use Rattle.stock_laws.proofs.CostedRows.{both}
+use Rattle.stock_laws.proofs.Linked.{is_same_target-true, is_same_target-refl}
+use Rattle.cost_links.specs.Sources.{comes_before, entry_place}
+use Rattle.repost_laws.specs.Looks.{IsNextAfterNew, StartsFromNew, LeavesAfterNew, FollowsNewReturn}
+use Rattle.repost_laws.specs.Touched.{is_new, follows_by, follows_return, follows_any, is_touched, StartsFrom, next_of_key}
+use Rattle.repost_laws.specs.Valuations.{earlier, last_of_key}
+use Rattle.repost_laws.proofs.EarlierOnes.{never_both, never_itself}
+use Rattle.repost_laws.proofs.Filtered.{Contains-filtered, Contains-filter}
+use Rattle.repost_laws.proofs.NextOnes.{IsLastOf, found-last, none-last, next-last}
+use Rattle.repost_laws.proofs.Turns.{both-true, one_place}
+
+module _ {X : Type 0} (p : X → Bool) where
+  -- one of the list passes
+  record Passing (xs : List X) : Type 0 where
+    x : X
+    held : Contains xs x
+    passes : p x ≡ true
+
+  passing : (xs : List X) → list_any p xs ≡ true → Passing xs
+  passing [] some = absurd (false≢true some)
+  passing (y ∷ xs) some = by_cases (or_cases (p y) (list_any p xs) some) (passing xs)
+    where
+      by_cases : (p y ≡ true) ⊎ (list_any p xs ≡ true) → (list_any p xs ≡ true → Passing xs) → Passing (y ∷ xs)
+      by_cases (inl own) rest = record { x = y; held = Contains-first y xs; passes = own }
+      by_cases (inr later) rest =
+          let one = rest later in
+          record { x = one.x; held = Contains-later y xs one.x one.held; passes = one.passes }
+
+  any-passing : (xs : List X) (x : X) → Contains xs x → p x ≡ true → list_any p xs ≡ true
+  any-passing [] x held own = absurd (omega (arith, held.1))
+  any-passing (y ∷ xs) x held own =
+      elim (Contains-cases y xs x held) [
+        | inl same ↦ or_left (p y) (list_any p xs) (ap p same ∙ own)
+        | inr later ↦ or_right (p y) (list_any p xs) (any-passing xs x later own)
+      ]
+
+before-ordered : (line : List Entry) (f : Entry) → IsInPostingOrder line → Pairwise IsBefore (earlier line f)
+before-ordered line f in_order = Pairwise-from_AllPairs IsBefore (earlier line f)
+    (AllPairs-filter IsBefore (comes_before f.place) line in_order)
+
+-- at the moving average a movement follows a new one exactly where it is the next one after it
+average-to : (n : ℕ) (line : List Entry) (f : Entry) → IsInPostingOrder line → Contains line f → f.method ≡ Average
+    → follows_by Average (is_new n) (earlier line f) f ≡ true → StartsFromNew n line f
+average-to n line f in_order held is follows = by_cases (last_of_key (earlier line f) (entry_key f)) refl follows
+  where
+    by_cases : (o : Option Entry) → last_of_key (earlier line f) (entry_key f) ≡ o → option_map_or (is_new n) o false ≡ true
+        → StartsFromNew n line f
+    by_cases None last new = absurd (false≢true new)
+    by_cases (Some g) last new =
+        let of = found-last (is_of_key (entry_key f)) (earlier line f) g (before-ordered line f in_order) last in
+        let in_line = Contains-filtered (comes_before f.place) line g of.held in
+        (is, g, new, in_line.0, (next-last line f g in_order held in_line.0).0 last)
+
+average-from : (n : ℕ) (line : List Entry) (f : Entry) → IsInPostingOrder line → Contains line f → StartsFromNew n line f
+    → follows_by f.method (is_new n) (earlier line f) f ≡ true
+average-from n line f in_order held (is, g, new, in_line, next) =
+    ap (λ (m : Method). follows_by m (is_new n) (earlier line f) f) is
+    ∙ ap (λ (o : Option Entry). option_map_or (is_new n) o false) ((next-last line f g in_order held in_line).1 next) ∙ new
+
+-- a new movement of the item of this one in its warehouse
+abbrev is_new_of : ℕ → Entry → Entry → Bool
+is_new_of n f g = is_of_key (entry_key f) g && is_new n g
+
+-- first in, first out one that leaves follows a new one exactly where some new one is the last before it
+last-new : (n : ℕ) (line : List Entry) (f g : Entry) → IsLastOf (is_new_of n f) (earlier line f) g → IsNextAfterNew n line g f
+last-new n line f g of =
+    let in_line = Contains-filtered (comes_before f.place) line g of.held in
+    let own = both-true (is_of_key (entry_key f) g) (is_new n g) of.passes in
+    record {
+      held = in_line.0;
+      new = own.1;
+      of_key = own.0;
+      before = in_line.1;
+      none_between = λ h other new key after before.
+          elim (of.last h (Contains-filter (comes_before f.place) line h other before) (both key new)) [
+            | inl same ↦ never_itself g (subst (IsBefore g) same after)
+            | inr first ↦ never_both g h after first
+          ];
+    }
+
+fifo-to : (n : ℕ) (line : List Entry) (f : Entry) → IsInPostingOrder line → f.method ≡ Fifo
+    → follows_by Fifo (is_new n) (earlier line f) f ≡ true → LeavesAfterNew n line f
+fifo-to n line f in_order is follows =
+    let past = earlier line f in
+    let parts = both-true (not (is_entering f.place.side)) (list_any (is_new n) (filter (is_of_key (entry_key f)) past)) follows in
+    let some = passing (is_new n) (filter (is_of_key (entry_key f)) past) parts.1 in
+    let of = Contains-filtered (is_of_key (entry_key f)) past some.x some.held in
+    let one = last some.x of.0 (both of.1 some.passes) in
+    (is, not-true (is_entering f.place.side) parts.0, one.0, one.1)
+  where
+    last : (x : Entry) → Contains (earlier line f) x → is_new_of n f x ≡ true → (g : Entry) × IsNextAfterNew n line g f
+    last x held own = by_cases (find (is_new_of n f) (reverse (earlier line f))) refl
+      where
+        by_cases : (o : Option Entry) → find (is_new_of n f) (reverse (earlier line f)) ≡ o
+            → (g : Entry) × IsNextAfterNew n line g f
+        by_cases None none = absurd (false≢true (sym (none-last (is_new_of n f) (earlier line f) none x held) ∙ own))
+        by_cases (Some g) found = (
+          g,
+          last-new n line f g
+              (found-last (is_new_of n f) (earlier line f) g (before-ordered line f in_order) found),
+        )
+
+fifo-from : (n : ℕ) (line : List Entry) (f : Entry) → LeavesAfterNew n line f
+    → follows_by f.method (is_new n) (earlier line f) f ≡ true
+fifo-from n line f (is, leaves, g, after) =
+    let past = earlier line f in
+    let in_past = Contains-filter (comes_before f.place) line g after.held after.before in
+    ap (λ (m : Method). follows_by m (is_new n) past f) is
+    ∙ both (ap not leaves) (any-passing (is_new n) (filter (is_of_key (entry_key f)) past) g
+    (Contains-filter (is_of_key (entry_key f)) past g in_past after.of_key) after.new)
+
+-- a return follows a new one exactly where a new return of its line comes before it
+earlier-return : (n : ℕ) (line : List Entry) (f : Entry) (target : Target) → is_return_of target f.cause ≡ true
+    → list_any (is_new n) (filter (returns_of target) (earlier line f)) ≡ true → FollowsNewReturn n line f
+earlier-return n line f target returns some =
+    let one = passing (is_new n) (filter (returns_of target) (earlier line f)) some in
+    let of = Contains-filtered (returns_of target) (earlier line f) one.x one.held in
+    let in_line = Contains-filtered (comes_before f.place) line one.x of.0 in
+    record {
+      target = target;
+      returns = returns;
+      g = one.x;
+      held = in_line.0;
+      new = one.passes;
+      same = of.1;
+      before = in_line.1;
+    }
+
+return-to : (n : ℕ) (line : List Entry) (f : Entry) (cause : Cause) → f.cause ≡ cause
+    → follows_return (is_new n) (earlier line f) cause ≡ true → FollowsNewReturn n line f
+return-to n line f (CustomerReturn target issued) is follows =
+    earlier-return n line f target (ap (is_return_of target) is ∙ is_same_target-refl target) follows
+return-to n line f (SupplierReturn target amount received) is follows =
+    earlier-return n line f target (ap (is_return_of target) is ∙ is_same_target-refl target) follows
+return-to n line f (Receipt amount) is follows = absurd (false≢true follows)
+return-to n line f (Issue sold) is follows = absurd (false≢true follows)
+return-to n line f TransferLeaves is follows = absurd (false≢true follows)
+return-to n line f TransferEnters is follows = absurd (false≢true follows)
+
+any-return : (n : ℕ) (line : List Entry) (f : Entry) (target : Target) → (r : FollowsNewReturn n line f)
+    → is_same_target target r.target ≡ true → list_any (is_new n) (filter (returns_of target) (earlier line f)) ≡ true
+any-return n line f target r is =
+    let same : target ≡ r.target = is_same_target-true target r.target is in
+    any-passing (is_new n) (filter (returns_of target) (earlier line f)) r.g
+    (Contains-filter (returns_of target) (earlier line f) r.g
+    (Contains-filter (comes_before f.place) line r.g r.held r.before)
+    (ap (λ (t : Target). returns_of t r.g) same ∙ r.same)) r.new
+
+return-from : (n : ℕ) (line : List Entry) (f : Entry) (cause : Cause) → (r : FollowsNewReturn n line f)
+    → is_return_of r.target cause ≡ true → follows_return (is_new n) (earlier line f) cause ≡ true
+return-from n line f (CustomerReturn target issued) r returns = any-return n line f target r returns
+return-from n line f (SupplierReturn target amount received) r returns = any-return n line f target r returns
+return-from n line f (Receipt amount) r returns = absurd (false≢true returns)
+return-from n line f (Issue sold) r returns = absurd (false≢true returns)
+return-from n line f TransferLeaves r returns = absurd (false≢true returns)
+return-from n line f TransferEnters r returns = absurd (false≢true returns)
+
+-- why new records touch the movement
+abbrev IsTouchedBy : ℕ → (Target → Bool) → List Entry → Entry → Type 0
+IsTouchedBy n charged line f =
+    (is_new n f ≡ true) ⊎ (charged (own_line f) ≡ true) ⊎ StartsFromNew n line f ⊎ LeavesAfterNew n line f
+    ⊎ FollowsNewReturn n line f
+
+touched-to : (n : ℕ) (charged : Target → Bool) (line : List Entry) (f : Entry) → IsInPostingOrder line → Contains line f
+    → is_touched n charged line f ≡ true → IsTouchedBy n charged line f
+touched-to n charged line f in_order held touched =
+    elim (or_cases (is_new n f) (charged (own_line f) || follows_any (is_new n) past f) touched) [
+      | inl new ↦ inl new
+      | inr h ↦ elim (or_cases (charged (own_line f)) (follows_any (is_new n) past f) h) [
+        | inl own ↦ inr (inl own)
+        | inr k ↦ elim (or_cases (follows_by f.method (is_new n) past f) (follows_return (is_new n) past f.cause) k) [
+          | inl follows ↦ by_method f.method refl follows
+          | inr follows ↦ inr (inr (inr (inr (return-to n line f f.cause refl follows))))
+        ]
+      ]
+    ]
+  where
+    past : List Entry
+    past = earlier line f
+
+    by_method : (m : Method) → f.method ≡ m → follows_by m (is_new n) (earlier line f) f ≡ true → IsTouchedBy n charged line f
+    by_method Average is follows = inr (inr (inl (average-to n line f in_order held is follows)))
+    by_method Fifo is follows = inr (inr (inr (inl (fifo-to n line f in_order is follows))))
+
+touched-from : (n : ℕ) (charged : Target → Bool) (line : List Entry) (f : Entry) → IsInPostingOrder line → Contains line f
+    → IsTouchedBy n charged line f → is_touched n charged line f ≡ true
+touched-from n charged line f in_order held by = from by
+  where
+    charge : Bool
+    charge = charged (own_line f)
+
+    stock : Bool
+    stock = follows_by f.method (is_new n) (earlier line f) f
+
+    back : Bool
+    back = follows_return (is_new n) (earlier line f) f.cause
+
+    by_stock : stock ≡ true → (is_new n f || (charge || (stock || back))) ≡ true
+    by_stock is = or_right (is_new n f) (charge || (stock || back))
+        (or_right charge (stock || back) (or_left stock back is))
+
+    from : IsTouchedBy n charged line f → (is_new n f || (charge || (stock || back))) ≡ true
+    from (inl new) = or_left (is_new n f) (charge || (stock || back)) new
+    from (inr (inl own)) = or_right (is_new n f) (charge || (stock || back)) (or_left charge (stock || back) own)
+    from (inr (inr (inl starts))) = by_stock (average-from n line f in_order held starts)
+    from (inr (inr (inr (inl leaves)))) = by_stock (fifo-from n line f leaves)
+    from (inr (inr (inr (inr returns)))) =
+        or_right (is_new n f) (charge || (stock || back))
+        (or_right charge (stock || back)
+        (or_right stock back (return-from n line f f.cause returns returns.returns)))
+
+pub touched-looks : (n : ℕ) (charged : Target → Bool) (line : List Entry) (f : Entry) → IsInPostingOrder line → Contains line f
+    → (is_touched n charged line f ≡ true)
+    ↔ ((is_new n f ≡ true) ⊎ (charged (own_line f) ≡ true) ⊎ StartsFromNew n line f ⊎ LeavesAfterNew n line f
+    ⊎ FollowsNewReturn n line f)
+touched-looks n charged line f in_order held = (
+  touched-to n charged line f in_order held,
+  touched-from n charged line f in_order held,
+)
