@@ -58,7 +58,7 @@ found_rows-entries found [] = refl
 found_rows-entries found (e ∷ past) = ap (λ (es : List Entry). e ∷ es) (found_rows-entries found past)
 
 -- what left by a line
-pub left-is : (found : Found) (past : List Entry) (line : Target) → taken_over found (left_by past line)
+left-is : (found : Found) (past : List Entry) (line : Target) → taken_over found (left_by past line)
     ≡ line_cost (found_rows found past) line
 left-is found past line =
     sum_by-whole entry_units (found_value found) (λ e. e.quantity.0) (filter (is_leaving_by line) past)

@@ -19,3 +19,4 @@ pub mod InOrderFound
 pub mod WholeSteps
 pub mod LooksTaken
 pub mod LooksTouched
+pub mod LooksLeft

@@ -1,13 +1,16 @@
 //! What a code has to find for a movement among those of its line, so that it marks what the definitions mark, and takes over
 //! what they take over.
 ghost use Rattle.std.specs.Prelude.{◌≡◌, ◌↔◌, ◌⊎◌, ℕ, Bool, true, false, List, Some, Contains};
+ghost use Rattle.stock_nums.specs.Causes.{is_entering};
+ghost use Rattle.stock_nums.specs.Places.{is_before};
 ghost use Rattle.stock_nums.specs.declared.cause.Target.{Target};
 ghost use Rattle.stock_nums.specs.declared.entry.Entry.{Entry};
 ghost use Rattle.stock_model.specs.Enough.{IsEnough};
 ghost use Rattle.stock_model.specs.InOrder.{IsInPostingOrder};
 ghost use Rattle.stock_model.specs.Values.{own_line};
-ghost use Rattle.repost_laws.specs.Looks.{IsLinkedTo, TakesUnits, StartsFromNew, LeavesAfterNew, FollowsNewReturn};
+ghost use Rattle.repost_laws.specs.Looks.{HaveOneMoment, IsLinkedTo, TakesUnits, StartsFromNew, LeavesAfterNew, FollowsNewReturn};
 ghost use Rattle.repost_laws.specs.Touched.{is_new, is_touched, TakesFrom};
+ghost use Rattle.repost_laws.specs.Valuations.{Found, found_value, earlier, left_by, taken_over};
 
 /// A movement takes value over from another exactly where it brings in what that one took out of its warehouse, by its
 /// transfer's line or as a return of its line, or where it leaves first in, first out and takes a unit that that one brought.
@@ -24,4 +27,18 @@ pub fn is_touched_when()
         → (is_touched n charged line f ≡ true)
         ↔ ((is_new n f ≡ true) ⊎ (charged (own_line f) ≡ true) ⊎ StartsFromNew n line f ⊎ LeavesAfterNew n line f
         ⊎ FollowsNewReturn n line f) }
+{}
+
+/// By a line of a voucher at most one movement leaves, where movements of one record have one moment. What left by the line
+/// before another movement is what that one is worth where it comes before, and else nothing.
+pub fn left_by_one_line()
+    ensures before { (found : Found) (line : List Entry) (target : Target) (g f : Entry) → IsInPostingOrder line
+        → HaveOneMoment line → Contains line g → own_line g ≡ target → is_entering g.place.side ≡ false
+        → is_before g.place f.place ≡ true → taken_over found (left_by (earlier line f) target) ≡ found_value found g }
+    ensures later { (found : Found) (line : List Entry) (target : Target) (g f : Entry) → IsInPostingOrder line
+        → HaveOneMoment line → Contains line g → own_line g ≡ target → is_entering g.place.side ≡ false
+        → is_before g.place f.place ≡ false → taken_over found (left_by (earlier line f) target) ≡ 0 }
+    ensures none { (found : Found) (line : List Entry) (target : Target) (f : Entry)
+        → ((g : Entry) → Contains line g → own_line g ≡ target → is_entering g.place.side ≡ false → ⊥)
+        → taken_over found (left_by (earlier line f) target) ≡ 0 }
 {}
