@@ -20,3 +20,4 @@ pub mod WholeSteps
 pub mod LooksTaken
 pub mod LooksTouched
 pub mod LooksLeft
+pub mod LooksStarted

@@ -3,14 +3,23 @@
 ghost use Rattle.std.specs.Prelude.{◌≡◌, ◌↔◌, ◌⊎◌, ℕ, Bool, true, false, List, Some, Contains};
 ghost use Rattle.stock_nums.specs.Causes.{is_entering};
 ghost use Rattle.stock_nums.specs.Places.{is_before};
+ghost use Rattle.stock_nums.specs.declared.cause.Method.{Method};
 ghost use Rattle.stock_nums.specs.declared.cause.Target.{Target};
 ghost use Rattle.stock_nums.specs.declared.entry.Entry.{Entry};
 ghost use Rattle.stock_model.specs.Enough.{IsEnough};
 ghost use Rattle.stock_model.specs.InOrder.{IsInPostingOrder};
 ghost use Rattle.stock_model.specs.Values.{own_line};
 ghost use Rattle.repost_laws.specs.Looks.{HaveOneMoment, IsLinkedTo, TakesUnits, StartsFromNew, LeavesAfterNew, FollowsNewReturn};
-ghost use Rattle.repost_laws.specs.Touched.{is_new, is_touched, TakesFrom};
-ghost use Rattle.repost_laws.specs.Valuations.{Found, found_value, earlier, left_by, taken_over};
+ghost use Rattle.repost_laws.specs.Looks.{GoesOut};
+ghost use Rattle.repost_laws.specs.Touched.{is_new, is_touched, next_of_key, StartsFrom, TakesFrom};
+ghost use Rattle.repost_laws.specs.Valuations.{Found, found_value, earlier, pieces_taken_by, left_by, sources, taken_over};
+
+/// A movement starts from another exactly where it is at the moving average and the next one after it, of its item in its
+/// warehouse.
+pub fn starts_from_the_last()
+    ensures { (line : List Entry) (g f : Entry) → IsInPostingOrder line → Contains line g → Contains line f
+        → StartsFrom line g.place f ↔ ((f.method ≡ Method.Average) × (next_of_key line g ≡ Some f)) }
+{}
 
 /// A movement takes value over from another exactly where it brings in what that one took out of its warehouse, by its
 /// transfer's line or as a return of its line, or where it leaves first in, first out and takes a unit that that one brought.
@@ -41,4 +50,12 @@ pub fn left_by_one_line()
     ensures none { (found : Found) (line : List Entry) (target : Target) (f : Entry)
         → ((g : Entry) → Contains line g → own_line g ≡ target → is_entering g.place.side ≡ false → ⊥)
         → taken_over found (left_by (earlier line f) target) ≡ 0 }
+{}
+
+/// What leaves is an issue, the side of a transfer that leaves, or a return to a supplier. So it takes over units that entered
+/// where it leaves first in, first out, and from no other movement.
+pub fn units_are_taken()
+    ensures causes { (e : Entry) → is_entering e.place.side ≡ false → GoesOut e }
+    ensures sources { (past : List Entry) (e : Entry) → is_entering e.place.side ≡ false
+        → sources past e ≡ pieces_taken_by e.method past e }
 {}
