@@ -15,9 +15,9 @@ pub mod SincePublished
 pub mod FirstSuspect
 pub mod NextOnes
 pub mod RangePieces
-pub mod InOrderFound
-pub mod WholeSteps
 pub mod LooksTaken
 pub mod LooksTouched
 pub mod LooksLeft
 pub mod LooksStarted
+pub mod InOrderFound
+pub mod WholeSteps

@@ -1,5 +1,5 @@
 -- What left by a line of a voucher: what its one movement that leaves is worth, or nothing.
-use Rattle.std.proofs.Common.{◌≡◌, ◌+◌, ℕ, true, false, List, [], ◌∷◌, filter, sum_by, refl, sym, ap, ◌∙◌, subst, arith, Contains}
+use Rattle.std.proofs.Common.{◌≡◌, ℕ, true, false, List, [], ◌∷◌, filter, sum_by, refl, sym, ap, ◌∙◌, subst, arith, Contains}
 use Rattle.std.proofs.lemmas.Bool.{false≢true}
 use Rattle.std.proofs.lemmas.List.Kept.{AllPairs-filter}
 use Rattle.std.proofs.lemmas.List.Sums.{sum_by-cons}
@@ -15,7 +15,7 @@ use Rattle.stock_nums.specs.declared.place.Side.TheVariants.{Leaves, Enters}
 use Rattle.stock_model.specs.Enough.{entry_units}
 use Rattle.stock_model.specs.InOrder.{IsBefore, IsInPostingOrder}
 use Rattle.stock_model.specs.Values.{own_line}
-use Rattle.stock_model.proofs.Pairwise.{Pairwise, Precedes-Contains, Pairwise-from_AllPairs, Contains-cases, Contains-first, Contains-later}
+use Rattle.stock_model.proofs.Pairwise.{Pairwise, Precedes-Contains, Pairwise-from_AllPairs, Contains-first, Contains-later}
 use Rattle.cost_links.specs.Sources.{comes_before}
 use Rattle.repost_laws.specs.Looks.{HaveOneMoment}
 use Rattle.repost_laws.specs.Valuations.{Found, found_value, earlier, is_leaving_by, left_by, taken_over}

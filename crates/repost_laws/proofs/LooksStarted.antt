@@ -1,5 +1,5 @@
 -- What a movement starts from, and by which causes goods leave.
-use Rattle.std.proofs.Common.{◌≡◌, Bool, true, false, not, List, Option, Some, None, inl, inr, refl, sym, ap, ◌∙◌, subst, arith, Contains, ◌⊎◌, ◌↔◌}
+use Rattle.std.proofs.Common.{◌≡◌, true, false, List, Option, Some, None, inl, inr, refl, sym, ap, ◌∙◌, Contains, ◌↔◌}
 use Rattle.std.specs.Option.{option_map}
 use Rattle.std.proofs.lemmas.Bool.{false≢true}
 use Rattle.std.proofs.lemmas.List.Kept.{AllPairs-filter}
@@ -8,7 +8,6 @@ use Rattle.stock_nums.specs.declared.cause.Cause.{Cause}
 use Rattle.stock_nums.specs.declared.cause.Cause.TheVariants.{Receipt, Issue, TransferLeaves, TransferEnters, CustomerReturn, SupplierReturn}
 use Rattle.stock_nums.specs.declared.cause.Method.TheVariants.{Average}
 use Rattle.stock_nums.specs.declared.entry.Entry.{Entry}
-use Rattle.stock_nums.specs.declared.place.Place.{Place}
 use Rattle.stock_model.specs.Enough.{entry_key, is_of_key}
 use Rattle.stock_model.specs.InOrder.{IsBefore, IsInPostingOrder}
 use Rattle.stock_model.proofs.Pairwise.{Pairwise-from_AllPairs}

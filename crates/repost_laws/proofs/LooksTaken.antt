@@ -25,7 +25,7 @@ use Rattle.repost_laws.specs.Touched.{TakesFrom}
 use Rattle.repost_laws.specs.Valuations.{earlier, pieces_taken_by, is_leaving_by, left_by, sources_by, sources}
 use Rattle.repost_laws.proofs.Filtered.{Contains-filtered, Contains-filter}
 use Rattle.repost_laws.proofs.RangePieces.{sources-leaving, ranges-meet}
-use Rattle.repost_laws.proofs.Turns.{both-true, false-from, one_place}
+use Rattle.repost_laws.proofs.Turns.{both-true, one_place}
 
 -- each whole piece is that of an element
 record IsWholeOf (es : List Entry) (piece : Piece Entry) : Type 0 where

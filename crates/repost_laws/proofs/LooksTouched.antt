@@ -1,11 +1,10 @@
 -- What new records touch, by which movements come before and after which.
 use Rattle.std.proofs.Common.{◌≡◌, ℕ, Bool, true, false, ◌&&◌, ◌||◌, not, List, [], ◌∷◌, filter, reverse, Option, Some, None, inl, inr, refl, sym, ap, ◌∙◌, subst, arith, Contains, ◌⊎◌, ◌↔◌}
 use Rattle.std.specs.List.{find, list_any}
-use Rattle.std.specs.Option.{option_map, option_map_or}
+use Rattle.std.specs.Option.{option_map_or}
 use Rattle.std.proofs.lemmas.Bool.{false≢true, not-true, or_cases, or_left, or_right}
 use Rattle.std.proofs.lemmas.List.Kept.{AllPairs-filter}
 use Rattle.stock_nums.specs.Causes.{is_entering}
-use Rattle.stock_nums.specs.Places.{is_before}
 use Rattle.stock_nums.specs.Targets.{is_same_target}
 use Rattle.stock_nums.specs.declared.cause.Cause.{Cause}
 use Rattle.stock_nums.specs.declared.cause.Cause.TheVariants.{Receipt, Issue, TransferLeaves, TransferEnters, CustomerReturn, SupplierReturn}
@@ -13,7 +12,6 @@ use Rattle.stock_nums.specs.declared.cause.Method.{Method}
 use Rattle.stock_nums.specs.declared.cause.Method.TheVariants.{Fifo, Average}
 use Rattle.stock_nums.specs.declared.cause.Target.{Target}
 use Rattle.stock_nums.specs.declared.entry.Entry.{Entry}
-use Rattle.stock_nums.specs.declared.place.Place.{Place}
 use Rattle.stock_model.specs.Enough.{entry_key, is_of_key}
 use Rattle.stock_model.specs.InOrder.{IsBefore, IsInPostingOrder}
 use Rattle.stock_model.specs.Returns.{is_return_of, returns_of}
@@ -21,14 +19,14 @@ use Rattle.stock_model.specs.Values.{own_line}
 use Rattle.stock_model.proofs.Pairwise.{Pairwise, Pairwise-from_AllPairs, Contains-cases, Contains-first, Contains-later}
 use Rattle.stock_laws.proofs.CostedRows.{both}
 use Rattle.stock_laws.proofs.Linked.{is_same_target-true, is_same_target-refl}
-use Rattle.cost_links.specs.Sources.{comes_before, entry_place}
+use Rattle.cost_links.specs.Sources.{comes_before}
 use Rattle.repost_laws.specs.Looks.{IsNextAfterNew, StartsFromNew, LeavesAfterNew, FollowsNewReturn}
-use Rattle.repost_laws.specs.Touched.{is_new, follows_by, follows_return, follows_any, is_touched, StartsFrom, next_of_key}
+use Rattle.repost_laws.specs.Touched.{is_new, follows_by, follows_return, follows_any, is_touched}
 use Rattle.repost_laws.specs.Valuations.{earlier, last_of_key}
 use Rattle.repost_laws.proofs.EarlierOnes.{never_both, never_itself}
 use Rattle.repost_laws.proofs.Filtered.{Contains-filtered, Contains-filter}
 use Rattle.repost_laws.proofs.NextOnes.{IsLastOf, found-last, none-last, next-last}
-use Rattle.repost_laws.proofs.Turns.{both-true, one_place}
+use Rattle.repost_laws.proofs.Turns.{both-true}
 
 module _ {X : Type 0} (p : X → Bool) where
   -- one of the list passes

@@ -138,7 +138,7 @@ module _ (p : Entry → Bool) where
           }
       by_cases None found false passes h rest = cc
 
-  pub last-found : (xs : List Entry) (x : Entry) → Pairwise IsBefore xs → IsLastOf xs x → find p (reverse xs) ≡ Some x
+  last-found : (xs : List Entry) (x : Entry) → Pairwise IsBefore xs → IsLastOf xs x → find p (reverse xs) ≡ Some x
   last-found [] x ordered is = absurd (omega (arith, is.held.1))
   last-found (y ∷ xs) x ordered is =
       elim (Contains-cases y xs x is.held) [

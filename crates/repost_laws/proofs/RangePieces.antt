@@ -74,8 +74,8 @@ pieces-none (y ∷ ys) from until none =
     (omega (arith, none))
 
 -- what leaves has its source in what entered
-pub sources-leaving : (past : List Entry) (e : Entry) (cause : Cause) → has_side cause e.place.side ≡ true → is_entering e.place.side
-    ≡ false → sources_by past e cause ≡ pieces_taken_by e.method past e
+pub sources-leaving : (past : List Entry) (e : Entry) (cause : Cause) → has_side cause e.place.side ≡ true
+    → is_entering e.place.side ≡ false → sources_by past e cause ≡ pieces_taken_by e.method past e
 sources-leaving past e (Receipt amount) side leaves = absurd (false≢true (sym leaves ∙ side-is true e.place.side side))
 sources-leaving past e (Issue sold) side leaves = refl
 sources-leaving past e TransferLeaves side leaves = refl
@@ -84,7 +84,7 @@ sources-leaving past e (CustomerReturn target issued) side leaves = absurd
     (false≢true (sym leaves ∙ side-is true e.place.side side))
 sources-leaving past e (SupplierReturn target amount received) side leaves = refl
 
-pub sources-taken : (past : List Entry) (e : Entry) → is_entering e.place.side ≡ false → e.method ≡ Fifo → sources past e
+sources-taken : (past : List Entry) (e : Entry) → is_entering e.place.side ≡ false → e.method ≡ Fifo → sources past e
     ≡ pieces_taken past e
 sources-taken past e leaves method = sources-leaving past e e.cause e.sides leaves
     ∙ ap (λ (m : Method). pieces_taken_by m past e) method

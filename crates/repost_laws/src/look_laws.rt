@@ -52,8 +52,8 @@ pub fn left_by_one_line()
         → taken_over found (left_by (earlier line f) target) ≡ 0 }
 {}
 
-/// What leaves is an issue, the side of a transfer that leaves, or a return to a supplier. So it takes over units that entered
-/// where it leaves first in, first out, and from no other movement.
+/// What leaves is an issue, the side of a transfer that leaves, or a return to a supplier. So, first in, first out, it takes
+/// over the units with its numbers, and at the moving average nothing.
 pub fn units_are_taken()
     ensures causes { (e : Entry) → is_entering e.place.side ≡ false → GoesOut e }
     ensures sources { (past : List Entry) (e : Entry) → is_entering e.place.side ≡ false
