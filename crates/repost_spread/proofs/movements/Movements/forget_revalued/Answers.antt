@@ -1,0 +1,12 @@
+-- The line stays.
+use Rattle.std.proofs.Common.{List, ap, ◌∙◌, sym, subst}
+use Rattle.stock_nums.specs.declared.entry.Entry.{Entry}
+use Rattle.repost_frontier.specs.declared.slot.Slot.{Slot}
+use Rattle.repost_frontier.proofs.SlotOrder.{entries-published}
+use Rattle.repost_spread.specs.Movements.{AreFoundBy, entries_of}
+use Rattle.repost_spread.proofs.movements.Movements.forget_revalued.Goals as goal
+
+pub returns-clause-kept : goal.returns-clause-kept
+returns-clause-kept c =
+    subst (λ (line : List Entry). AreFoundBy line c.args.self.now.index c.args.self.now.links)
+    (sym (ap (λ (slots : List Slot). entries_of slots) c.forget_revalued.ensures.published ∙ entries-published c.args.self.now.frontier.slots)) c.requires

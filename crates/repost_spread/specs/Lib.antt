@@ -1,0 +1,3 @@
+pub mod Movements
+pub mod Adding
+pub mod Takes
