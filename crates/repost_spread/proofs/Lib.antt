@@ -5,3 +5,6 @@ pub mod TakingUnits
 pub mod TakingLayers
 pub mod TakingLines
 pub mod TakingReturns
+pub mod TouchingMarks
+pub mod TouchingLines
+pub mod TouchingWalk
