@@ -8,3 +8,4 @@ pub mod TakingReturns
 pub mod TouchingMarks
 pub mod TouchingLines
 pub mod TouchingWalk
+pub mod TouchingReturns

@@ -1,11 +1,16 @@
 -- Which movements one new movement of an item in a warehouse, or one charge, touches.
-use Rattle.std.specs.Prelude.{ℕ, ◌≡◌, false, List, Some}
+use Rattle.std.specs.Prelude.{ℕ, ◌≡◌, true, false, List, fold, Some, if◌then◌else◌, ◌⊎◌}
 use Rattle.stock_nums.specs.Causes.{is_entering}
+use Rattle.stock_nums.specs.Places.{is_before}
 use Rattle.stock_nums.specs.declared.cause.Method.TheVariants.{Fifo, Average}
 use Rattle.stock_nums.specs.declared.cause.Target.{Target}
 use Rattle.stock_nums.specs.declared.entry.Entry.{Entry}
+use Rattle.stock_nums.specs.declared.place.Place.{Place}
 use Rattle.stock_nums.specs.declared.place.Side.{Side}
+use Rattle.stock_model.specs.Returns.{is_return_of, returns_of}
 use Rattle.stock_model.specs.Values.{own_line}
+use Rattle.repost_frontier.specs.Slots.{marks}
+use Rattle.repost_frontier.specs.declared.slot.Slot.{Slot}
 use Rattle.repost_laws.specs.Looks.{IsNextAfterNew}
 use Rattle.repost_laws.specs.Touched.{next_of_key}
 
@@ -27,3 +32,19 @@ IsOfLine line f = own_line f ≡ line
 
 abbrev pub IsOfSide : Target → Side → Entry → Type 0
 IsOfSide line side f = (own_line f ≡ line) × (f.place.side ≡ side)
+
+-- the movements with this one suspect, if it comes after the place
+abbrev pub later_mark : Place → List Slot → Entry → List Slot
+later_mark place slots e = if is_before place e.place then marks slots e.place else slots
+
+abbrev pub later_marked : Place → List Slot → List Entry → List Slot
+later_marked place slots es = fold (later_mark place) slots es
+
+-- both return units of one line, and the second comes later
+abbrev pub ReturnsLater : Entry → Entry → Type 0
+ReturnsLater g f =
+    (target : Target) × (returns_of target g ≡ true) × (is_return_of target f.cause ≡ true) × (is_before g.place f.place ≡ true)
+
+-- the second is the first, or is touched by it in one of these ways
+abbrev pub IsTouchedBy : ℕ → List Entry → Entry → Entry → Type 0
+IsTouchedBy n line g f = (f.place ≡ g.place) ⊎ (ComesNext line g f ⊎ (LeavesNext n line g f ⊎ ReturnsLater g f))

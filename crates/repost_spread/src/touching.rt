@@ -1,21 +1,37 @@
 //! Which movements need a new value when others were added, part by part: the next ones of an item in a warehouse, and those
 //! of a line that is charged.
 ghost use Rattle.std.specs.Prelude.{◌≡◌, ◌↔◌, true, Contains, List};
+ghost use Rattle.cost_links.specs.Sources.{target_of};
 ghost use Rattle.repost_laws.specs.Touched.{is_new};
 ghost use Rattle.stock_model.specs.Enough.{entry_key};
 ghost use Rattle.stock_nums.specs.declared.cause.Method.{Method};
 ghost use Rattle.stock_nums.specs.declared.entry.Entry.{Entry};
 ghost use Rattle.repost_spread.specs.Movements.{AreKept, line_of};
 ghost use Rattle.repost_spread.specs.Marks.{AreMarked};
-ghost use Rattle.repost_spread.specs.Touches.{ComesNext, LeavesFirstIn, LeavesNext, IsOfLine, IsOfSide};
+ghost use Rattle.repost_spread.specs.Touches.{ComesNext, LeavesFirstIn, LeavesNext, ReturnsLater, IsTouchedBy, IsOfLine, IsOfSide, later_marked};
 
 use crate::movements::Movements;
-use stock_nums::cause::{Method, Target};
+use repost_frontier::frontier::Frontier;
+use stock_nums::cause::{Cause, Method, Target};
 use stock_nums::entry::{Entry, Key};
 use stock_nums::numbers::RecordNo;
 use stock_nums::place::{Place, Side};
 
 impl Movements {
+    // Makes suspect the movement and what comes after it: the next at the moving average, what leaves first in, first out up to
+    // the next new one, and later returns of the same line.
+    pub(crate) fn touch_after(&mut self, n: RecordNo, entry: &Entry)
+        requires kept { AreKept self.old }
+        requires held { Contains (line_of self.old) entry.now }
+        requires new { is_new n.0 entry.now ≡ true }
+        ensures { AreMarked self.old self.new (IsTouchedBy n.0 (line_of self.old) entry.now) }
+    {
+        self.mark(&entry.place);
+        self.mark_started(entry);
+        self.mark_left(n, entry);
+        self.mark_returned(entry);
+    }
+
     // Makes the movement at the place suspect, if there is one.
     fn mark(&mut self, place: &Place)
         requires { AreKept self.old }
@@ -25,7 +41,7 @@ impl Movements {
     }
 
     // Makes the next of the item in the warehouse suspect, where that is costed at the moving average.
-    pub(crate) fn mark_started(&mut self, entry: &Entry)
+    fn mark_started(&mut self, entry: &Entry)
         ghost line: { List Entry }
         requires kept { AreKept self.old }
         requires same { line_of self.old ≡ line }
@@ -49,7 +65,7 @@ impl Movements {
     }
 
     // Makes suspect what leaves first in, first out after the movement and up to the next new one of the item in the warehouse.
-    pub(crate) fn mark_left(&mut self, n: RecordNo, entry: &Entry)
+    fn mark_left(&mut self, n: RecordNo, entry: &Entry)
         ghost line: { List Entry }
         requires kept { AreKept self.old }
         requires same { line_of self.old ≡ line }
@@ -79,6 +95,16 @@ impl Movements {
         }
     }
 
+    // Makes suspect the returns of the same line that come after the movement, where it is a return.
+    fn mark_returned(&mut self, entry: &Entry)
+        requires kept { AreKept self.old }
+        ensures { AreMarked self.old self.new (ReturnsLater entry.now) }
+    {
+        if let Some(line) = target_of(entry) {
+            mark_later(&mut self.frontier, self.links.returns(line), &entry.place);
+        }
+    }
+
     // Makes the movements of the line suspect.
     pub(crate) fn mark_line(&mut self, own: Target)
         requires kept { AreKept self.old }
@@ -98,6 +124,32 @@ impl Movements {
         if let Some(place) = self.index.place_of(own, side) {
             self.mark(&place);
         }
+    }
+}
+
+// Makes suspect those of the movements that come after the place.
+fn mark_later(frontier: &mut Frontier, movements: &[Entry], place: &Place)
+    ensures { frontier.new.slots ≡ later_marked place.now frontier.old.slots movements.now }
+{
+    for other in movements {
+        if place.is_before(&other.place) {
+            frontier.mark(&other.place);
+        }
+    }
+}
+
+// The line of which the movement returns units. None exactly where it is no return.
+fn target_of(entry: &Entry) -> Option<Target>
+    ensures { result ≡ target_of entry.now.cause }
+{
+    match entry.cause {
+        Cause::CustomerReturn { target, issued: _ } => Some(target),
+        Cause::SupplierReturn {
+            target,
+            amount: _,
+            received: _,
+        } => Some(target),
+        _ => None,
     }
 }
 
