@@ -10,7 +10,7 @@ use Rattle.std.proofs.lemmas.Int.{ints}
 use Rattle.stock_nums.specs.declared.entry.Key.{Key}
 use Rattle.stock_nums.specs.declared.entry.Row.{Row}
 use Rattle.stock_model.specs.Sums.{enters_at, leaves_at, units_of, value_of, quantity_in, quantity_out, value_in, value_out}
-use Rattle.stock_nums.specs.declared.limits.TheConstants.{MAX_VALUE}
+use Rattle.stock_nums.specs.declared.limits.TheConstants.{MAX_ENTRIES, MAX_VALUE}
 use Rattle.stock_model.specs.Bounds.{has_value_in_range, AreBounded}
 
 -- a sum over some of the rows is at most as many times the largest as there are rows
@@ -32,21 +32,21 @@ values-le rows bounded =
     All-weaker (λ row. has_value_in_range row ≡ true) (λ row. value_of row ≤ MAX_VALUE) value_of-le rows
     (AllPass-from_list_all has_value_in_range rows bounded.in_range)
 
--- what entered a warehouse is at most 4 * 10^12 units
-pub quantity_in-le : (rows : List Row) (key : Key) → AreBounded rows → quantity_in rows key ≤ 4_000_000_000_000
+-- what entered a warehouse is at most 2 * 10^14 units
+pub quantity_in-le : (rows : List Row) (key : Key) → AreBounded rows → quantity_in rows key ≤ 200_000_000_000_000
 quantity_in-le rows key bounded =
     omega (arith, sum_filtered-le units_of 1_000_000_000 (enters_at key) rows (units-le rows), bounded.few)
 
-pub quantity_out-le : (rows : List Row) (key : Key) → AreBounded rows → quantity_out rows key ≤ 4_000_000_000_000
+pub quantity_out-le : (rows : List Row) (key : Key) → AreBounded rows → quantity_out rows key ≤ 200_000_000_000_000
 quantity_out-le rows key bounded =
     omega (arith, sum_filtered-le units_of 1_000_000_000 (leaves_at key) rows (units-le rows), bounded.few)
 
--- all that entered a warehouse is worth at most 4,000 times what a movement is
-pub value_in-le : (rows : List Row) (key : Key) → AreBounded rows → value_in rows key ≤ 4_000 * MAX_VALUE
+-- all that entered a warehouse is worth at most as many times what a movement is as a journal may have
+pub value_in-le : (rows : List Row) (key : Key) → AreBounded rows → value_in rows key ≤ MAX_ENTRIES * MAX_VALUE
 value_in-le rows key bounded =
     omega (arith, sum_filtered-le value_of MAX_VALUE (enters_at key) rows (values-le rows bounded), bounded.few)
 
-pub value_out-le : (rows : List Row) (key : Key) → AreBounded rows → value_out rows key ≤ 4_000 * MAX_VALUE
+pub value_out-le : (rows : List Row) (key : Key) → AreBounded rows → value_out rows key ≤ MAX_ENTRIES * MAX_VALUE
 value_out-le rows key bounded =
     omega (arith, sum_filtered-le value_of MAX_VALUE (leaves_at key) rows (values-le rows bounded), bounded.few)
 

@@ -45,7 +45,7 @@ pub enum PostFault {
     },
     /// The weights of all targets sum to 0.
     NoBasis,
-    /// 50,000 records are held, or the movements held and the new ones are more than 4,000. The numbers
+    /// 50,000 records are held, or the movements held and the new ones are more than 200,000. The numbers
     /// are those held.
     Full {
         records: u32,

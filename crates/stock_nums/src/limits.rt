@@ -28,7 +28,7 @@ pub const MAX_DESK: u64 = 16;
 pub const MAX_RECORDS: usize = 50_000;
 
 /// The most movements of a journal.
-pub const MAX_ENTRIES: usize = 4_000;
+pub const MAX_ENTRIES: usize = 200_000;
 
 /// The largest value of a movement and of a stock, in minor units.
 pub const MAX_VALUE: u64 = 300_000_000_000_000_000;
