@@ -50,7 +50,7 @@ sum_filtered-le m f p rows all =
 units-le : (rows : List Row) → All (λ row. units_of row ≤ 1_000_000_000) rows
 units-le rows k d within = (get_or rows k d).entry.quantity.1
 
-pub units-fit : (p : Row → Bool) (rows : List Row) → length rows ≤ MAX_ENTRIES → sum_by units_of (filter p rows) ≤ 4_000_000_000_000
+pub units-fit : (p : Row → Bool) (rows : List Row) → length rows ≤ MAX_ENTRIES → sum_by units_of (filter p rows) ≤ 200_000_000_000_000
 units-fit p rows few = omega (arith, sum_filtered-le 1_000_000_000 units_of p rows (units-le rows), few)
 
 value_of-le : (row : Row) → has_value_in_range row ≡ true → value_of row ≤ MAX_VALUE
