@@ -296,13 +296,13 @@ mod tests {
         )?;
         let full = PostFault::Full {
             records: 44,
-            entries: 4000,
+            entries: 200_000,
         };
         refused(
             &rt,
             alloc,
             full,
-            r#"{"entries":4000,"fault":"full","records":44,"status":"refused"}"#,
+            r#"{"entries":200000,"fault":"full","records":44,"status":"refused"}"#,
         )
     }
 
