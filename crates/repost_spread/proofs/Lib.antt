@@ -6,6 +6,10 @@ pub mod TakingLayers
 pub mod TakingLines
 pub mod TakingReturns
 pub mod TouchingMarks
+pub mod TouchingAll
 pub mod TouchingLines
 pub mod TouchingWalk
 pub mod TouchingReturns
+pub mod SpreadingUnits
+pub mod SpreadingMarks
+pub mod LinkingLines

@@ -3,3 +3,4 @@ pub mod Adding
 pub mod Takes
 pub mod Marks
 pub mod Touches
+pub mod Spreads

@@ -1,5 +1,5 @@
 -- Which movements one new movement of an item in a warehouse, or one charge, touches.
-use Rattle.std.specs.Prelude.{ℕ, ◌≡◌, true, false, List, fold, Some, if◌then◌else◌, ◌⊎◌}
+use Rattle.std.specs.Prelude.{ℕ, ◌≡◌, Bool, true, false, List, fold, Some, if◌then◌else◌, ◌⊎◌}
 use Rattle.stock_nums.specs.Causes.{is_entering}
 use Rattle.stock_nums.specs.Places.{is_before}
 use Rattle.stock_nums.specs.declared.cause.Method.TheVariants.{Fifo, Average}
@@ -33,12 +33,17 @@ IsOfLine line f = own_line f ≡ line
 abbrev pub IsOfSide : Target → Side → Entry → Type 0
 IsOfSide line side f = (own_line f ≡ line) × (f.place.side ≡ side)
 
--- the movements with this one suspect, if it comes after the place
-abbrev pub later_mark : Place → List Slot → Entry → List Slot
-later_mark place slots e = if is_before place e.place then marks slots e.place else slots
+-- the movements with this one suspect, if it passes the test
+abbrev pub mark_passing : (Entry → Bool) → List Slot → Entry → List Slot
+mark_passing test slots e = if test e then marks slots e.place else slots
 
-abbrev pub later_marked : Place → List Slot → List Entry → List Slot
-later_marked place slots es = fold (later_mark place) slots es
+-- the movements with those of these suspect that pass it
+abbrev pub passing_marked : (Entry → Bool) → List Slot → List Entry → List Slot
+passing_marked test slots es = fold (mark_passing test) slots es
+
+-- the movement comes after the place
+abbrev pub is_after : Place → Entry → Bool
+is_after place e = is_before place e.place
 
 -- both return units of one line, and the second comes later
 abbrev pub ReturnsLater : Entry → Entry → Type 0

@@ -17,6 +17,7 @@ ghost use Rattle.repost_laws.specs.Valuations.{earlier, found_value, held_before
 ghost use Rattle.repost_spread.specs.Movements.{AreKept, line_of, slots_of, charged_by};
 
 use crate::movements::Movements;
+use crate::naming::own_line;
 use cost_formulas::average::Average;
 use cost_links::values::TakenOver;
 use stock_nums::cause::{Cause, Method, Target};
@@ -178,15 +179,5 @@ impl Movements {
             unit = end;
         }
         Minor(value as i64)
-    }
-}
-
-// The line of a voucher that the movement is of.
-fn own_line(entry: &Entry) -> Target
-    ensures { result ≡ own_line entry.now }
-{
-    Target {
-        voucher: entry.place.voucher,
-        line: entry.place.line,
     }
 }

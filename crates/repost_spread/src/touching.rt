@@ -1,16 +1,20 @@
 //! Which movements need a new value when others were added, part by part: the next ones of an item in a warehouse, and those
 //! of a line that is charged.
 ghost use Rattle.std.specs.Prelude.{◌≡◌, ◌↔◌, true, Contains, List};
+ghost use Rattle.cost_links.specs.Charged.{charge_pairs};
 ghost use Rattle.cost_links.specs.Sources.{target_of};
-ghost use Rattle.repost_laws.specs.Touched.{is_new};
+ghost use Rattle.repost_laws.specs.Fetches.{AreNew, is_charged_in};
+ghost use Rattle.repost_laws.specs.Touched.{is_new, is_touched};
 ghost use Rattle.stock_model.specs.Enough.{entry_key};
 ghost use Rattle.stock_nums.specs.declared.cause.Method.{Method};
 ghost use Rattle.stock_nums.specs.declared.entry.Entry.{Entry};
 ghost use Rattle.repost_spread.specs.Movements.{AreKept, line_of};
 ghost use Rattle.repost_spread.specs.Marks.{AreMarked};
-ghost use Rattle.repost_spread.specs.Touches.{ComesNext, LeavesFirstIn, LeavesNext, ReturnsLater, IsTouchedBy, IsOfLine, IsOfSide, later_marked};
+ghost use Rattle.repost_spread.specs.Touches.{ComesNext, LeavesFirstIn, LeavesNext, ReturnsLater, IsTouchedBy, IsOfLine, IsOfSide, is_after, passing_marked};
 
 use crate::movements::Movements;
+use crate::naming::key_of;
+use cost_links::charges::Charge;
 use repost_frontier::frontier::Frontier;
 use stock_nums::cause::{Cause, Method, Target};
 use stock_nums::entry::{Entry, Key};
@@ -18,9 +22,27 @@ use stock_nums::numbers::RecordNo;
 use stock_nums::place::{Place, Side};
 
 impl Movements {
+    /// Makes suspect each movement that the movements and the charges of the records after the first `n` ones touch: these
+    /// movements themselves, those whose lines are charged, the next of an item in a warehouse at the moving average, all that
+    /// leaves after them first in, first out, and later returns of the same lines. It takes no memory.
+    pub fn touch(&mut self, n: RecordNo, entries: &[Entry], charges: &[Charge])
+        requires kept { AreKept self.old }
+        requires new_ones { AreNew n.0 (line_of self.old) entries.now }
+        requires held { (e : Entry) → Contains entries.now e → Contains (line_of self.old) e }
+        ensures { AreMarked self.old self.new
+            (λ f. is_touched n.0 (is_charged_in (charge_pairs charges.now)) (line_of self.old) f ≡ true) }
+    {
+        for entry in entries {
+            self.touch_after(n, entry);
+        }
+        for charge in charges {
+            self.mark_line(charge.line);
+        }
+    }
+
     // Makes suspect the movement and what comes after it: the next at the moving average, what leaves first in, first out up to
     // the next new one, and later returns of the same line.
-    pub(crate) fn touch_after(&mut self, n: RecordNo, entry: &Entry)
+    fn touch_after(&mut self, n: RecordNo, entry: &Entry)
         requires kept { AreKept self.old }
         requires held { Contains (line_of self.old) entry.now }
         requires new { is_new n.0 entry.now ≡ true }
@@ -33,7 +55,7 @@ impl Movements {
     }
 
     // Makes the movement at the place suspect, if there is one.
-    fn mark(&mut self, place: &Place)
+    pub(crate) fn mark(&mut self, place: &Place)
         requires { AreKept self.old }
         ensures { AreMarked self.old self.new (λ f. f.place ≡ place.now) }
     {
@@ -106,7 +128,7 @@ impl Movements {
     }
 
     // Makes the movements of the line suspect.
-    pub(crate) fn mark_line(&mut self, own: Target)
+    fn mark_line(&mut self, own: Target)
         requires kept { AreKept self.old }
         ensures { AreMarked self.old self.new (IsOfLine own) }
     {
@@ -129,7 +151,7 @@ impl Movements {
 
 // Makes suspect those of the movements that come after the place.
 fn mark_later(frontier: &mut Frontier, movements: &[Entry], place: &Place)
-    ensures { frontier.new.slots ≡ later_marked place.now frontier.old.slots movements.now }
+    ensures { frontier.new.slots ≡ passing_marked (is_after place.now) frontier.old.slots movements.now }
 {
     for other in movements {
         if place.is_before(&other.place) {
@@ -150,15 +172,5 @@ fn target_of(entry: &Entry) -> Option<Target>
             received: _,
         } => Some(target),
         _ => None,
-    }
-}
-
-// The item and the warehouse of a movement.
-fn key_of(entry: &Entry) -> Key
-    ensures { result ≡ entry_key entry.now }
-{
-    Key {
-        item: entry.item,
-        store: entry.store,
     }
 }

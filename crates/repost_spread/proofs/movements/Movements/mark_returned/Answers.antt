@@ -11,11 +11,11 @@ use Rattle.cost_links.specs.Linked.{returns_to}
 use Rattle.cost_links.specs.Sources.{target_of}
 use Rattle.repost_laws.proofs.Filtered.{Contains-filtered, Contains-filter}
 use Rattle.repost_spread.specs.Movements.{slots_of, line_of}
-use Rattle.repost_spread.specs.Touches.{ReturnsLater, later_marked}
+use Rattle.repost_spread.specs.Touches.{ReturnsLater, is_after, passing_marked}
 use Rattle.repost_spread.specs.declared.movements.Movements.{Movements}
 use Rattle.repost_spread.proofs.TouchingLines.{one-at}
 use Rattle.repost_spread.proofs.TouchingMarks.{marked-as, unmarked}
-use Rattle.repost_spread.proofs.TouchingReturns.{IsAmong, later-are_marked, names-own, returns-own}
+use Rattle.repost_spread.proofs.TouchingReturns.{IsAmong, passing-are_marked, names-own, returns-own}
 use Rattle.repost_spread.proofs.movements.Movements.mark_returned.Goals as goal
 
 pub returns-in-Some : goal.returns-in-Some
@@ -27,9 +27,9 @@ returns-in-Some c =
     let rs = returns_to old.links t in
     let new : Movements = record { frontier = c.mark_later.new.frontier; index = old.index; links = old.links } in
     let is : target_of e.cause ≡ Some t = sym c.target_of.ensures ∙ c.in-Some.is in
-    let made = c.mark_later.ensures ∙ ap (λ (es : List Entry). later_marked e.place (slots_of old) es) c.returns.ensures in
+    let made = c.mark_later.ensures ∙ ap (λ (es : List Entry). passing_marked (is_after e.place) (slots_of old) es) c.returns.ensures in
     let perm = c.requires.kept.returns t in
-    marked-as old new (IsAmong e.place rs) (ReturnsLater e)
+    marked-as old new (IsAmong (is_after e.place) rs) (ReturnsLater e)
     (λ f held among.
     let back = among.0 in
     let parts = Contains-filtered (returns_of t) line back (Contains-permutation rs (filter (returns_of t) line) back perm among.1) in
@@ -47,7 +47,7 @@ returns-in-Some c =
       later.3,
       refl,
     ))
-    (later-are_marked rs old new e.place c.requires.kept made refl refl)
+    (passing-are_marked (is_after e.place) rs old new c.requires.kept made refl refl)
 
 pub returns-in_default : goal.returns-in_default
 returns-in_default c =
