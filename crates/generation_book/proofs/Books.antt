@@ -1,9 +1,8 @@
 -- How the parts of a book hang together, and what a kept record and a publication make of them.
-use Rattle.std.proofs.Common.{◌≡◌, ℕ, ◌+◌, ◌<◌, ◌≤◌, ◌⊎◌, List, [], ◌∷◌, ◌++◌, length, Option, None, Some, refl, sym, subst, ap, ◌∙◌, length-append, arith}
-use Rattle.std.specs.Option.{option_map}
+use Rattle.std.proofs.Common.{◌≡◌, ℕ, ◌+◌, ◌<◌, ◌≤◌, ◌⊎◌, List, [], ◌∷◌, ◌++◌, length, None, Some, refl, sym, subst, ap, ◌∙◌, length-append, arith, take, drop}
 use Rattle.std.proofs.lemmas.Bool.{lt-ltb, le-ltb}
 use Rattle.std.proofs.lemmas.Bool.Decides.{nat_tests}
-use Rattle.std.proofs.lemmas.List.{take-append-le, take_all}
+use Rattle.std.proofs.lemmas.List.{take-append-le, take_all, take-take, take-append-drop}
 use Rattle.stock_laws.proofs.Enough.{IsEnough-nil, IsEnough-from_none}
 use Rattle.stock_laws.proofs.PostingLine.{IsInPostingOrder-posting_line}
 use Rattle.stock_model.specs.InOrder.{IsInPostingOrder}
@@ -39,7 +38,11 @@ use Rattle.stock_model.specs.History as history
 use Rattle.stock_laws.proofs.Histories.{covered_after-append, IsLegalAfter-append}
 use Rattle.generation_book.specs.declared.events.Event.{Event}
 use Rattle.generation_book.specs.declared.events.Event.TheVariants.{Kept, Published}
+use Rattle.repost_laws.proofs.JournalFronts.{AreLegal-front}
+use Rattle.repost_fetch.specs.Changes.{AreChanges}
 use Rattle.generation_book.specs.Book.{deeds, kept_count, IsBook}
+use Rattle.generation_book.specs.Merged.{merged}
+use Rattle.generation_book.proofs.ChangedRows.{merged-replay}
 
 -- the records of the history are those of the journal
 pub records-deeds : (events : List Event) (journal : List Record) → kept_count events ≡ length journal → history.records (deeds events journal) ≡ journal
@@ -141,23 +144,50 @@ IsBook-kept events journal line c rows item longer book none posted =
       legal = rw told (legal-kept (deeds events journal) item book.legal (rw (records-deeds events journal book.counted) none));
     }
 
--- a book after all its records were published
-pub IsBook-published : (events : List Event) (journal : List Record) (line : List Entry) (c : ℕ) (rows : List Row) (accepted : RecordNo) (newer : List Row)
-    → IsBook events journal line c rows → accepted.0 ≡ length journal → c < accepted.0 → newer ≡ replay journal → AreBounded (replay journal)
-    → IsBook (events ++ Published accepted ∷ []) journal line accepted.0 newer
-IsBook-published events journal line c rows accepted newer book all more valued bounded =
-    let told = deeds-published events journal accepted book.counted in
+-- a book after its first records were published
+pub IsBook-published : (events : List Event) (journal : List Record) (line : List Entry) (c : ℕ) (rows : List Row) (n : RecordNo) (newer : List Row)
+    → IsBook events journal line c rows → n.0 ≤ length journal → c < n.0 → newer ≡ replay (take n.0 journal) → AreBounded newer
+    → IsBook (events ++ Published n ∷ []) journal line n.0 newer
+IsBook-published events journal line c rows n newer book within more valued bounded =
+    let told = deeds-published events journal n book.counted in
     record {
-      counted = omega (arith, kept_count-append events (Published accepted ∷ []), book.counted);
+      counted = omega (arith, kept_count-append events (Published n ∷ []), book.counted);
       posted = book.posted;
       few = book.few;
       enough = book.enough;
-      covers = rw (told, covered_after-append 0 (deeds events journal) (deed.Published accepted ∷ [])) refl;
-      within = omega (arith, all);
-      valued = rw all (rw (take_all (length journal) journal (omega arith)) valued);
-      bounded = subst AreBounded (sym valued) bounded;
-      legal = rw told (legal-published (deeds events journal) accepted book.legal (rw (← book.covers) more) (rw (records-deeds events journal book.counted) (omega (arith, all))));
+      covers = rw (told, covered_after-append 0 (deeds events journal) (deed.Published n ∷ [])) refl;
+      within = within;
+      valued = valued;
+      bounded = bounded;
+      legal = rw told (legal-published (deeds events journal) n book.legal (rw (← book.covers) more) (rw (records-deeds events journal book.counted) within));
     }
+
+-- a book after all its records were published
+pub IsBook-settled : (events : List Event) (journal : List Record) (line : List Entry) (c : ℕ) (rows : List Row) (accepted : RecordNo) (newer : List Row)
+    → IsBook events journal line c rows → accepted.0 ≡ length journal → c < accepted.0 → newer ≡ replay journal → AreBounded (replay journal)
+    → IsBook (events ++ Published accepted ∷ []) journal line accepted.0 newer
+IsBook-settled events journal line c rows accepted newer book all more valued bounded =
+    IsBook-published events journal line c rows accepted newer book (omega (arith, all)) more
+    (rw all (rw (take_all (length journal) journal (omega arith)) valued)) (subst AreBounded (sym valued) bounded)
+
+-- the replay of the first records is bounded
+pub AreBounded-first : (events : List Event) (journal : List Record) (line : List Entry) (c : ℕ) (rows : List Row) (n : ℕ) → IsBook events journal line c rows
+    → AreBounded (replay (take n journal))
+AreBounded-first events journal line c rows n book =
+    AreBounded-replay (take n journal)
+    (AreLegal-front (take n journal) (drop n journal) (subst AreLegal (sym (take-append-drop n journal)) (IsBook-legal events journal line c rows book)))
+
+-- a book after its first records were published by what changed
+pub IsBook-changed : (events : List Event) (journal : List Record) (line : List Entry) (c : ℕ) (rows : List Row) (n : RecordNo) (changed : List Row)
+    → IsBook events journal line c rows → n.0 ≤ length journal → c < n.0 → AreChanges (take n.0 journal) c changed
+    → IsBook (events ++ Published n ∷ []) journal line n.0 (merged rows changed)
+IsBook-changed events journal line c rows n changed book within more are =
+    let early : c ≤ n.0 = omega arith in
+    let old : rows ≡ replay (take c (take n.0 journal)) = book.valued ∙ ap replay (sym (take-take c n.0 journal early)) in
+    let all : merged rows changed ≡ replay (take n.0 journal) =
+    ap (λ (es : List Row). merged es changed) old ∙ merged-replay (take n.0 journal) c changed are in
+    IsBook-published events journal line c rows n (merged rows changed) book within more all
+    (subst AreBounded (sym all) (AreBounded-first events journal line c rows n.0 book))
 
 -- the empty book
 pub IsBook-start : IsBook [] [] [] 0 []

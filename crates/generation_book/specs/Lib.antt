@@ -1,3 +1,4 @@
 pub mod State
 pub mod Book
 pub mod RecordRows
+pub mod Merged

@@ -1,6 +1,6 @@
 //! The book: records that are kept, and the generation that reports are made from.
 
-ghost use Rattle.std.specs.Prelude.{◌≡◌, ◌⊎◌, ◌<◌, ◌≤◌, [], ◌∷◌, ◌++◌, filter, IfOk, OnOk, OnErr, IfErr, Some, None};
+ghost use Rattle.std.specs.Prelude.{◌≡◌, ◌⊎◌, ◌<◌, ◌≤◌, [], ◌∷◌, ◌++◌, take, drop, filter, IfOk, OnOk, OnErr, IfErr, Some, None};
 ghost use Rattle.std.specs.Option.{option_copied};
 ghost use Rattle.stock_model.specs.declared.deeds.Deed.TheVariants as deed;
 ghost use Rattle.stock_model.specs.Reports.{need_at, unmet_need, for_sheet, selected, IsForSheet};
@@ -8,11 +8,15 @@ ghost use Rattle.stock_model.specs.Entries.{entries};
 ghost use Rattle.stock_model.specs.Faults.{voucher_fault, full, fault_but_short, fault, short_of};
 ghost use Rattle.stock_model.specs.History as history;
 ghost use Rattle.stock_model.specs.Masters.{record_at};
+ghost use Rattle.repost_fetch.specs.Changes.{AreChanges};
+ghost use Rattle.repost_fetch.specs.Fetched.{IsFetchedOf};
 
 use crate::events::Event;
+use crate::merging::merged;
 use crate::selecting::rows_for;
 use cost_links::replay;
 use quantity_check::running::Running;
+use repost_fetch::fetch::{Fetched, fetch};
 use std::alloc::Global;
 use std::marker::Model;
 use stock_model::faults::PostFault;
@@ -161,6 +165,36 @@ impl Book {
         self.covered = accepted;
         self.rows = rows;
         Ok(accepted)
+    }
+
+    /// What the records after the first `after` ones bring to a revaluation: their movements, in the order of the records, and
+    /// what they charge to lines of receipts, none where there are no more. It goes over these records alone, and over the lines
+    /// that they name. The only error is want of memory.
+    pub fn fetch(&self, alloc: Global, after: RecordNo) -> Result<Fetched, NoMemory>
+        requires within { after.0 ≤ history.accepted self.now.history }
+        ensures { IfOk result (IsFetchedOf (take after.0 (history.records self.now.history))
+            (drop after.0 (history.records self.now.history))) }
+    {
+        fetch(alloc, &self.journal, after)
+    }
+
+    /// Publishes the first `n` records. `changed` are the rows of their replay that differ from those of the generation or are
+    /// new, in posting order; rows that stayed may be among them. It costs one pass over the rows, and no replay. The only error
+    /// is want of memory, and then nothing changed.
+    pub fn publish(&mut self, alloc: Global, n: RecordNo, changed: &[Row]) -> Result<(), NoMemory>
+        requires later { history.covered self.old.history < n.0 }
+        requires within { n.0 ≤ history.accepted self.old.history }
+        requires changed { AreChanges (take n.0 (history.records self.old.history)) (history.covered self.old.history) changed.now }
+        ensures published { OnOk result (self.new.history ≡ self.old.history ++ deed.Published n ∷ []) }
+        ensures unchanged { OnErr result (self.new ≡ self.old) }
+        ensures legal { OnOk result (history.IsLegal self.new.history) }
+    {
+        let renewed = merged(alloc, self.rows.as_slice(), changed)?;
+        self.events.reserve(1)?;
+        self.events.push_reserved(Event::Published(n));
+        self.covered = n;
+        self.rows = renewed;
+        Ok(())
     }
 
     /// Whether the generation covers the record that the report has to cover. It takes no memory.
@@ -433,6 +467,58 @@ mod tests {
             resettled: book.settle_all(alloc)?,
             cost: last_row(alloc, &book),
         })
+    }
+
+    // How many movements the records after the first ones bring, and how many records there are with them.
+    fn fetched(alloc: Global, book: &Book, after: u32) -> Option<(usize, RecordNo)> {
+        if after > book.accepted().0 {
+            return None;
+        }
+        let fetched = book.fetch(alloc, RecordNo(after)).ok()?;
+        Some((fetched.entries.len(), fetched.upto))
+    }
+
+    // Publishes all accepted records, where some are not covered, with each row as one that changed.
+    fn publish_all(alloc: Global, book: &mut Book) -> Result<RecordNo, NoMemory> {
+        let accepted = book.accepted();
+        if book.covered().0 >= accepted.0 {
+            return Ok(accepted);
+        }
+        let line = book.movements.timeline().to_lines(alloc)?;
+        let rows = replay::rows_of(alloc, book.journal.records(), line.as_slice())?;
+        book.publish(alloc, accepted, rows.as_slice())?;
+        Ok(accepted)
+    }
+
+    #[derive(Clone, Copy)]
+    struct Renewed {
+        fetched: Option<(usize, RecordNo)>,
+        published: RecordNo,
+        after: [usize; 5],
+        cost: Option<(u64, i64)>,
+    }
+
+    fn renew(alloc: Global) -> Result<Renewed, Fail> {
+        let mut book = Book::start(alloc);
+        post_three(alloc, &mut book)?;
+        book.settle_all(alloc)?;
+        book.post(alloc, issue(alloc, 4)?)?;
+        Ok(Renewed {
+            fetched: fetched(alloc, &book, 3),
+            published: publish_all(alloc, &mut book)?,
+            after: sizes(alloc, &book)?,
+            cost: last_row(alloc, &book),
+        })
+    }
+
+    #[test]
+    fn shows_what_is_published(rt: HostRuntime) -> Result<(), Fail> {
+        let seen = renew(rt.alloc())?;
+        assert_eq!(rt; seen.fetched, Some((1, RecordNo(4))));
+        assert_eq!(rt; seen.published, RecordNo(4));
+        assert_eq!(rt; seen.after, [4, 4, 4, 2, 2]);
+        assert_eq!(rt; seen.cost, Some((4, 400)));
+        Ok(())
     }
 
     #[test]

@@ -9,7 +9,7 @@ use Rattle.generation_book.specs.State.{BookState}
 use Rattle.generation_book.specs.Book.{deeds}
 use Rattle.generation_book.specs.declared.events.Event.{Event}
 use Rattle.generation_book.specs.declared.events.Event.TheVariants.{Published}
-use Rattle.generation_book.proofs.Books.{history-accepted, history-covered, settled-same, settled-more, IsBook-legal, IsBook-published, deeds-published}
+use Rattle.generation_book.proofs.Books.{history-accepted, history-covered, settled-same, settled-more, IsBook-legal, IsBook-settled, deeds-published}
 use Rattle.generation_book.proofs.book.Book.settle_all.Goals as goal
 
 -- what holds, holds where there is an error
@@ -61,7 +61,7 @@ pub invariant_of-self-2 : goal.invariant_of-self-2
 invariant_of-self-2 c =
     let events = c.push_reserved.ensures.items ∙ ap (λ (es : List Event). es ++ Published (record { 0 = c.count.result }) ∷ []) c.in_ok-reserve.ensures.items in
     rw events
-    (IsBook-published c.self.inside.events.items c.self.inside.journal c.self.inside.movements.entries c.self.inside.covered.0 c.self.inside.rows (record { 0 = c.count.result }) c.in_ok-rows.rows c.self.invariant c.count.ensures.count (omega arith)
+    (IsBook-settled c.self.inside.events.items c.self.inside.journal c.self.inside.movements.entries c.self.inside.covered.0 c.self.inside.rows (record { 0 = c.count.result }) c.in_ok-rows.rows c.self.invariant c.count.ensures.count (omega arith)
     (c.in_ok-rows.ensures.rows ∙ ap replay c.records-records.ensures.records) (subst (λ (records : List Record). AreBounded (replay records)) c.records-records.ensures.records c.rows_of.ensures.bounded))
 
 pub returns-clause-settled : goal.returns-clause-settled
