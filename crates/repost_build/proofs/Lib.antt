@@ -1,0 +1,5 @@
+pub mod Extended
+pub mod Extending
+pub mod Givens
+pub mod Rows
+pub mod Turned

@@ -1,0 +1,3 @@
+pub mod Readings
+pub mod Builds
+pub mod Rows

@@ -1,0 +1,226 @@
+//! A build: records are fetched, which makes some movements suspect, each turn values the first suspect, and once none is left
+//! what changed is published.
+ghost use Rattle.std.specs.Prelude.{◌≡◌, ◌+◌, ◌*◌, ◌<◌, ◌≤◌, ◌||◌, ◌↔◌, ◌++◌, [], true, false, Contains, List, length, take, drop, filter, IsNone, IfSome, IfOk, OnOk, OnErr};
+ghost use Rattle.stock_nums.specs.declared.entry.Entry.{Entry};
+ghost use Rattle.stock_nums.specs.declared.place.Place.{Place};
+ghost use Rattle.stock_model.specs.Journals.{AreLegal};
+ghost use Rattle.stock_model.specs.PostingOrder.{posting_line};
+ghost use Rattle.stock_model.specs.Replay.{replay};
+ghost use Rattle.stock_model.specs.declared.records.Record.{Record};
+ghost use Rattle.repost_fetch.specs.Changes.{AreChanges, is_valued};
+ghost use Rattle.repost_fetch.specs.Fetched.{IsFetchedOf};
+ghost use Rattle.repost_laws.specs.Builds.{IsClean};
+ghost use Rattle.repost_laws.specs.Touched.{is_touched, is_charged_by};
+ghost use Rattle.repost_build.specs.Builds.{IsOf, IsTurned};
+ghost use Rattle.repost_build.specs.Rows.{slot_row, valued_rows};
+ghost use Rattle.repost_build.specs.Readings.{found_in, suspects_in, valued_in, base_of, target_of, fetches_of, turns_of, IsUnchanged};
+
+use cost_links::values::value_entry;
+use repost_fetch::fetch::Fetched;
+use repost_frontier::slot::Slot;
+use repost_spread::movements::Movements;
+use std::alloc::Global;
+use std::sync::ledger::Ledger;
+use stock_nums::entry::{Row, Worth};
+use stock_nums::lines::Lines;
+use stock_nums::memory::NoMemory;
+use stock_nums::numbers::{Minor, RecordNo};
+use stock_nums::place::Place;
+use stock_nums::steps::Steps;
+
+/// The movements of a journal's first records, each with what it was last found to be worth and whether that may have to
+/// change, and how far reports are made from it. Contracts see it by `IsOf` its journal.
+#[derive(Drop)]
+pub struct Build {
+    movements: Movements,
+    /// How many records were published last.
+    base: RecordNo,
+    /// Of how many records it is.
+    target: RecordNo,
+    /// How many fetches it made since the last publication.
+    fetches: u32,
+    /// How many fetches and valuations.
+    turns: u64,
+}
+
+impl Build {
+    /// Of no record. It takes no memory.
+    pub fn new(alloc: Global) -> Build
+        ensures { IsOf [] result }
+    {
+        Build {
+            movements: Movements::new(alloc),
+            base: RecordNo(0),
+            target: RecordNo(0),
+            fetches: 0,
+            turns: 0,
+        }
+    }
+
+    /// How many records were published last.
+    pub fn base(&self) -> RecordNo
+        ensures { result.0 ≡ base_of self.now }
+    {
+        self.base
+    }
+
+    /// Of how many records it is.
+    pub fn target(&self) -> RecordNo
+        ensures { result.0 ≡ target_of self.now }
+    {
+        self.target
+    }
+
+    /// How many fetches it made since the last publication.
+    pub fn fetches(&self) -> u32
+        ensures { result ≡ fetches_of self.now }
+    {
+        self.fetches
+    }
+
+    /// How many fetches and valuations it made since the last publication: no more than one for each fetch, and for each fetch
+    /// one for each movement.
+    pub fn turns(&self) -> u64
+        ghost journal: { List Record }
+        requires of { IsOf journal self.now }
+        ensures turns { result ≡ turns_of self.now }
+        ensures few { turns_of self.now ≤ fetches_of self.now * (length (posting_line journal) + 1) }
+    {
+        self.turns
+    }
+
+    /// Whether some movement is suspect. It takes no memory.
+    pub fn has_suspect(&self) -> bool
+        ghost journal: { List Record }
+        requires of { IsOf journal self.now }
+        ensures { (result ≡ false) ↔ IsClean (posting_line journal) (suspects_in self.now) }
+    {
+        self.movements.first().is_some()
+    }
+
+    /// Takes in what further records bring, at least one of them, and makes suspect what they touch. It takes all memory that
+    /// turns may need. A refusal changes nothing.
+    ///
+    /// # Errors
+    ///
+    /// `NoMemory`: memory was wanting.
+    pub fn extend(&mut self, alloc: Global, fetched: &Fetched) -> Result<(), NoMemory>
+        ghost journal: { List Record }
+        requires of { IsOf (take (target_of self.old) journal) self.old }
+        requires fetched { IsFetchedOf (take (target_of self.old) journal) (drop (target_of self.old) journal) fetched.now }
+        requires later { target_of self.old < length journal }
+        requires legal { AreLegal journal }
+        ensures of { OnOk result (IsOf journal self.new) }
+        ensures touched { OnOk result ((e : Entry) → Contains (posting_line journal) e → suspects_in self.new e.place
+            ≡ (suspects_in self.old e.place || is_touched (target_of self.old) (is_charged_by (drop (target_of self.old) journal)) (posting_line journal) e)) }
+        ensures found { OnOk result ((place : Place) → found_in self.new place ≡ found_in self.old place) }
+        ensures valued { OnOk result ((place : Place) → valued_in self.new place ≡ valued_in self.old place) }
+        ensures base { OnOk result (base_of self.new ≡ base_of self.old) }
+        ensures fetches { OnOk result (fetches_of self.new ≡ fetches_of self.old + 1) }
+        ensures turns { OnOk result (turns_of self.new ≡ turns_of self.old + 1) }
+        ensures still { OnErr result (IsOf (take (target_of self.old) journal) self.new) }
+        ensures unchanged { OnErr result (IsUnchanged self.old self.new) }
+    {
+        let entries = fetched.entries.as_slice();
+        let charges = fetched.charges.as_slice();
+        self.movements.add(alloc, entries, charges)?;
+        self.movements.touch(self.target, entries, charges);
+        self.target = fetched.upto;
+        self.fetches += 1;
+        self.turns += 1;
+        Ok(())
+    }
+
+    /// Values the first suspect alone, and answers its place. None exactly where there is no suspect, and then nothing changes.
+    /// A valuation counts one step, and it takes no memory.
+    pub fn turn<L: Ledger>(&mut self, steps: &mut Steps<L>) -> Option<Place>
+        ghost journal: { List Record }
+        requires of { IsOf journal self.old }
+        ensures of { IsOf journal self.new }
+        ensures turned { IfSome result (IsTurned journal self.old self.new) }
+        ensures steps { IfSome result (λ place. steps.new ≡ steps.old + 1) }
+        ensures clean { IsNone result → IsClean (posting_line journal) (suspects_in self.old) }
+        ensures unchanged { IsNone result → IsUnchanged self.old self.new }
+        ensures no_steps { IsNone result → steps.new ≡ steps.old }
+    {
+        let entry = self.movements.first()?.entry;
+        let taken = self.movements.taken_over(&entry);
+        let valued = value_entry(&entry, &taken, steps);
+        self.movements.spread(&entry, &valued);
+        self.movements.value(&entry.place, valued);
+        self.turns += 1;
+        Some(entry.place)
+    }
+
+    /// The movements that were valued since the last publication, each with what it is worth, in posting order: these rows of
+    /// the replay of the build's records replace those of the records that were published last, and all others stay.
+    ///
+    /// # Errors
+    ///
+    /// `NoMemory`: memory was wanting.
+    pub fn changed(&self, alloc: Global) -> Result<Lines<Row>, NoMemory>
+        ghost journal: { List Record }
+        requires of { IsOf journal self.now }
+        requires clean { IsClean (posting_line journal) (suspects_in self.now) }
+        ensures rows { IfOk result (λ rows. rows ≡ filter (is_valued (valued_in self.now)) (replay journal)) }
+        ensures changes { IfOk result (λ rows. AreChanges journal (base_of self.now) rows) }
+    {
+        let mut rows = Lines::new(alloc);
+        let mut index = 0;
+        while index < self.movements.len() {
+            let run = self.movements.run_from(index);
+            push_valued(&mut rows, run)?;
+            index += run.len();
+        }
+        Ok(rows)
+    }
+
+    /// Counts anew from here, where all is published: base becomes target. It takes no memory.
+    pub fn published(&mut self)
+        ghost journal: { List Record }
+        requires of { IsOf journal self.old }
+        requires clean { IsClean (posting_line journal) (suspects_in self.old) }
+        ensures of { IsOf journal self.new }
+        ensures base { base_of self.new ≡ target_of self.old }
+        ensures fetches { fetches_of self.new ≡ 0 }
+        ensures found { (place : Place) → found_in self.new place ≡ found_in self.old place }
+        ensures suspects { (place : Place) → suspects_in self.new place ≡ suspects_in self.old place }
+        ensures valued { (place : Place) → valued_in self.new place ≡ false }
+    {
+        self.movements.forget_revalued();
+        self.base = self.target;
+        self.fetches = 0;
+        self.turns = 0;
+    }
+}
+
+// Adds the rows of those that were valued since the last publication at the end.
+fn push_valued(rows: &mut Lines<Row>, slots: &[Slot]) -> Result<(), NoMemory>
+    ensures { OnOk result (rows.new ≡ rows.old ++ valued_rows slots.now) }
+{
+    for slot in slots {
+        if slot.is_revalued {
+            rows.push(row_of(slot))?;
+        }
+    }
+    Ok(())
+}
+
+// What is found of a movement as a row: worth nothing where nothing was found.
+fn row_of(slot: &Slot) -> Row
+    ensures { result ≡ slot_row slot.now }
+{
+    Row {
+        entry: slot.entry,
+        worth: match slot.found {
+            Some(valued) => valued.worth,
+            None => NOTHING,
+        },
+    }
+}
+
+// What a movement is worth that was never valued.
+const NOTHING: Worth = Worth {
+    value: Minor(0),
+    share: Minor(0),
+};

@@ -1,0 +1,5 @@
+//! A build: the movements of a journal's records, revalued one after another where something they look at changed.
+#![tactic(auto)]
+
+pub mod build;
+mod sending;
