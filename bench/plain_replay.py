@@ -15,7 +15,7 @@ from typing import NamedTuple
 
 LONGEST_LINE = 65_536
 MOST_RECORDS = 50_000
-MOST_MOVEMENTS = 4_000
+MOST_MOVEMENTS = 200_000
 BAD = {"fault": "bad-field", "field": "request", "line": 0, "status": "bad"}
 
 # What is a request. A form says what each of its fields has to be; no other field may stand in it, but those that may be left

@@ -1,5 +1,5 @@
 #!/bin/sh
-# Prints the input of the example: 39 receipts and an issue of 100 lines each, which are as many movements as a book holds, then
+# Prints the input of the example: 1,999 receipts and an issue of 100 lines each, which are as many movements as a book holds, then
 # a receipt of one line, which is too much. All are settled and reported, and at last comes a line of more than 65,536 bytes.
 awk 'BEGIN {
     print "{\"do\":\"item\",\"code\":\"BOLT\",\"method\":\"fifo\"}"
@@ -12,7 +12,7 @@ awk 'BEGIN {
         all_entered = all_entered "," entered
         all_left = all_left "," left
     }
-    for (receipt = 0; receipt < 39; receipt++) print "{\"do\":\"receipt\",\"at\":\"2026-01-02T09:00:00\",\"lines\":[" all_entered "]}"
+    for (receipt = 0; receipt < 1999; receipt++) print "{\"do\":\"receipt\",\"at\":\"2026-01-02T09:00:00\",\"lines\":[" all_entered "]}"
     print "{\"do\":\"issue\",\"at\":\"2026-01-03T09:00:00\",\"use\":\"sold\",\"lines\":[" all_left "]}"
     print "{\"do\":\"receipt\",\"at\":\"2026-01-02T09:00:00\",\"lines\":[" entered "]}"
     print "{\"do\":\"settle\"}"
