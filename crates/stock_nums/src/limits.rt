@@ -35,3 +35,6 @@ pub const MAX_VALUE: u64 = 300_000_000_000_000_000;
 
 /// The most units that are held of an item in a warehouse, in smallest units of the item.
 pub const MAX_UNITS: u64 = 1_000_000_000_000_000_000;
+
+/// The most turns of a worker that one line may ask for. The least is 1.
+pub const MAX_TURNS: u64 = 1_000_000;
