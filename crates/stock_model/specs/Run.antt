@@ -5,10 +5,10 @@ use Rattle.stock_model.specs.declared.deeds.Deed.TheVariants.{Kept, Published}
 use Rattle.stock_model.specs.declared.read_faults.ReadFault.{ReadFault}
 use Rattle.stock_model.specs.declared.records.Record.{Record}
 use Rattle.stock_model.specs.declared.requests.Request.{Request}
-use Rattle.stock_model.specs.declared.requests.Request.TheVariants.{Post, Settle, Report}
+use Rattle.stock_model.specs.declared.requests.Request.TheVariants.{Post, Work, Settle, Report}
 use Rattle.stock_model.specs.declared.answers.Answer.{Answer}
 use Rattle.stock_model.specs.declared.answers.Answer.TheVariants.{Told}
-use Rattle.stock_model.specs.declared.replies.Reply.TheVariants.{Settled, Long, Bad}
+use Rattle.stock_model.specs.declared.replies.Reply.TheVariants.{Worked, Settled, Long, Bad}
 use Rattle.stock_model.specs.History.{accepted, covered}
 use Rattle.stock_model.specs.Reports.{report}
 use Rattle.stock_model.specs.PostReplies.{IsPostAnswer}
@@ -22,6 +22,13 @@ abbrev pub ArePublications : List Deed → Type 0
 ArePublications [] = Unit {0}
 ArePublications (Kept item ∷ deeds) = ⊥
 ArePublications (Published n ∷ deeds) = ArePublications deeds
+
+-- some publications come
+pub record Works (old : List Deed) (answer : Answer) (new : List Deed) : Type 0 where
+  pub more : List Deed
+  pub publications : ArePublications more
+  pub grows : new ≡ old ++ more
+  pub told : answer ≡ Told (Worked (record { 0 = covered new })) []
 
 -- some publications come, and then every accepted record is covered
 pub record Settles (old : List Deed) (answer : Answer) (new : List Deed) : Type 0 where
@@ -39,6 +46,7 @@ pub record Posts (old : List Deed) (answer : Answer) (new : List Deed) (item : R
 -- what a request may be answered, and which history it leaves
 abbrev pub IsAnswerTo : List Deed → Request → Answer → List Deed → Type 0
 IsAnswerTo old (Post what) answer new = (item : Record) × (item.what ≡ what) × Posts old answer new item
+IsAnswerTo old (Work turns) answer new = Works old answer new
 IsAnswerTo old Settle answer new = Settles old answer new
 IsAnswerTo old (Report query) answer new = (answer ≡ report old query) × (new ≡ old)
 

@@ -7,6 +7,8 @@ use crate::vouchers::What;
 #[derive(Drop)]
 pub enum Request {
     Post(What),
+    /// How many turns a worker makes at most, from 1 to 1,000,000.
+    Work(u32),
     Settle,
     Report(Query),
 }
