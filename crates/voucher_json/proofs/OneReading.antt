@@ -23,7 +23,7 @@ use Rattle.voucher_json.specs.Walks.{GoesOn, Then, Ends, Yields, found_or_bad, I
 use Rattle.voucher_json.specs.FieldNames.{field_text}
 use Rattle.voucher_json.specs.Fields.{IsObject, IsText, choose, IsWord, items_count, has_other, number_outcome, IsNumber, IsMomentText, IsMoment, list_outcome, IsList, NoOther}
 use Rattle.voucher_json.specs.Records.{record_kinds, methods, purposes, bases, IsItem, IsStore, receipt_line, issue_line, transfer_line, return_line, target_line, IsVoucher, IsIssue, IsLanded, IsWhat}
-use Rattle.voucher_json.specs.Requests.{kinds, sheets, formats, IsByKey, IsOfAccounts, IsOfVoucher, IsScope, fields_of, IsReport, IsOfKind, IsRequest, IsReadAs}
+use Rattle.voucher_json.specs.Requests.{kinds, sheets, formats, IsByKey, IsOfAccounts, IsOfVoucher, IsScope, fields_of, IsReport, IsWork, IsOfKind, IsRequest, IsReadAs}
 use Rattle.voucher_json.specs.StoredRecords.{record_fields, IsRecord, IsRecordReadAs}
 use Rattle.voucher_json.specs.Tables.{IsMoney, Cell, a_text, a_number, an_amount, IsCell, Values, LineTable, names_of, Cells, IsLine}
 use Rattle.voucher_json.specs.Texts.{IsJson, IsWalked}
@@ -282,8 +282,14 @@ one_what shared record_of.CustomerReturn value = one_voucher return_line return_
 one_what shared record_of.SupplierReturn value = one_voucher return_line return_line-facts SupplierReturn shared value
 one_what shared record_of.Landed value = one_landed shared value
 
+one_work : (value : Data) → IsDecided (IsWork value)
+one_work value =
+    both _ _ (one_field (IsNumber 1 1_000_000) (one_number 1 1_000_000) field.Turns 0 value) (λ turns.
+    both _ _ (no_other (field.Do ∷ field.Turns ∷ []) 0 value) (λ none. ends _))
+
 one_of_kind : (kind : Kind) (value : Data) → IsDecided (IsOfKind kind value)
 one_of_kind (kind_of.Post kind) value = both _ _ (one_what (field.Do ∷ []) kind value) (λ what. ends _)
+one_of_kind kind_of.Work value = both _ _ (one_work value) (λ turns. ends _)
 one_of_kind kind_of.Settle value = both _ _ (no_other (field.Do ∷ []) 0 value) (λ none. ends _)
 one_of_kind kind_of.Report value = both _ _ (one_report value) (λ query. ends _)
 

@@ -1,6 +1,7 @@
 -- How a text is read: as the request that it is, or with the first fault of the walk over its fields.
-use Rattle.std.specs.Prelude.{ℕ, Bool, true, false, None, List, [], ◌∷◌, ◌++◌, map, codes, unwrap_or, Result, IsTrue, ⊤}
+use Rattle.std.specs.Prelude.{ℕ, ◌≤◌, Bool, true, false, None, List, [], ◌∷◌, ◌++◌, map, codes, unwrap_or, Result, IsTrue, ⊤}
 use Rattle.serde_json.specs.Data.{Data}
+use Rattle.stock_nums.specs.declared.limits.TheConstants.{MAX_TURNS}
 use Rattle.stock_model.specs.Limits.{is_within_limits}
 use Rattle.stock_model.specs.declared.queries.Format.{Format}
 use Rattle.stock_model.specs.declared.queries.Format.TheVariants.{Json, Csv}
@@ -11,7 +12,7 @@ use Rattle.stock_model.specs.declared.read_faults.FieldName.{FieldName}
 use Rattle.stock_model.specs.declared.read_faults.FieldName.TheVariants as field
 use Rattle.stock_model.specs.declared.read_faults.ReadFault.{ReadFault}
 use Rattle.stock_model.specs.declared.requests.Request.{Request}
-use Rattle.stock_model.specs.declared.requests.Request.TheVariants.{Post, Settle, Report}
+use Rattle.stock_model.specs.declared.requests.Request.TheVariants.{Post, Work, Settle, Report}
 use Rattle.voucher_json.specs.Walks.{Then, Ends, Field, Optional}
 use Rattle.voucher_json.specs.Fields.{IsObject, IsText, IsWord, IsNumber, IsMoment, NoOther}
 use Rattle.voucher_json.specs.Records.{record_kinds, IsWhat}
@@ -22,13 +23,13 @@ use Rattle.voucher_json.specs.declared.kinds.SheetKind.{SheetKind}
 use Rattle.voucher_json.specs.declared.kinds.SheetKind.TheVariants as sheet_of
 use Rattle.voucher_json.specs.declared.report_reading.Scope.{Scope}
 
--- the words of `do`; a desk may not settle
+-- the words of `do`; a desk may neither work nor settle
 abbrev pub desk_kinds : List (List ℕ × Kind)
 desk_kinds = (codes "report", kind_of.Report) ∷ map (λ kind. (kind.0, kind_of.Post kind.1)) record_kinds
 
 abbrev pub kinds : Bool → List (List ℕ × Kind)
 kinds true = desk_kinds
-kinds false = (codes "settle", kind_of.Settle) ∷ desk_kinds
+kinds false = (codes "work", kind_of.Work) ∷ (codes "settle", kind_of.Settle) ∷ desk_kinds
 
 -- the words of `of`
 abbrev pub sheets : List (List ℕ × SheetKind)
@@ -101,6 +102,13 @@ IsReport value =
       format = unwrap_or format Json;
     }))))))
 
+-- a worker makes at most so many `turns`, from 1 to 10^6
+abbrev pub IsWork : Data → Result ℕ ReadFault → Type 0
+IsWork value =
+    Then (Field (IsNumber 1 MAX_TURNS) field.Turns 0 value) (λ turns.
+    Then (NoOther (field.Do ∷ field.Turns ∷ []) 0 value) (λ none.
+    Ends turns))
+
 -- a settlement has no field but `do`
 abbrev pub IsSettle : Data → Result ⊤ ReadFault → Type 0
 IsSettle value = NoOther (field.Do ∷ []) 0 value
@@ -108,6 +116,7 @@ IsSettle value = NoOther (field.Do ∷ []) 0 value
 -- the fields of each kind
 abbrev pub IsOfKind : Kind → Data → Result Request ReadFault → Type 0
 IsOfKind (kind_of.Post kind) value = Then (IsWhat (field.Do ∷ []) kind value) (λ what. Ends (Post what))
+IsOfKind kind_of.Work value = Then (IsWork value) (λ turns. Ends (Work turns))
 IsOfKind kind_of.Settle value = Then (IsSettle value) (λ none. Ends Settle)
 IsOfKind kind_of.Report value = Then (IsReport value) (λ query. Ends (Report query))
 
@@ -122,8 +131,10 @@ IsRequest at_desk value =
 abbrev pub IsReadAs : Bool → List ℕ → Result Request ReadFault → Type 0
 IsReadAs at_desk = IsWalked (IsRequest at_desk)
 
--- what is posted has its numbers of lines and accounts within the limits of a record
+-- What is posted has its numbers of lines and accounts within the limits of a record. A worker makes from 1 to
+-- 10^6 turns.
 abbrev pub IsWithinLimits : Request → Type 0
 IsWithinLimits (Post what) = IsTrue (is_within_limits what)
+IsWithinLimits (Work turns) = (1 ≤ turns) × (turns ≤ MAX_TURNS)
 IsWithinLimits Settle = Unit {0}
 IsWithinLimits (Report query) = Unit {0}

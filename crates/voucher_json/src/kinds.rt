@@ -26,6 +26,7 @@ pub enum RecordKind {
 pub enum Kind {
     /// It posts a record.
     Post(RecordKind),
+    Work,
     Settle,
     Report,
 }
@@ -44,10 +45,15 @@ pub enum SheetKind {
 pub fn kind_named(word: &str, at_desk: bool) -> Option<Kind>
     ensures { result ≡ choose (kinds at_desk) word.now }
 {
-    if !at_desk && word == "settle" {
-        return Some(Kind::Settle);
+    if at_desk {
+        desk_kind_named(word)
+    } else if word == "work" {
+        Some(Kind::Work)
+    } else if word == "settle" {
+        Some(Kind::Settle)
+    } else {
+        desk_kind_named(word)
     }
-    desk_kind_named(word)
 }
 
 /// The kind that a word of `do` means at a desk.

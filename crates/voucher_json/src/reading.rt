@@ -1,12 +1,12 @@
 //! A text as the request that it is.
-ghost use Rattle.std.specs.Prelude.{◌≡◌, ◌⊎◌, ℕ, List, Bool, Result, Ok, Err, IfOk, IfErr};
+ghost use Rattle.std.specs.Prelude.{◌≡◌, ◌≤◌, ◌⊎◌, ℕ, List, Bool, Result, Ok, Err, IfOk, IfErr};
 ghost use Rattle.serde_json.specs.View.{view};
 ghost use Rattle.stock_model.specs.declared.read_faults.ReadFault.{ReadFault};
 ghost use Rattle.stock_model.specs.declared.requests.Request.{Request};
 ghost use Rattle.voucher_json.specs.Walks.{OrNoMemory};
-ghost use Rattle.voucher_json.specs.Requests.{IsOfKind, IsRequest, IsReadAs, IsWithinLimits};
+ghost use Rattle.voucher_json.specs.Requests.{IsOfKind, IsRequest, IsReadAs, IsWithinLimits, IsWork};
 
-use crate::fields::kind_field;
+use crate::fields::{kind_field, number_field};
 use crate::forms::{check_object, no_other};
 use crate::json_values::json_value;
 use crate::kinds::Kind;
@@ -17,9 +17,11 @@ use serde_json::Value;
 use std::alloc::Global;
 use stock_model::read_faults::{FieldName, ReadFault};
 use stock_model::requests::Request;
+use stock_nums::limits::MAX_TURNS;
 use stock_nums::memory::NoMemory;
 
-/// The request that a text is, or the first fault of the walk over its fields. A desk may not settle.
+/// The request that a text is, or the first fault of the walk over its fields. A desk may neither work nor
+/// settle.
 pub fn read_request(alloc: Global, bytes: &[u8], at_desk: bool) -> Result<Request, ReadFault>
     ensures read { IfOk result (λ request. IsReadAs at_desk bytes.now (Ok request)) }
     ensures fault { IfErr result (λ f. (f ≡ ReadFault.NoMemory) ⊎ IsReadAs at_desk bytes.now (Err f)) }
@@ -65,10 +67,21 @@ fn read_kind(alloc: Global, object: &Value, kind: Kind) -> Result<Request, ReadF
 {
     match kind {
         Kind::Post(kind) => Ok(Request::Post(read_what(alloc, object, &[FieldName::Do], kind)?)),
+        Kind::Work => Ok(Request::Work(read_work(object)?)),
         Kind::Settle => {
             no_other(object, &[FieldName::Do], &[], 0)?;
             Ok(Request::Settle)
         }
         Kind::Report => Ok(Request::Report(read_report(alloc, object)?)),
     }
+}
+
+/// The most turns that an object asks of a worker.
+fn read_work(object: &Value) -> Result<u32, ReadFault>
+    ensures outcome { IsWork (view object.now) result }
+    ensures range { IfOk result (λ turns. (1 ≤ turns) × (turns ≤ MAX_TURNS)) }
+{
+    let turns = number_field(object, FieldName::Turns, 0, 1, MAX_TURNS)?;
+    no_other(object, &[FieldName::Do], &[FieldName::Turns], 0)?;
+    Ok(turns as u32)
 }

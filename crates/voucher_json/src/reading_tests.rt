@@ -119,6 +119,7 @@ fn told_what(alloc: Global, what: &What) -> Result<String, Fail> {
 fn told(alloc: Global, request: &Request) -> Result<String, Fail> {
     match request {
         Request::Post(what) => told_what(alloc, what),
+        Request::Work(turns) => Ok(format!(in alloc; "work {turns}")?),
         Request::Settle => Ok(String::from_str(alloc, "settle")?),
         Request::Report(query) => told_query(alloc, query),
     }
@@ -148,6 +149,8 @@ fn reads_each_kind(rt: HostRuntime) -> Result<(), Fail> {
         ),
         (r#"{"do":"item","code":"A","method":"fifo"}"#, "item A Fifo"),
         (r#" {"account":0, "do":"store","code":""} "#, "store  0"),
+        (r#"{"do":"work","turns":1}"#, "work 1"),
+        (r#"{"turns":1000000,"do":"work"}"#, "work 1000000"),
         (r#"{"do":"settle"}"#, "settle"),
         (r#"{"do":"fly","do":"settle"}"#, "settle"),
         (
@@ -271,7 +274,15 @@ fn tells_the_first_fault(rt: HostRuntime) -> Result<(), Fail> {
         ("{", "no json"),
         ("[]", "bad request 0"),
         (r#"{"do":"fly"}"#, "bad do 0"),
-        (r#"{"do":"work","turns":1}"#, "bad do 0"),
+        (r#"{"do":"work"}"#, "bad turns 0"),
+        (r#"{"do":"work","turns":"1"}"#, "bad turns 0"),
+        (r#"{"do":"work","turns":1.0}"#, "bad turns 0"),
+        (r#"{"do":"work","turns":null}"#, "bad turns 0"),
+        (r#"{"do":"work","turns":0,"x":1}"#, "limit turns 0"),
+        (r#"{"do":"work","turns":1000001}"#, "limit turns 0"),
+        (r#"{"do":"work","turns":-1}"#, "limit turns 0"),
+        (r#"{"do":"work","turns":10000000000000}"#, "limit turns 0"),
+        (r#"{"do":"work","turns":1,"x":1}"#, "bad other 0"),
         (r#"{"do":"settle","x":1}"#, "bad other 0"),
         (r#"{"do":"settle","desk":0}"#, "bad other 0"),
         (
@@ -312,8 +323,10 @@ fn tells_the_first_fault(rt: HostRuntime) -> Result<(), Fail> {
         let found = read(rt.alloc(), text.as_bytes(), false)?;
         assert_eq!(rt; found.as_str(), want, "{text}");
     }
-    let at_desk = read(rt.alloc(), br#"{"do":"settle"}"#, true)?;
-    assert_eq!(rt; at_desk.as_str(), "bad do 0");
+    for text in [r#"{"do":"settle"}"#, r#"{"do":"work","turns":1}"#] {
+        let at_desk = read(rt.alloc(), text.as_bytes(), true)?;
+        assert_eq!(rt; at_desk.as_str(), "bad do 0", "{text}");
+    }
     Ok(())
 }
 
