@@ -3,7 +3,7 @@ ghost use Rattle.std.specs.Prelude.{◌≡◌, ℕ, List, [], IfOk, OnErr, IsTru
 ghost use Rattle.stock_model.specs.Limits.{is_within_limits};
 ghost use Rattle.stock_model.specs.declared.replies.Reply.TheVariants as reply;
 ghost use Rattle.stock_model.specs.History.{IsLegal};
-ghost use Rattle.stock_model.specs.Run.{IsAnswerTo, Step};
+ghost use Rattle.stock_model.specs.Run.{IsAnswerTo, Step, Works};
 ghost use Rattle.voucher_json.specs.Requests.{IsReadAs, IsWithinLimits};
 ghost use Rattle.stock_cli.specs.Answers.{HasText, ShowsKeptStock};
 ghost use Rattle.stock_cli.specs.OpenLines.{StandsForLine};
@@ -57,6 +57,7 @@ fn answer(alloc: Global, book: &mut Book, request: Request) -> Result<Answer, No
 {
     match request {
         Request::Post(what) => post(alloc, book, what),
+        Request::Work(_) => Ok(work(alloc, book)),
         Request::Settle => settle(alloc, book),
         Request::Report(query) => report(alloc, book, query),
     }
@@ -78,6 +79,15 @@ fn post(alloc: Global, book: &mut Book, what: What) -> Result<Answer, NoMemory>
         Ok(number) => Ok(told(alloc, Reply::Accepted(number))),
         Err(fault) => refused(alloc, book, fault),
     }
+}
+
+/// The answer to a worker's turns. None publishes yet, so the history stays as it is.
+fn work(alloc: Global, book: &Book) -> Answer
+    ensures answers { Works book.now.history result book.now.history }
+    ensures text { HasText result }
+    ensures keeps { ShowsKeptStock result }
+{
+    told(alloc, Reply::Worked(book.covered()))
 }
 
 fn settle(alloc: Global, book: &mut Book) -> Result<Answer, NoMemory>
