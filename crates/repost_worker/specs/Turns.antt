@@ -1,0 +1,77 @@
+-- What one turn of the policy does to a book and a build.
+use Rattle.std.specs.Prelude.{ℕ, ◌≡◌, ◌+◌, ◌<◌, ◌≤◌, ◌||◌, ◌⊎◌, List, ◌∷◌, [], ◌++◌, take, drop, Contains, false}
+use Rattle.stock_nums.specs.declared.entry.Entry.{Entry}
+use Rattle.stock_nums.specs.declared.place.Place.{Place}
+use Rattle.stock_model.specs.History.{records, accepted, covered}
+use Rattle.stock_model.specs.PostingOrder.{posting_line}
+use Rattle.stock_model.specs.declared.deeds.Deed.{Deed}
+use Rattle.stock_model.specs.declared.deeds.Deed.TheVariants as deed
+use Rattle.stock_model.specs.declared.records.Record.{Record}
+use Rattle.repost_laws.specs.Builds.{IsClean}
+use Rattle.repost_laws.specs.Touched.{is_touched, is_charged_by}
+use Rattle.repost_build.specs.Builds.{IsOf, IsTurned}
+use Rattle.repost_build.specs.Readings.{found_in, suspects_in, valued_in, base_of, target_of, fetches_of, turns_of, IsUnchanged}
+use Rattle.repost_build.specs.declared.build.Build.{Build}
+use Rattle.repost_worker.specs.declared.turn.Turned.{Turned}
+use Rattle.repost_worker.specs.declared.turn.Turned.TheVariants.{Valued, Fetched, Published, Idle}
+use Rattle.repost_worker.specs.declared.turn.TheConstants.{MAX_FETCHES}
+
+-- the records that the build is of: the first ones of the history
+abbrev pub records_of : List Deed → Build → List Record
+records_of history build = take (target_of build) (records history)
+
+-- the build is of the first records of the book, and counts from its last publication
+pub record IsWorkOf (history : List Deed) (build : Build) : Type 0 where
+  pub of : IsOf (records_of history build) build
+  pub within : target_of build ≤ accepted history
+  pub base : base_of build ≡ covered history
+  pub fetches : fetches_of build ≤ MAX_FETCHES
+
+-- no movement of the build is suspect
+abbrev pub IsCleanOf : List Deed → Build → Type 0
+IsCleanOf history build = IsClean (posting_line (records_of history build)) (suspects_in build)
+
+-- records wait that the next turn may fetch
+abbrev pub CanFetch : List Deed → Build → Type 0
+CanFetch history build = (target_of build < accepted history) × (fetches_of build < MAX_FETCHES)
+
+-- the build has taken in all records, and what they touch is suspect beside what was
+pub record IsFetched (history : List Deed) (old new : Build) : Type 0 where
+  pub target : target_of new ≡ accepted history
+  pub touched : (e : Entry) → Contains (posting_line (records history)) e → suspects_in new e.place
+      ≡ (suspects_in old e.place || is_touched (target_of old) (is_charged_by (drop (target_of old) (records history))) (posting_line (records history)) e)
+  pub found : (place : Place) → found_in new place ≡ found_in old place
+  pub valued : (place : Place) → valued_in new place ≡ valued_in old place
+  pub base : base_of new ≡ base_of old
+  pub fetches : fetches_of new ≡ fetches_of old + 1
+  pub turns : turns_of new ≡ turns_of old + 1
+
+-- the build counts anew from what it is of, and what was found stays
+pub record IsPublished (old new : Build) : Type 0 where
+  pub base : base_of new ≡ target_of old
+  pub target : target_of new ≡ target_of old
+  pub fetches : fetches_of new ≡ 0
+  pub turns : turns_of new ≡ 0
+  pub found : (place : Place) → found_in new place ≡ found_in old place
+  pub suspects : (place : Place) → suspects_in new place ≡ suspects_in old place
+  pub valued : (place : Place) → valued_in new place ≡ false
+
+-- the turn does this, as it is the first that there is to do, and what it does leads from the first book and build to the second
+abbrev pub IsTurnTo : List Deed → Build → Turned → List Deed → Build → Type 0
+IsTurnTo history build (Valued place) history' build' =
+    (history' ≡ history) × IsTurned (records_of history build) build build' place
+IsTurnTo history build (Fetched n) history' build' =
+    IsCleanOf history build × CanFetch history build × (n.0 ≡ accepted history) × (history' ≡ history)
+    × IsFetched history build build'
+IsTurnTo history build (Published n) history' build' =
+    IsCleanOf history build × (CanFetch history build → ⊥) × (covered history < target_of build) × (n.0 ≡ target_of build)
+    × (history' ≡ history ++ deed.Published n ∷ []) × IsPublished build build'
+IsTurnTo history build Idle history' build' =
+    IsCleanOf history build × (covered history ≡ accepted history) × (history' ≡ history) × IsUnchanged build build'
+
+-- how many movements it valued
+abbrev pub valuations : Turned → ℕ
+valuations (Valued place) = 1
+valuations (Fetched n) = 0
+valuations (Published n) = 0
+valuations Idle = 0
