@@ -1,5 +1,5 @@
 -- What one turn of the policy does to a book and a build.
-use Rattle.std.specs.Prelude.{ℕ, ◌≡◌, ◌+◌, ◌<◌, ◌≤◌, ◌||◌, ◌⊎◌, List, ◌∷◌, [], ◌++◌, take, drop, Contains, false}
+use Rattle.std.specs.Prelude.{ℕ, ◌≡◌, ◌+◌, ◌<◌, ◌≤◌, ◌||◌, List, ◌∷◌, [], ◌++◌, take, drop, Contains, false}
 use Rattle.stock_nums.specs.declared.entry.Entry.{Entry}
 use Rattle.stock_nums.specs.declared.place.Place.{Place}
 use Rattle.stock_model.specs.History.{records, accepted, covered}

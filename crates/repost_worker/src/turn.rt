@@ -1,7 +1,10 @@
 //! One turn of the policy: value the first suspect, else fetch what was accepted since, else publish, else idle.
-ghost use Rattle.std.specs.Prelude.{◌≡◌, ◌+◌, IfOk, OnErr};
-ghost use Rattle.repost_build.specs.Readings.{IsUnchanged};
-ghost use Rattle.repost_worker.specs.Turns.{IsWorkOf, IsTurnTo, valuations};
+ghost use Rattle.std.specs.Prelude.{◌≡◌, ◌+◌, ◌<◌, ◌↔◌, ◌++◌, [], ◌∷◌, List, IsTrue, IfOk, OnOk, OnErr};
+ghost use Rattle.stock_model.specs.History.{records, accepted, covered};
+ghost use Rattle.stock_model.specs.declared.deeds.Deed.TheVariants as deed;
+ghost use Rattle.stock_model.specs.declared.records.Record.{Record};
+ghost use Rattle.repost_build.specs.Readings.{target_of, IsUnchanged};
+ghost use Rattle.repost_worker.specs.Turns.{IsWorkOf, IsCleanOf, CanFetch, IsFetched, IsPublished, IsTurnTo, valuations};
 
 use generation_book::book::Book;
 use repost_build::build::Build;
@@ -49,21 +52,81 @@ pub fn turn_on<L: Ledger>(
     ensures build_stays { OnErr result (IsUnchanged build.old build.new) }
     ensures no_steps { OnErr result (steps.new ≡ steps.old) }
 {
+    turn_of(alloc, book, build, steps)
+}
+
+// The turn, of a book with these records.
+fn turn_of<L: Ledger>(
+    alloc: Global,
+    book: &mut Book,
+    build: &mut Build,
+    steps: &mut Steps<L>,
+) -> Result<Turned, NoMemory>
+    ghost all: { List Record }
+    requires records { records book.old.history ≡ all }
+    requires work { IsWorkOf book.old.history build.old }
+    ensures work { IsWorkOf book.new.history build.new }
+    ensures turn { IfOk result (λ turned. IsTurnTo book.old.history build.old turned book.new.history build.new) }
+    ensures steps { IfOk result (λ turned. steps.new ≡ steps.old + valuations turned) }
+    ensures book_stays { OnErr result (book.new ≡ book.old) }
+    ensures build_stays { OnErr result (IsUnchanged build.old build.new) }
+    ensures no_steps { OnErr result (steps.new ≡ steps.old) }
+{
     if let Some(place) = build.turn(steps) {
         return Ok(Turned::Valued(place));
     }
-    let accepted = book.accepted();
-    if build.target().0 < accepted.0 && build.fetches() < MAX_FETCHES {
-        let fetched = book.fetch(alloc, build.target())?;
-        build.extend(alloc, &fetched)?;
+    if can_fetch(book, build) {
+        let accepted = fetch_all(alloc, book, build)?;
         return Ok(Turned::Fetched(accepted));
     }
-    let target = build.target();
-    if book.covered().0 < target.0 {
-        let changed = build.changed(alloc)?;
-        book.publish(alloc, target, changed.as_slice())?;
-        build.published();
+    if book.covered().0 < build.target().0 {
+        let target = publish_all(alloc, book, build)?;
         return Ok(Turned::Published(target));
     }
     Ok(Turned::Idle)
+}
+
+// Whether records wait that the next turn may fetch.
+fn can_fetch(book: &Book, build: &Build) -> bool
+    ensures { IsTrue result ↔ CanFetch book.now.history build.now }
+{
+    build.target().0 < book.accepted().0 && build.fetches() < MAX_FETCHES
+}
+
+// The build takes in all records that it has not, and it is answered how many there are.
+fn fetch_all(alloc: Global, book: &Book, build: &mut Build) -> Result<RecordNo, NoMemory>
+    ghost all: { List Record }
+    requires records { records book.now.history ≡ all }
+    requires work { IsWorkOf book.now.history build.old }
+    requires waiting { CanFetch book.now.history build.old }
+    ensures work { IsWorkOf book.now.history build.new }
+    ensures number { IfOk result (λ n. n.0 ≡ accepted book.now.history) }
+    ensures fetched { OnOk result (IsFetched book.now.history build.old build.new) }
+    ensures unchanged { OnErr result (IsUnchanged build.old build.new) }
+{
+    let accepted = book.accepted();
+    let fetched = book.fetch(alloc, build.target())?;
+    build.extend(alloc, &fetched)?;
+    Ok(accepted)
+}
+
+// All records of a build without a suspect are published, and it is answered how many they are.
+fn publish_all(alloc: Global, book: &mut Book, build: &mut Build) -> Result<RecordNo, NoMemory>
+    ghost all: { List Record }
+    requires records { records book.old.history ≡ all }
+    requires work { IsWorkOf book.old.history build.old }
+    requires clean { IsCleanOf book.old.history build.old }
+    requires later { covered book.old.history < target_of build.old }
+    ensures work { IsWorkOf book.new.history build.new }
+    ensures number { IfOk result (λ n. n.0 ≡ target_of build.old) }
+    ensures told { IfOk result (λ n. book.new.history ≡ book.old.history ++ deed.Published n ∷ []) }
+    ensures published { OnOk result (IsPublished build.old build.new) }
+    ensures book_stays { OnErr result (book.new ≡ book.old) }
+    ensures build_stays { OnErr result (build.new ≡ build.old) }
+{
+    let target = build.target();
+    let changed = build.changed(alloc)?;
+    book.publish(alloc, target, changed.as_slice())?;
+    build.published();
+    Ok(target)
 }

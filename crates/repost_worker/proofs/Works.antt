@@ -1,0 +1,94 @@
+-- What a turn starts from, once no suspect was found, and what a fetch and a publication leave.
+use Rattle.std.proofs.Common.{◌≡◌, ℕ, ◌+◌, ◌*◌, ◌≤◌, ◌||◌, List, [], ◌∷◌, ◌++◌, length, take, drop, sym, ap, ◌∙◌, subst, append-nil, arith}
+use Rattle.stock_nums.specs.declared.numbers.RecordNo.{RecordNo}
+use Rattle.stock_model.specs.History.{records, covered}
+use Rattle.stock_model.specs.PostingOrder.{posting_line}
+use Rattle.stock_model.specs.declared.deeds.Deed.{Deed}
+use Rattle.stock_model.specs.declared.deeds.Deed.TheVariants as deed
+use Rattle.stock_model.specs.declared.records.Record.{Record}
+use Rattle.stock_laws.proofs.Histories.{records-append, covered_after-append}
+use Rattle.repost_frontier.specs.Readings.{found_of, suspects_of, revalued_of}
+use Rattle.repost_frontier.specs.declared.slot.Slot.{Slot}
+use Rattle.repost_laws.specs.Builds.{IsClean}
+use Rattle.repost_laws.specs.Touched.{is_touched, is_charged_by}
+use Rattle.repost_build.specs.Builds.{IsOf}
+use Rattle.repost_build.specs.Readings.{suspects_in, target_of, fetches_of, turns_of, IsUnchanged}
+use Rattle.repost_build.specs.declared.build.Build.{Build}
+use Rattle.repost_worker.specs.Turns.{records_of, IsWorkOf, IsCleanOf, CanFetch, IsFetched, IsPublished}
+
+-- since the last publication there were no more turns than fetches times one more than there are movements
+pub turns-few : (journal : List Record) (build : Build) → IsOf journal build
+    → turns_of build ≤ fetches_of build * (length (posting_line journal) + 1)
+turns-few journal build of = of.built.counted.few.bound
+
+-- a turn that found no suspect changed nothing
+module _ (history : List Deed) (old mid : Build) (same : IsUnchanged old mid) where
+  pub work-still : IsWorkOf history old → IsOf (records_of history old) mid → IsWorkOf history mid
+  work-still work of = record {
+    of = subst (λ (n : ℕ). IsOf (take n (records history)) mid) (sym same.target) of;
+    within = omega (arith, work.within, same.target);
+    base = same.base ∙ work.base;
+    fetches = omega (arith, work.fetches, same.fetches);
+  }
+
+  pub clean-still : IsCleanOf history old → IsCleanOf history mid
+  clean-still clean =
+      subst (λ (n : ℕ). IsClean (posting_line (take n (records history))) (suspects_in mid)) (sym same.target)
+      (subst (λ (slots : List Slot). IsClean (posting_line (records_of history old)) (suspects_of slots)) (sym same.slots) clean)
+
+  pub can_fetch-still : CanFetch history mid → CanFetch history old
+  can_fetch-still can = (omega (arith, can.0, same.target), omega (arith, can.1, same.fetches))
+
+  pub can_fetch-then : CanFetch history old → CanFetch history mid
+  can_fetch-then can = (omega (arith, can.0, same.target), omega (arith, can.1, same.fetches))
+
+  pub fetched-still : (new : Build) → IsFetched history mid new → IsFetched history old new
+  fetched-still new fetched = record {
+    target = fetched.target;
+    touched = λ e held.
+        subst (λ (slots : List Slot). suspects_in new e.place ≡ (suspects_of slots e.place
+        || is_touched (target_of old) (is_charged_by (drop (target_of old) (records history))) (posting_line (records history)) e)) same.slots
+        (subst (λ (n : ℕ). suspects_in new e.place ≡ (suspects_in mid e.place
+        || is_touched n (is_charged_by (drop n (records history))) (posting_line (records history)) e)) same.target (fetched.touched e held));
+    found = λ place. fetched.found place ∙ ap (λ (slots : List Slot). found_of slots place) same.slots;
+    valued = λ place. fetched.valued place ∙ ap (λ (slots : List Slot). revalued_of slots place) same.slots;
+    base = fetched.base ∙ same.base;
+    fetches = omega (arith, fetched.fetches, same.fetches);
+    turns = omega (arith, fetched.turns, same.turns);
+  }
+
+  pub published-still : (new : Build) → IsPublished mid new → IsPublished old new
+  published-still new published = record {
+    base = published.base ∙ same.target;
+    target = published.target ∙ same.target;
+    fetches = published.fetches;
+    turns = published.turns;
+    found = λ place. published.found place ∙ ap (λ (slots : List Slot). found_of slots place) same.slots;
+    suspects = λ place. published.suspects place ∙ ap (λ (slots : List Slot). suspects_of slots place) same.slots;
+    valued = published.valued;
+  }
+
+-- without a fetch there was no turn
+pub turns-none : (journal : List Record) (build : Build) → IsOf journal build → fetches_of build ≡ 0 → turns_of build ≡ 0
+turns-none journal build of none =
+    let bound = subst (λ (f : ℕ). turns_of build ≤ f * (length (posting_line journal) + 1)) none (turns-few journal build of) in
+    omega (arith, bound)
+
+-- after a publication there are the same records, of which so many are covered
+pub records-published : (history : List Deed) (n : RecordNo) → records (history ++ deed.Published n ∷ []) ≡ records history
+records-published history n = records-append history (deed.Published n ∷ []) ∙ append-nil (records history)
+
+pub covered-published : (history : List Deed) (n : RecordNo) → covered (history ++ deed.Published n ∷ []) ≡ n.0
+covered-published history n = covered_after-append 0 history (deed.Published n ∷ [])
+
+pub work-published : (history : List Deed) (n : RecordNo) (old new : Build) → IsWorkOf history old → n.0 ≡ target_of old
+    → IsPublished old new → IsOf (records_of history old) new → IsWorkOf (history ++ deed.Published n ∷ []) new
+work-published history n old new work all published of =
+    let same = records-published history n in
+    record {
+      of = subst (λ (rs : List Record). IsOf (take (target_of new) rs) new) (sym same)
+          (subst (λ (m : ℕ). IsOf (take m (records history)) new) (sym published.target) of);
+      within = omega (arith, ap length same, published.target, work.within);
+      base = published.base ∙ sym all ∙ sym (covered-published history n);
+      fetches = omega (arith, published.fetches);
+    }
