@@ -1,1 +1,5 @@
+pub mod RunLaws
+pub mod Running
+pub mod TurnsAhead
+pub mod Working
 pub mod Works

@@ -16,11 +16,6 @@ use Rattle.repost_build.specs.Readings.{suspects_in, target_of, fetches_of, turn
 use Rattle.repost_build.specs.declared.build.Build.{Build}
 use Rattle.repost_worker.specs.Turns.{records_of, IsWorkOf, IsCleanOf, CanFetch, IsFetched, IsPublished}
 
--- since the last publication there were no more turns than fetches times one more than there are movements
-pub turns-few : (journal : List Record) (build : Build) → IsOf journal build
-    → turns_of build ≤ fetches_of build * (length (posting_line journal) + 1)
-turns-few journal build of = of.built.counted.few.bound
-
 -- a turn that found no suspect changed nothing
 module _ (history : List Deed) (old mid : Build) (same : IsUnchanged old mid) where
   pub work-still : IsWorkOf history old → IsOf (records_of history old) mid → IsWorkOf history mid
@@ -71,7 +66,7 @@ module _ (history : List Deed) (old mid : Build) (same : IsUnchanged old mid) wh
 -- without a fetch there was no turn
 pub turns-none : (journal : List Record) (build : Build) → IsOf journal build → fetches_of build ≡ 0 → turns_of build ≡ 0
 turns-none journal build of none =
-    let bound = subst (λ (f : ℕ). turns_of build ≤ f * (length (posting_line journal) + 1)) none (turns-few journal build of) in
+    let bound = subst (λ (f : ℕ). turns_of build ≤ f * (length (posting_line journal) + 1)) none of.built.counted.few.bound in
     omega (arith, bound)
 
 -- after a publication there are the same records, of which so many are covered

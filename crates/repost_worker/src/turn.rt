@@ -31,6 +31,15 @@ pub enum Turned {
     Idle,
 }
 
+impl Turned {
+    /// Whether there was nothing to do.
+    pub fn is_idle(self) -> bool
+        ensures { IsTrue result ↔ (self ≡ Turned.Idle) }
+    {
+        matches!(self, Turned::Idle)
+    }
+}
+
 /// Does the first of these that there is: values the first suspect; fetches the records that were accepted since, where fewer
 /// than 4 fetches were made since the last publication; publishes what the build is of; and else nothing. A valuation counts one
 /// step and takes no memory. A refusal changes neither book nor build.

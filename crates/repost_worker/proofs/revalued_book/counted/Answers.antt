@@ -1,0 +1,27 @@
+-- What a run does to the history.
+use Rattle.std.proofs.Common.{ℕ, Option, None, subst}
+use Rattle.stock_nums.specs.declared.memory.NoMemory.{NoMemory}
+use Rattle.repost_worker.specs.Runs.{IsRun}
+use Rattle.repost_worker.proofs.RunLaws.{covered-run}
+use Rattle.repost_worker.proofs.Working.{turns-publish, turns-legal}
+use Rattle.repost_worker.proofs.revalued_book.counted.Goals as goal
+
+pub returns-clause-grows : goal.returns-clause-grows
+returns-clause-grows g c =
+    let run = c.run_turns.ensures.run in
+    turns-publish run.turns c.args.book.now.history c.run_turns.new.book.history c.args.build.now run.last run.run
+
+pub returns-clause-all : goal.returns-clause-all
+returns-clause-all g c all done =
+    let run = c.run_turns.ensures.run in
+    covered-run c.args.book.now.history c.run_turns.new.book.history c.args.build.now c.run_turns.new.build c.new-steps.result
+    c.run_turns.new.steps
+    (subst (λ (stopped : Option NoMemory). IsRun None stopped c.args.book.now.history c.args.build.now c.new-steps.result
+    c.run_turns.new.book.history c.run_turns.new.build c.run_turns.new.steps) done
+    (subst (λ (limit : Option ℕ). IsRun limit c.run_turns.result.stopped c.args.book.now.history c.args.build.now c.new-steps.result
+    c.run_turns.new.book.history c.run_turns.new.build c.run_turns.new.steps) all run))
+
+pub returns-clause-legal : goal.returns-clause-legal
+returns-clause-legal g c legal =
+    let run = c.run_turns.ensures.run in
+    turns-legal run.turns c.args.book.now.history c.run_turns.new.book.history c.args.build.now run.last run.run c.requires.work.within legal

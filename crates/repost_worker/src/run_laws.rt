@@ -1,0 +1,28 @@
+//! What holds of runs of turns. None of it runs: these are facts about plain histories and builds, with their proofs.
+ghost use Rattle.std.specs.Prelude.{◌≡◌, ◌+◌, ◌*◌, ◌≤◌, ℕ, List, length, Option, Some, None};
+ghost use Rattle.stock_nums.specs.declared.memory.NoMemory.{NoMemory};
+ghost use Rattle.stock_model.specs.History.{records, accepted, covered};
+ghost use Rattle.stock_model.specs.PostingOrder.{posting_line};
+ghost use Rattle.stock_model.specs.declared.deeds.Deed.{Deed};
+ghost use Rattle.repost_build.specs.declared.build.Build.{Build};
+ghost use Rattle.repost_worker.specs.Runs.{IsRun};
+ghost use Rattle.repost_worker.specs.Turns.{IsWorkOf};
+
+/// A run accepts no record. Where it has no limit and no turn was refused, it covers all that were accepted.
+pub fn a_run_without_limit_covers_all()
+    ensures same { (limit : Option ℕ) (stopped : Option NoMemory) (history history' : List Deed) (build build' : Build)
+        (steps steps' : ℕ) → IsRun limit stopped history build steps history' build' steps' → records history' ≡ records history }
+    ensures all { (history history' : List Deed) (build build' : Build) (steps steps' : ℕ)
+        → IsRun None None history build steps history' build' steps' → covered history' ≡ accepted history' }
+{}
+
+/// A run makes two turns at most for each movement of all accepted records, three more for fetches and publications, and one
+/// that is idle. So where it may make the first of these and none was refused, it covers all that were accepted.
+pub fn few_turns_cover_all()
+    ensures few { (limit : Option ℕ) (stopped : Option NoMemory) (history history' : List Deed) (build build' : Build)
+        (steps steps' : ℕ) → IsWorkOf history build → (run : IsRun limit stopped history build steps history' build' steps')
+        → length run.turns ≤ 2 * length (posting_line (records history)) + 4 }
+    ensures all { (limit : ℕ) (history history' : List Deed) (build build' : Build) (steps steps' : ℕ)
+        → IsWorkOf history build → IsRun (Some limit) None history build steps history' build' steps'
+        → 2 * length (posting_line (records history)) + 3 ≤ limit → covered history' ≡ accepted history' }
+{}
