@@ -1,11 +1,10 @@
 -- How a run goes on, and which answers make its steps.
-use Rattle.std.proofs.Common.{◌≡◌, ℕ, ◌+◌, ◌≤◌, Bool, true, false, cond, ltb, List, [], ◌∷◌, ◌++◌, length, refl, sym, ap, ◌∙◌, subst, length-append, arith, inl, inr, ◌⊎◌, None, Some, Result, Ok, Err, IfOk}
+use Rattle.std.proofs.Common.{◌≡◌, ℕ, ◌+◌, ◌≤◌, Bool, true, false, ltb, List, [], ◌∷◌, ◌++◌, length, refl, sym, ap, ◌∙◌, subst, length-append, arith, inl, inr, ◌⊎◌, None, Some, Result, Ok, Err, IfOk}
 use Rattle.std.proofs.lemmas.Bool.{ltb-true, ltb-false}
-use Rattle.std.proofs.lemmas.List.{append-nil}
 use Rattle.stock_nums.specs.declared.numbers.RecordNo.{RecordNo}
 use Rattle.stock_model.specs.declared.records.Record.{Record}
 use Rattle.stock_model.specs.declared.deeds.Deed.{Deed}
-use Rattle.stock_model.specs.declared.deeds.Deed.TheVariants.{Kept, Published}
+use Rattle.stock_model.specs.declared.deeds.Deed.TheVariants.{Kept}
 use Rattle.stock_nums.specs.declared.memory.NoMemory as memory
 use Rattle.stock_model.specs.declared.faults.PostFault.{PostFault}
 use Rattle.stock_model.specs.declared.faults.PostFault.TheVariants.{NoMemory}
@@ -13,7 +12,7 @@ use Rattle.stock_model.specs.declared.requests.Request.{Request}
 use Rattle.stock_model.specs.declared.requests.Request.TheVariants.{Post}
 use Rattle.stock_model.specs.declared.answers.Answer.{Answer}
 use Rattle.stock_model.specs.declared.answers.Answer.TheVariants.{Told}
-use Rattle.stock_model.specs.declared.replies.Reply.TheVariants.{Accepted, Pending, NoSuchRecord, Settled, Long, Bad}
+use Rattle.stock_model.specs.declared.replies.Reply.TheVariants.{Accepted, Pending, NoSuchRecord, Worked, Settled, Long, Bad}
 use Rattle.stock_model.specs.declared.queries.Need.{Need}
 use Rattle.stock_model.specs.declared.queries.Need.TheVariants as need
 use Rattle.stock_model.specs.declared.queries.Query.{Query}
@@ -21,12 +20,13 @@ use Rattle.stock_model.specs.declared.queries.SelectFault.TheVariants as unmet
 use Rattle.stock_model.specs.Reports.{unmet_need, report_by}
 use Rattle.stock_model.specs.PostReplies.{refusal}
 use Rattle.stock_model.specs.Faults.{fault, fault_but_short}
-use Rattle.stock_model.specs.History.{records, accepted, covered, IsLegal, settled}
+use Rattle.stock_model.specs.History.{records, accepted, covered}
 use Rattle.stock_model.specs.declared.read_faults.ReadFault.{ReadFault}
 use Rattle.stock_model.specs.declared.read_faults.ReadFault.TheVariants as read_fault
-use Rattle.stock_model.specs.Run.{max_line, RunState, Step, Run, IsAnswerTo, Settles}
+use Rattle.stock_model.specs.Run.{max_line, RunState, Step, Run, IsAnswerTo, Settles, Works}
+use Rattle.repost_worker.specs.Published.{Publishes}
 use Rattle.stock_cli.specs.Answers.{HasText}
-use Rattle.stock_laws.proofs.Histories.{records-append, covered_after-append, covered_after-within}
+use Rattle.stock_laws.proofs.Histories.{records-append}
 
 -- a run over more lines from where one ended
 pub Run-append : (reads : List ℕ → Result Request ReadFault → Type 0) (old mid new : RunState) (lines more : List (List ℕ)) (answers others : List Answer)
@@ -75,32 +75,27 @@ report-none need.Ready history query a w is = cc
 report-none (need.Pending covered wanted) history query a w is = cc
 report-none (need.NoSuchRecord accepted wanted) history query a w is = cc
 
-Settles-by_test : (old new : List Deed) (n : RecordNo) (test : Bool) → ltb (covered old) (accepted old) ≡ test → IsLegal new
-    → new ≡ cond test (old ++ Published (record { 0 = accepted old }) ∷ []) old → n.0 ≡ accepted old → Settles old (Told (Settled n) []) new
-Settles-by_test old new n true more legal is all =
-    let same : accepted new ≡ accepted old =
-    ap accepted is ∙ ap length (records-append old (Published (record { 0 = accepted old }) ∷ []) ∙ append-nil (records old)) in
+-- turns after which all is covered settle
+pub Settles-published : (old new : List Deed) (n : RecordNo) → Publishes old new → covered new ≡ accepted new → n.0 ≡ covered new
+    → Settles old (Told (Settled n) []) new
+Settles-published old new n published all is =
     record {
-      more = Published (record { 0 = accepted old }) ∷ [];
-      publications = tt;
-      grows = is;
-      covers = ap covered is ∙ covered_after-append 0 old (Published (record { 0 = accepted old }) ∷ []) ∙ sym same;
-      told = ap (λ (k : ℕ). Told (Settled (record { 0 = k })) []) (all ∙ sym same);
-    }
-Settles-by_test old new n false none legal is all =
-    let within : covered old ≤ accepted old = covered_after-within [] 0 old (omega arith) (subst IsLegal is legal) in
-    let covers : covered old ≡ accepted old = omega (arith, ltb-false (covered old) (accepted old) none) in
-    record {
-      more = [];
-      publications = tt;
-      grows = is ∙ sym (append-nil old);
-      covers = ap covered is ∙ covers ∙ ap accepted (sym is);
-      told = ap (λ (k : ℕ). Told (Settled (record { 0 = k })) []) (all ∙ ap accepted (sym is));
+      more = published.0;
+      publications = published.1;
+      grows = published.2;
+      covers = all;
+      told = ap (λ (k : ℕ). Told (Settled (record { 0 = k })) []) (is ∙ all);
     }
 
--- publishing all that is not covered settles
-pub Settles-settled : (old new : List Deed) (n : RecordNo) → IsLegal new → new ≡ settled old → n.0 ≡ accepted old → Settles old (Told (Settled n) []) new
-Settles-settled old new n legal is all = Settles-by_test old new n (ltb (covered old) (accepted old)) refl legal is all
+-- turns are answered with how many records are covered
+pub Works-published : (old new : List Deed) (n : RecordNo) → Publishes old new → n.0 ≡ covered new → Works old (Told (Worked n) []) new
+Works-published old new n published is =
+    record {
+      more = published.0;
+      publications = published.1;
+      grows = published.2;
+      told = ap (λ (k : ℕ). Told (Worked (record { 0 = k })) []) is;
+    }
 
 -- a line that is too long is answered so, and nothing changed
 pub Step-long : (reads : List ℕ → Result Request ReadFault → Type 0) (old new : RunState) (line : List ℕ) (long : Bool) → long ≡ ltb max_line (length line) → long ≡ true → new.history ≡ old.history

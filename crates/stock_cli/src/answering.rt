@@ -1,9 +1,10 @@
 //! The answer to a request, over the book.
-ghost use Rattle.std.specs.Prelude.{◌≡◌, ℕ, List, [], IfOk, OnErr, IsTrue, false};
+ghost use Rattle.std.specs.Prelude.{◌≡◌, ◌<◌, ℕ, List, [], IfOk, OnErr, IsTrue, false};
 ghost use Rattle.stock_model.specs.Limits.{is_within_limits};
 ghost use Rattle.stock_model.specs.declared.replies.Reply.TheVariants as reply;
 ghost use Rattle.stock_model.specs.History.{IsLegal};
-ghost use Rattle.stock_model.specs.Run.{IsAnswerTo, Step, Works};
+ghost use Rattle.stock_model.specs.Run.{IsAnswerTo, Step};
+ghost use Rattle.repost_worker.specs.Published.{Publishes};
 ghost use Rattle.voucher_json.specs.Requests.{IsReadAs, IsWithinLimits};
 ghost use Rattle.stock_cli.specs.Answers.{HasText, ShowsKeptStock};
 ghost use Rattle.stock_cli.specs.OpenLines.{StandsForLine};
@@ -11,7 +12,7 @@ ghost use Rattle.stock_cli.specs.Replies.{state_of};
 
 use crate::open_line::OpenLine;
 use crate::refusing::{bad, refused, told};
-use generation_book::book::Book;
+use repost_worker::revalued_book::RevaluedBook;
 use std::alloc::Global;
 use stock_laws::selected_laws::the_ledger_keeps_the_stock;
 use stock_model::answers::Answer;
@@ -29,13 +30,13 @@ use voucher_json::reading::read_request;
 ///
 /// # Errors
 ///
-/// `NoMemory`: the book is unchanged.
-pub fn answer_to(alloc: Global, book: &mut Book, line: &OpenLine) -> Result<Answer, NoMemory>
+/// `NoMemory`: no record was accepted. What turns had published by then stands.
+pub fn answer_to(alloc: Global, book: &mut RevaluedBook, line: &OpenLine) -> Result<Answer, NoMemory>
     ensures step { IfOk result (λ answer. (text : List ℕ) → StandsForLine line.now text → Step (IsReadAs false) (state_of book.old.history) text answer (state_of book.new.history)) }
     ensures text { IfOk result HasText }
     ensures keeps { IfOk result ShowsKeptStock }
     ensures legal { IfOk result (λ _. IsLegal book.old.history → IsLegal book.new.history) }
-    ensures unchanged { OnErr result (book.new ≡ book.old) }
+    ensures grows { OnErr result (Publishes book.old.history book.new.history) }
     ensures long { IsTrue line.now.long → result ≡ Ok (Answer.Told reply.Long []) }
 {
     if line.long {
@@ -47,23 +48,23 @@ pub fn answer_to(alloc: Global, book: &mut Book, line: &OpenLine) -> Result<Answ
     }
 }
 
-fn answer(alloc: Global, book: &mut Book, request: Request) -> Result<Answer, NoMemory>
+fn answer(alloc: Global, book: &mut RevaluedBook, request: Request) -> Result<Answer, NoMemory>
     requires { IsWithinLimits request }
     ensures answers { IfOk result (λ answer. IsAnswerTo book.old.history request answer book.new.history) }
     ensures text { IfOk result HasText }
     ensures keeps { IfOk result ShowsKeptStock }
     ensures legal { IfOk result (λ _. IsLegal book.old.history → IsLegal book.new.history) }
-    ensures unchanged { OnErr result (book.new ≡ book.old) }
+    ensures grows { OnErr result (Publishes book.old.history book.new.history) }
 {
     match request {
         Request::Post(what) => post(alloc, book, what),
-        Request::Work(_) => Ok(work(alloc, book)),
+        Request::Work(turns) => work(alloc, book, turns),
         Request::Settle => settle(alloc, book),
         Request::Report(query) => report(alloc, book, query),
     }
 }
 
-fn post(alloc: Global, book: &mut Book, what: What) -> Result<Answer, NoMemory>
+fn post(alloc: Global, book: &mut RevaluedBook, what: What) -> Result<Answer, NoMemory>
     requires { IsTrue (is_within_limits what) }
     ensures answers { IfOk result (λ answer. IsAnswerTo book.old.history (Request.Post what) answer book.new.history) }
     ensures text { IfOk result HasText }
@@ -77,37 +78,42 @@ fn post(alloc: Global, book: &mut Book, what: What) -> Result<Answer, NoMemory>
     };
     match book.post(alloc, item) {
         Ok(number) => Ok(told(alloc, Reply::Accepted(number))),
-        Err(fault) => refused(alloc, book, fault),
+        Err(fault) => refused(alloc, book.book(), fault),
     }
 }
 
-/// The answer to a worker's turns. None publishes yet, so the history stays as it is.
-fn work(alloc: Global, book: &Book) -> Answer
-    ensures answers { Works book.now.history result book.now.history }
-    ensures text { HasText result }
-    ensures keeps { ShowsKeptStock result }
+/// Makes so many turns.
+fn work(alloc: Global, book: &mut RevaluedBook, turns: u32) -> Result<Answer, NoMemory>
+    requires { 0 < turns }
+    ensures answers { IfOk result (λ answer. IsAnswerTo book.old.history (Request.Work turns) answer book.new.history) }
+    ensures text { IfOk result HasText }
+    ensures keeps { IfOk result ShowsKeptStock }
+    ensures legal { IfOk result (λ _. IsLegal book.old.history → IsLegal book.new.history) }
+    ensures grows { Publishes book.old.history book.new.history }
 {
-    told(alloc, Reply::Worked(book.covered()))
+    let covered = book.work(alloc, Some(turns))?;
+    Ok(told(alloc, Reply::Worked(covered)))
 }
 
-fn settle(alloc: Global, book: &mut Book) -> Result<Answer, NoMemory>
+/// Makes all turns that there are.
+fn settle(alloc: Global, book: &mut RevaluedBook) -> Result<Answer, NoMemory>
     ensures answers { IfOk result (λ answer. IsAnswerTo book.old.history Request.Settle answer book.new.history) }
     ensures text { IfOk result HasText }
     ensures keeps { IfOk result ShowsKeptStock }
     ensures legal { IfOk result (λ _. IsLegal book.old.history → IsLegal book.new.history) }
-    ensures unchanged { OnErr result (book.new ≡ book.old) }
+    ensures grows { Publishes book.old.history book.new.history }
 {
-    let covered = book.settle_all(alloc)?;
+    let covered = book.work(alloc, None)?;
     Ok(told(alloc, Reply::Settled(covered)))
 }
 
-fn report(alloc: Global, book: &Book, query: Query) -> Result<Answer, NoMemory>
+fn report(alloc: Global, book: &RevaluedBook, query: Query) -> Result<Answer, NoMemory>
     ensures answers { IfOk result (λ answer. IsAnswerTo book.now.history (Request.Report query) answer book.now.history) }
     ensures text { IfOk result HasText }
     ensures keeps { IfOk result ShowsKeptStock }
 {
     the_ledger_keeps_the_stock();
-    match book.select(alloc, &query) {
+    match book.book().select(alloc, &query) {
         Ok(selected) => Ok(Answer::Shown { query, selected }),
         Err(SelectFault::Pending { covered, wanted }) => {
             Ok(told(alloc, Reply::Pending { covered, wanted }))

@@ -4,7 +4,7 @@ use crate::answering::answer_to;
 use crate::open_line::OpenLine;
 use crate::split::split_line;
 use crate::waiting::append_answer;
-use generation_book::book::Book;
+use repost_worker::revalued_book::RevaluedBook;
 use std::alloc::Global;
 use stock_io::failed::Failed;
 use stock_io::sink::{Sink, write_all};
@@ -13,7 +13,7 @@ use stock_nums::memory::NoMemory;
 /// A batch under way: the book, the line under way, and the replies that wait to be written.
 #[derive(Drop)]
 pub struct Batch {
-    pub book: Book,
+    pub book: RevaluedBook,
     pub line: OpenLine,
     pub waiting: Vec<u8>,
 }
@@ -35,7 +35,7 @@ impl Batch {
         ensures nothing_waits { result.waiting.items ≡ [] }
     {
         Batch {
-            book: Book::start(alloc),
+            book: RevaluedBook::start(alloc),
             line: OpenLine::new(alloc),
             waiting: Vec::new(alloc),
         }

@@ -172,7 +172,7 @@ fn pump<S: Source, O: Sink>(
 {
     let mut taken = 0;
     while taken < MAX_INPUT {
-        let size = piece_size(&batch.book, buffer.len());
+        let size = piece_size(batch.book.book(), buffer.len());
         let room = (size as u64).min(MAX_INPUT - taken) as usize;
         let Ok(n) = input.read(&mut buffer[..room]) else {
             return End::ReadFailed;

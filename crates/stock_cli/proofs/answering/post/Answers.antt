@@ -1,5 +1,8 @@
 -- The record was kept, or it has the fault first.
-use Rattle.std.proofs.Common.{refl, ap, sym, subst}
+use Rattle.std.proofs.Common.{◌≡◌, List, IfOk, refl, ap, sym, subst}
+use Rattle.stock_model.specs.History.{records}
+use Rattle.stock_model.specs.PostReplies.{refusal}
+use Rattle.stock_model.specs.declared.deeds.Deed.{Deed}
 use Rattle.stock_model.specs.declared.answers.Answer.{Answer}
 use Rattle.stock_model.specs.declared.requests.Request.TheVariants.{Post}
 use Rattle.stock_model.specs.Run.{IsAnswerTo}
@@ -13,4 +16,5 @@ returns-in-Ok-clause-answers c =
 
 pub returns-in-Err-clause-answers : goal.returns-in-Err-clause-answers
 returns-in-Err-clause-answers c =
-    IsAnswerTo-told _ _ _ c.in-Err.fault c.refused.result refl c.in-Err.ensures.fault (ap (λ b. b.history) c.in-Err.ensures.unchanged) c.refused.ensures.answer c.refused.ensures.text
+    IsAnswerTo-told _ _ _ c.in-Err.fault c.refused.result refl c.in-Err.ensures.fault (ap (λ b. b.history) c.in-Err.ensures.unchanged) 
+    (subst (λ (h : List Deed). IfOk c.refused.result (λ answer. answer ≡ refusal (records h) c.in-Err.fault)) c.book.ensures c.refused.ensures.answer) c.refused.ensures.text
