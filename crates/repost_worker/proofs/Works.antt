@@ -1,5 +1,6 @@
 -- What a turn starts from, once no suspect was found, and what a fetch and a publication leave.
-use Rattle.std.proofs.Common.{◌≡◌, ℕ, ◌+◌, ◌*◌, ◌≤◌, ◌||◌, List, [], ◌∷◌, ◌++◌, length, take, drop, sym, ap, ◌∙◌, subst, append-nil, arith}
+use Rattle.std.proofs.Common.{◌≡◌, ℕ, ◌+◌, ◌*◌, ◌≤◌, ◌||◌, List, [], ◌∷◌, ◌++◌, length, take, drop, sym, ap, ◌∙◌, subst, append-nil, length-append, arith}
+use Rattle.std.proofs.lemmas.List.{take-append-le}
 use Rattle.stock_nums.specs.declared.numbers.RecordNo.{RecordNo}
 use Rattle.stock_model.specs.History.{records, covered}
 use Rattle.stock_model.specs.PostingOrder.{posting_line}
@@ -15,6 +16,29 @@ use Rattle.repost_build.specs.Builds.{IsOf}
 use Rattle.repost_build.specs.Readings.{suspects_in, target_of, fetches_of, turns_of, IsUnchanged}
 use Rattle.repost_build.specs.declared.build.Build.{Build}
 use Rattle.repost_worker.specs.Turns.{records_of, IsWorkOf, IsCleanOf, CanFetch, IsFetched, IsPublished}
+
+-- a new build can work on a book that covers nothing
+pub work-start : (history : List Deed) (build : Build) → IsOf [] build → covered history ≡ 0 → IsWorkOf history build
+work-start history build of none =
+    record {
+      of = subst (λ (n : ℕ). IsOf (take n (records history)) build) (sym of.target) of;
+      within = omega (arith, of.target);
+      base = omega (arith, of.target, of.fetched, none);
+      fetches = omega (arith, of.target, of.fetched);
+    }
+
+-- and goes on where a record is accepted
+pub work-kept : (history : List Deed) (build : Build) (item : Record) → IsWorkOf history build
+    → IsWorkOf (history ++ deed.Kept item ∷ []) build
+work-kept history build item work =
+    let more = records-append history (deed.Kept item ∷ []) in
+    record {
+      of = subst (λ (rs : List Record). IsOf rs build)
+          (sym (ap (take (target_of build)) more ∙ take-append-le (target_of build) (records history) (item ∷ []) work.within)) work.of;
+      within = omega (arith, work.within, ap length more, length-append (records history) (item ∷ []));
+      base = work.base ∙ sym (covered_after-append 0 history (deed.Kept item ∷ []));
+      fetches = work.fetches;
+    }
 
 -- a turn that found no suspect changed nothing
 module _ (history : List Deed) (old mid : Build) (same : IsUnchanged old mid) where

@@ -1,12 +1,22 @@
-//! What holds of runs of turns. None of it runs: these are facts about plain histories and builds, with their proofs.
-ghost use Rattle.std.specs.Prelude.{◌≡◌, ◌+◌, ◌*◌, ◌≤◌, ℕ, List, length, Option, Some, None};
+//! What holds of turns and runs of turns. None of it runs: these are facts about plain histories and builds, with their proofs.
+ghost use Rattle.std.specs.Prelude.{◌≡◌, ◌+◌, ◌*◌, ◌≤◌, ℕ, List, [], ◌∷◌, ◌++◌, length, Option, Some, None};
 ghost use Rattle.stock_nums.specs.declared.memory.NoMemory.{NoMemory};
 ghost use Rattle.stock_model.specs.History.{records, accepted, covered};
 ghost use Rattle.stock_model.specs.PostingOrder.{posting_line};
 ghost use Rattle.stock_model.specs.declared.deeds.Deed.{Deed};
+ghost use Rattle.stock_model.specs.declared.deeds.Deed.TheVariants as deed;
+ghost use Rattle.stock_model.specs.declared.records.Record.{Record};
+ghost use Rattle.repost_build.specs.Builds.{IsOf};
 ghost use Rattle.repost_build.specs.declared.build.Build.{Build};
 ghost use Rattle.repost_worker.specs.Runs.{IsRun};
 ghost use Rattle.repost_worker.specs.Turns.{IsWorkOf};
+
+/// A new build can work on a book that covers nothing, whatever was accepted, and goes on where a record is accepted.
+pub fn work_goes_on()
+    ensures start { (history : List Deed) (build : Build) → IsOf [] build → covered history ≡ 0 → IsWorkOf history build }
+    ensures kept { (history : List Deed) (build : Build) (item : Record) → IsWorkOf history build
+        → IsWorkOf (history ++ deed.Kept item ∷ []) build }
+{}
 
 /// A run accepts no record. Where it has no limit and no turn was refused, it covers all that were accepted.
 pub fn a_run_without_limit_covers_all()
