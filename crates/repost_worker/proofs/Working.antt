@@ -1,49 +1,22 @@
--- A build works on for a book that takes in records, and what turns add to a history are publications.
-use Rattle.std.proofs.Common.{◌≡◌, ℕ, ◌<◌, ◌≤◌, List, [], ◌∷◌, ◌++◌, length, take, Result, Ok, Err, OnOk, OnErr, sym, ap, ◌∙◌, subst, append-nil, append_assoc, arith}
-use Rattle.std.proofs.lemmas.List.{length-append, take-append-le}
+-- What turns add to a history are publications, and it stays legal.
+use Rattle.std.proofs.Common.{◌≡◌, ◌<◌, ◌≤◌, List, [], ◌∷◌, ◌++◌, length, Result, Ok, Err, OnOk, OnErr, sym, ap, ◌∙◌, subst, append-nil, append_assoc, arith}
 use Rattle.stock_nums.specs.declared.numbers.RecordNo.{RecordNo}
 use Rattle.generation_book.specs.State.{BookState}
 use Rattle.stock_model.specs.declared.faults.PostFault.{PostFault}
-use Rattle.stock_model.specs.History.{records, accepted, covered, IsLegal}
+use Rattle.stock_model.specs.History.{accepted, covered, IsLegal}
 use Rattle.stock_model.specs.Run.{ArePublications}
 use Rattle.stock_model.specs.declared.deeds.Deed.{Deed}
 use Rattle.stock_model.specs.declared.deeds.Deed.TheVariants as deed
 use Rattle.stock_model.specs.declared.records.Record.{Record}
-use Rattle.stock_laws.proofs.Histories.{records-append, covered_after-append, IsLegalAfter-append}
-use Rattle.repost_build.specs.Builds.{IsOf}
+use Rattle.stock_laws.proofs.Histories.{IsLegalAfter-append}
 use Rattle.repost_build.specs.Readings.{target_of}
 use Rattle.repost_build.specs.declared.build.Build.{Build}
 use Rattle.repost_worker.specs.Published.{Publishes}
 use Rattle.repost_worker.specs.Runs.{AreTurnsTo}
-use Rattle.repost_worker.specs.Turns.{records_of, IsWorkOf, IsTurnTo}
+use Rattle.repost_worker.specs.Turns.{IsWorkOf, IsTurnTo}
 use Rattle.repost_worker.specs.declared.turn.Turned.{Turned}
 use Rattle.repost_worker.specs.declared.turn.Turned.TheVariants.{Valued, Fetched, Published, Idle}
-use Rattle.repost_worker.proofs.Works.{records-published}
-
--- a build of no record works for an empty book
-pub work-start : (build : Build) → IsOf [] build → IsWorkOf [] build
-work-start build of =
-    let none : target_of build ≡ 0 = of.target in
-    record {
-      of = subst (λ (n : ℕ). IsOf (take n (records [])) build) (sym none) of;
-      within = omega (arith, none);
-      base = omega (arith, of.fetched, none);
-      fetches = omega (arith, of.fetched, none);
-    }
-
--- it works on once a record came in
-pub work-kept : (history : List Deed) (item : Record) (build : Build) → IsWorkOf history build
-    → IsWorkOf (history ++ deed.Kept item ∷ []) build
-work-kept history item build work =
-    let more : records (history ++ deed.Kept item ∷ []) ≡ records history ++ item ∷ [] = records-append history (deed.Kept item ∷ []) in
-    let front : records_of (history ++ deed.Kept item ∷ []) build ≡ records_of history build =
-    ap (take (target_of build)) more ∙ take-append-le (target_of build) (records history) (item ∷ []) work.within in
-    record {
-      of = subst (λ (journal : List Record). IsOf journal build) (sym front) work.of;
-      within = omega (arith, work.within, ap length more, length-append (records history) (item ∷ []));
-      base = work.base ∙ sym (covered_after-append 0 history (deed.Kept item ∷ []));
-      fetches = work.fetches;
-    }
+use Rattle.repost_worker.proofs.Works.{records-published, work-kept}
 
 pub publishes-none : (old new : List Deed) → new ≡ old → Publishes old new
 publishes-none old new same = ([], tt, same ∙ sym (append-nil old))
@@ -71,7 +44,7 @@ pub work-posted : (r : Result RecordNo PostFault) (old new : BookState) (item : 
     → OnOk r (new.history ≡ old.history ++ deed.Kept item ∷ []) → OnErr r (new ≡ old) → IsWorkOf old.history build
     → IsWorkOf new.history build
 work-posted (Ok n) old new item build kept unchanged work =
-    subst (λ (h : List Deed). IsWorkOf h build) (sym kept) (work-kept old.history item build work)
+    subst (λ (h : List Deed). IsWorkOf h build) (sym kept) (work-kept old.history build item work)
 work-posted (Err f) old new item build kept unchanged work =
     subst (λ (h : List Deed). IsWorkOf h build) (ap (λ (b : BookState). b.history) (sym unchanged)) work
 

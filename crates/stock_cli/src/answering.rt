@@ -31,7 +31,11 @@ use voucher_json::reading::read_request;
 /// # Errors
 ///
 /// `NoMemory`: no record was accepted. What turns had published by then stands.
-pub fn answer_to(alloc: Global, book: &mut RevaluedBook, line: &OpenLine) -> Result<Answer, NoMemory>
+pub fn answer_to(
+    alloc: Global,
+    book: &mut RevaluedBook,
+    line: &OpenLine,
+) -> Result<Answer, NoMemory>
     ensures step { IfOk result (λ answer. (text : List ℕ) → StandsForLine line.now text → Step (IsReadAs false) (state_of book.old.history) text answer (state_of book.new.history)) }
     ensures text { IfOk result HasText }
     ensures keeps { IfOk result ShowsKeptStock }

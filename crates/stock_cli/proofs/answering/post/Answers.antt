@@ -16,5 +16,5 @@ returns-in-Ok-clause-answers c =
 
 pub returns-in-Err-clause-answers : goal.returns-in-Err-clause-answers
 returns-in-Err-clause-answers c =
-    IsAnswerTo-told _ _ _ c.in-Err.fault c.refused.result refl c.in-Err.ensures.fault (ap (λ b. b.history) c.in-Err.ensures.unchanged) 
+    IsAnswerTo-told _ _ _ c.in-Err.fault c.refused.result refl c.in-Err.ensures.fault (ap (λ b. b.history) c.in-Err.ensures.unchanged)
     (subst (λ (h : List Deed). IfOk c.refused.result (λ answer. answer ≡ refusal (records h) c.in-Err.fault)) c.book.ensures c.refused.ensures.answer) c.refused.ensures.text
