@@ -5,6 +5,4 @@ pub mod revalued_book;
 pub mod run;
 pub mod run_laws;
 mod sending;
-#[cfg(test)]
-mod tests;
 pub mod turn;

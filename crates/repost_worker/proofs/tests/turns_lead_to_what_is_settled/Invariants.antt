@@ -1,5 +1,0 @@
--- The steps are counted in the ledger that the blank one becomes.
-use Rattle.repost_worker.proofs.tests.turns_lead_to_what_is_settled.Given as goal
-
-abbrev pub ghosts-counted : goal.ghosts-counted
-ghosts-counted g a = record { name = a.blank.name; parts = a.blank.parts }
