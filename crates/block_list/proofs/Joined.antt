@@ -193,3 +193,11 @@ filled-replaced bs i o x within filled =
     let own : IsFilled b = filled i [] within in
     let same : length (set b o x) ≡ length b = length-set b o x in
     All-set IsFilled bs i (set b o x) (record { some = omega (arith, same, own.some); room = omega (arith, same, own.room) }) filled
+
+-- There are no more blocks than items.
+pub few_blocks : {T : Type 0} (bs : List (List T)) → All IsFilled bs → length bs ≤ length (joined bs)
+few_blocks [] filled = omega arith
+few_blocks (b ∷ bs) filled =
+    let own = filled zero b (omega arith) in
+    let later = few_blocks bs (λ i d within. filled (suc i) d (omega (arith, within))) in
+    omega (arith, own.some, later, length-append b (joined bs))

@@ -1,4 +1,5 @@
 pub mod Totals
 pub mod Crossings
 pub mod Joined
+pub mod Pressure
 pub mod Sides

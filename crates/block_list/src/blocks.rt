@@ -1,18 +1,15 @@
 //! Blocks side by side: where an item stands in them.
-ghost use Rattle.std.specs.Prelude.{◌≡◌, ◌+◌, ◌<◌, ◌≤◌, ℕ, List, [], ◌∷◌, Some, All, slice_get, remove, length, take, drop, insert, slice_set, vec_len, vec_capacity, OnOk};
-ghost use Rattle.block_list.specs.Blocks.{joined, block_at, IsFilled, IsSpot, IsGap};
+ghost use Rattle.std.specs.Prelude.{◌≡◌, ◌+◌, ◌*◌, ◌^◌, ◌<◌, ◌≤◌, ◌⊎◌, ℕ, List, [], ◌∷◌, Some, All, slice_get, remove, length, take, drop, insert, slice_set, vec_len, vec_capacity, OnOk};
+ghost use Rattle.block_list.specs.Blocks.{joined, block_at, pressure, room_for, HaveRoom, IsFilled, IsSpot, IsGap};
 ghost use Rattle.block_list.specs.Bounds.{HasSides};
-ghost use Rattle.block_list.specs.declared.sums.TheConstants.{MOST};
+ghost use Rattle.block_list.specs.declared.sums.TheConstants.{MOST, HALF};
 
 use crate::block::Block;
 use crate::bound::{Bound, search};
-use crate::sums::MOST;
+use crate::sums::{HALF, MOST};
 use crate::weigh::Weigh;
 use std::alloc::Global;
 use stock_nums::memory::NoMemory;
-
-// Two blocks side by side have more items together.
-const THIN: usize = MOST / 2;
 
 /// An item by its block, and by its index there.
 #[derive(Clone, Copy)]
@@ -97,7 +94,7 @@ fn split<T: Copy, W: Weigh<T>>(
     requires pool { 0 < vec_len pool.old }
     requires empty { All (λ b. b ≡ []) pool.old.items }
     ensures blocks { blocks.new.items ≡ insert (slice_set blocks.old.items block (take cut (block_at blocks.old.items block))) (block + 1) (drop cut (block_at blocks.old.items block)) }
-    ensures room { vec_capacity blocks.new ≡ vec_capacity blocks.old }
+    ensures room { (vec_capacity blocks.new ≡ vec_capacity blocks.old) × (vec_capacity pool.new ≡ vec_capacity pool.old) }
     ensures pool { vec_len pool.new + 1 ≡ vec_len pool.old }
     ensures empty { All (λ b. b ≡ []) pool.new.items }
 {
@@ -111,12 +108,13 @@ fn split<T: Copy, W: Weigh<T>>(
 /// fill where items come in order, and else in the middle.
 fn cut_of(blocks: usize, gap: Spot) -> usize
     requires { gap.block < blocks }
-    ensures { (0 < result) × (result < MOST) }
+    ensures within { (HALF ≤ result) × (result < MOST) }
+    ensures middle { gap.block + 1 < blocks → result ≡ HALF }
 {
     if gap.block + 1 == blocks && gap.index == MOST - 1 {
         MOST - 1
     } else {
-        MOST / 2
+        HALF
     }
 }
 
@@ -136,9 +134,10 @@ fn put_among<T: Copy, W: Weigh<T>>(
     ensures items { (at : ℕ) → IsGap blocks.old.items at gap.block gap.index → joined blocks.new.items ≡ insert (joined blocks.old.items) at item }
     ensures filled { All IsFilled blocks.new.items }
     ensures empty { All (λ b. b ≡ []) pool.new.items }
-    ensures room { vec_capacity blocks.new ≡ vec_capacity blocks.old }
+    ensures room { (vec_capacity blocks.new ≡ vec_capacity blocks.old) × (vec_capacity pool.new ≡ vec_capacity pool.old) }
     ensures count { vec_len blocks.new + vec_len pool.new ≡ vec_len blocks.old + vec_len pool.old }
     ensures pool { vec_len pool.old ≤ vec_len pool.new + 1 }
+    ensures pressure { pressure blocks.new.items + HALF * vec_len pool.old ≤ pressure blocks.old.items + HALF * vec_len pool.new + 1 }
 {
     insert_in(blocks, gap, item);
     if blocks[gap.block].len() < MOST {
@@ -156,7 +155,7 @@ fn start<T: Copy, W: Weigh<T>>(blocks: &mut Vec<Block<T, W>>, pool: &mut Vec<Blo
     requires empty { All (λ b. b ≡ []) pool.old.items }
     ensures blocks { blocks.new.items ≡ (item ∷ []) ∷ [] }
     ensures empty { All (λ b. b ≡ []) pool.new.items }
-    ensures room { vec_capacity blocks.new ≡ vec_capacity blocks.old }
+    ensures room { (vec_capacity blocks.new ≡ vec_capacity blocks.old) × (vec_capacity pool.new ≡ vec_capacity pool.old) }
     ensures pool { vec_len pool.new + 1 ≡ vec_len pool.old }
 {
     let mut block = pool.take_last();
@@ -181,9 +180,10 @@ pub(crate) fn put<T: Copy, W: Weigh<T>>(
     ensures items { joined blocks.new.items ≡ insert (joined blocks.old.items) index item }
     ensures filled { All IsFilled blocks.new.items }
     ensures empty { All (λ b. b ≡ []) pool.new.items }
-    ensures room { vec_capacity blocks.new ≡ vec_capacity blocks.old }
+    ensures room { (vec_capacity blocks.new ≡ vec_capacity blocks.old) × (vec_capacity pool.new ≡ vec_capacity pool.old) }
     ensures count { vec_len blocks.new + vec_len pool.new ≡ vec_len blocks.old + vec_len pool.old }
     ensures pool { vec_len pool.old ≤ vec_len pool.new + 1 }
+    ensures pressure { pressure blocks.new.items + HALF * vec_len pool.old ≤ pressure blocks.old.items + HALF * vec_len pool.new + 1 }
 {
     if blocks.is_empty() {
         start(blocks, pool, item);
@@ -228,9 +228,10 @@ pub(crate) fn put_before<T: Copy, W: Weigh<T>, B: Bound<T>>(
     ensures items { (at : ℕ) × HasSides (B.above bound.now) (joined blocks.old.items) at × (joined blocks.new.items ≡ insert (joined blocks.old.items) at item) }
     ensures filled { All IsFilled blocks.new.items }
     ensures empty { All (λ b. b ≡ []) pool.new.items }
-    ensures room { vec_capacity blocks.new ≡ vec_capacity blocks.old }
+    ensures room { (vec_capacity blocks.new ≡ vec_capacity blocks.old) × (vec_capacity pool.new ≡ vec_capacity pool.old) }
     ensures count { vec_len blocks.new + vec_len pool.new ≡ vec_len blocks.old + vec_len pool.old }
     ensures pool { vec_len pool.old ≤ vec_len pool.new + 1 }
+    ensures pressure { pressure blocks.new.items + HALF * vec_len pool.old ≤ pressure blocks.old.items + HALF * vec_len pool.new + 1 }
 {
     if blocks.is_empty() {
         start(blocks, pool, item);
@@ -251,16 +252,16 @@ fn remove_in<T: Copy, W: Weigh<T>>(blocks: &mut Vec<Block<T, W>>, spot: Spot) ->
     blocks[spot.block].remove(spot.index)
 }
 
-/// Keeps an empty block for later where the pool has room for it.
+/// Keeps an empty block for later.
 fn keep<T: Copy, W: Weigh<T>>(pool: &mut Vec<Block<T, W>>, block: Block<T, W>)
     requires none { block ≡ [] }
     requires empty { All (λ b. b ≡ []) pool.old.items }
+    requires room { vec_len pool.old < vec_capacity pool.old }
     ensures empty { All (λ b. b ≡ []) pool.new.items }
-    ensures pool { vec_len pool.old ≤ vec_len pool.new }
+    ensures pool { vec_len pool.new ≡ vec_len pool.old + 1 }
+    ensures room { vec_capacity pool.new ≡ vec_capacity pool.old }
 {
-    if pool.len() < pool.capacity() {
-        pool.push_reserved(block);
-    }
+    pool.push_reserved(block);
 }
 
 /// Joins a block and the one after it where both are thin.
@@ -271,17 +272,19 @@ fn join_at<T: Copy, W: Weigh<T>>(
 )
     requires filled { All IsFilled blocks.old.items }
     requires empty { All (λ b. b ≡ []) pool.old.items }
+    requires pool { vec_len blocks.old + vec_len pool.old ≤ vec_capacity pool.old }
     ensures items { joined blocks.new.items ≡ joined blocks.old.items }
     ensures filled { All IsFilled blocks.new.items }
     ensures empty { All (λ b. b ≡ []) pool.new.items }
+    ensures room { (vec_capacity blocks.new ≡ vec_capacity blocks.old) × (vec_capacity pool.new ≡ vec_capacity pool.old) }
+    ensures count { vec_len blocks.new + vec_len pool.new ≡ vec_len blocks.old + vec_len pool.old }
     ensures pool { vec_len pool.old ≤ vec_len pool.new }
-    ensures room { vec_capacity blocks.new ≡ vec_capacity blocks.old }
-    ensures count { vec_len blocks.new ≤ vec_len blocks.old }
+    ensures pressure { pressure blocks.new.items + HALF * vec_len pool.old ≤ pressure blocks.old.items + HALF * vec_len pool.new }
 {
     if block >= blocks.len() || block + 1 >= blocks.len() {
         return;
     }
-    if blocks[block].len() + blocks[block + 1].len() > THIN {
+    if blocks[block].len() + blocks[block + 1].len() > HALF {
         return;
     }
     let mut next = blocks.remove(block + 1);
@@ -299,12 +302,14 @@ fn drop_empty<T: Copy, W: Weigh<T>>(
     requires filled { (bs : List (List T)) × All IsFilled bs × (blocks.old.items ≡ slice_set bs block (block_at blocks.old.items block)) }
     requires room { length (block_at blocks.old.items block) < MOST }
     requires empty { All (λ b. b ≡ []) pool.old.items }
+    requires pool { vec_len blocks.old + vec_len pool.old ≤ vec_capacity pool.old }
     ensures items { joined blocks.new.items ≡ joined blocks.old.items }
     ensures filled { All IsFilled blocks.new.items }
     ensures empty { All (λ b. b ≡ []) pool.new.items }
+    ensures room { (vec_capacity blocks.new ≡ vec_capacity blocks.old) × (vec_capacity pool.new ≡ vec_capacity pool.old) }
+    ensures count { vec_len blocks.new + vec_len pool.new ≡ vec_len blocks.old + vec_len pool.old }
     ensures pool { vec_len pool.old ≤ vec_len pool.new }
-    ensures room { vec_capacity blocks.new ≡ vec_capacity blocks.old }
-    ensures count { vec_len blocks.new ≤ vec_len blocks.old }
+    ensures pressure { pressure blocks.new.items + HALF * vec_len pool.old ≤ pressure blocks.old.items + HALF * vec_len pool.new }
 {
     if blocks[block].len() > 0 {
         return;
@@ -322,13 +327,15 @@ pub(crate) fn take_out<T: Copy, W: Weigh<T>>(
     requires within { index < length (joined blocks.old.items) }
     requires filled { All IsFilled blocks.old.items }
     requires empty { All (λ b. b ≡ []) pool.old.items }
+    requires pool { vec_len blocks.old + vec_len pool.old ≤ vec_capacity pool.old }
     ensures item { Some result ≡ slice_get (joined blocks.old.items) index }
     ensures items { joined blocks.new.items ≡ remove (joined blocks.old.items) index }
     ensures filled { All IsFilled blocks.new.items }
     ensures empty { All (λ b. b ≡ []) pool.new.items }
+    ensures room { (vec_capacity blocks.new ≡ vec_capacity blocks.old) × (vec_capacity pool.new ≡ vec_capacity pool.old) }
+    ensures count { vec_len blocks.new + vec_len pool.new ≡ vec_len blocks.old + vec_len pool.old }
     ensures pool { vec_len pool.old ≤ vec_len pool.new }
-    ensures room { vec_capacity blocks.new ≡ vec_capacity blocks.old }
-    ensures count { vec_len blocks.new ≤ vec_len blocks.old }
+    ensures pressure { pressure blocks.new.items + HALF * vec_len pool.old ≤ pressure blocks.old.items + HALF * vec_len pool.new }
 {
     let spot = spot_of(blocks.as_slice(), index);
     let item = remove_in(blocks, spot);
@@ -346,28 +353,75 @@ pub(crate) fn replace<T: Copy, W: Weigh<T>>(blocks: &mut Vec<Block<T, W>>, index
     ensures filled { All IsFilled blocks.new.items }
     ensures room { vec_capacity blocks.new ≡ vec_capacity blocks.old }
     ensures count { vec_len blocks.new ≡ vec_len blocks.old }
+    ensures pressure { pressure blocks.new.items ≡ pressure blocks.old.items }
 {
     let spot = spot_of(blocks.as_slice(), index);
     blocks[spot.block].set(spot.index, item);
 }
 
-/// Fills the pool up to so many empty blocks.
+/// How many empty blocks are enough for `n` more items beside so many blocks. Half a block of items is put in before a block is
+/// parted, but for those that are full by half already.
+fn enough_for(n: usize, blocks: usize) -> usize
+    requires { blocks ≤ 2 ^ 20 }
+    ensures bound { result ≤ 2 ^ 60 }
+    ensures enough { (n ≤ result) ⊎ (n + HALF * (blocks + 1) ≤ HALF * result) }
+{
+    n.min(n / HALF + blocks + 2)
+}
+
+/// Has enough empty blocks in the pool for `n` more items.
 ///
 /// # Errors
 ///
 /// `NoMemory`: some may have been added.
-pub(crate) fn fill<T: Copy, W: Weigh<T>>(
+pub(crate) fn supply<T: Copy, W: Weigh<T>>(
+    alloc: Global,
+    blocks: &mut Vec<Block<T, W>>,
+    pool: &mut Vec<Block<T, W>>,
+    n: usize,
+) -> Result<(), NoMemory>
+    requires filled { All IsFilled blocks.old.items }
+    requires few { length (joined blocks.old.items) ≤ 2 ^ 20 }
+    requires empty { All (λ b. b ≡ []) pool.old.items }
+    requires both { HaveRoom (vec_len blocks.old + vec_len pool.old) (vec_capacity blocks.old) (vec_capacity pool.old) }
+    ensures enough { OnOk result (n ≤ room_for blocks.new.items (vec_len pool.new)) }
+    ensures blocks { blocks.new.items ≡ blocks.old.items }
+    ensures empty { All (λ b. b ≡ []) pool.new.items }
+    ensures kept { vec_len pool.old ≤ vec_len pool.new }
+    ensures both { HaveRoom (vec_len blocks.new + vec_len pool.new) (vec_capacity blocks.new) (vec_capacity pool.new) }
+{
+    let enough = enough_for(n, blocks.len());
+    if pool.len() >= enough {
+        return Ok(());
+    }
+    let all = blocks.len() + enough;
+    blocks.reserve(enough)?;
+    pool.reserve(all - pool.len())?;
+    fill(alloc, pool, enough)
+}
+
+/// Fills the pool up to so many empty blocks, for which there is room.
+///
+/// # Errors
+///
+/// `NoMemory`: some may have been added.
+fn fill<T: Copy, W: Weigh<T>>(
     alloc: Global,
     pool: &mut Vec<Block<T, W>>,
     n: usize,
 ) -> Result<(), NoMemory>
-    requires { All (λ b. b ≡ []) pool.old.items }
-    ensures full { OnOk result (n ≤ vec_len pool.new) }
+    requires empty { All (λ b. b ≡ []) pool.old.items }
+    requires room { n ≤ vec_capacity pool.old }
+    requires less { vec_len pool.old ≤ n }
+    ensures full { OnOk result (vec_len pool.new ≡ n) }
+    ensures few { vec_len pool.new ≤ n }
     ensures empty { All (λ b. b ≡ []) pool.new.items }
     ensures kept { vec_len pool.old ≤ vec_len pool.new }
+    ensures room { vec_capacity pool.new ≡ vec_capacity pool.old }
 {
     while pool.len() < n {
-        pool.push(Block::new(alloc)?)?;
+        let block = Block::new(alloc)?;
+        pool.push_reserved(block);
     }
     Ok(())
 }

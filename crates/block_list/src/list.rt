@@ -6,7 +6,7 @@ ghost use Rattle.block_list.specs.Bounds.{HasSides};
 ghost use Rattle.block_list.specs.Sums.{total, IsFirstBelow};
 
 use crate::block::Block;
-use crate::blocks::{fill, put, put_before, replace, spot_of, take_out};
+use crate::blocks::{put, put_before, replace, spot_of, supply, take_out};
 use crate::bound::Bound;
 use crate::crossing::Crossing;
 use crate::walks::{first_below, partition_point, sum_before};
@@ -26,16 +26,17 @@ pub struct BlockList<T: Copy, W: Weigh<T>> {
 }
 
 impl<T: Copy, W: Weigh<T>> Model for BlockList<T, W> {
-    ghost use Rattle.std.specs.Prelude.{◌≡◌, ◌-◌, ◌≤◌, ◌^◌, [], length, min, All, vec_len, vec_capacity};
-    ghost use Rattle.block_list.specs.Blocks.{joined, IsFilled};
+    ghost use Rattle.std.specs.Prelude.{◌≡◌, ◌+◌, ◌≤◌, ◌^◌, [], length, All, vec_len, vec_capacity};
+    ghost use Rattle.block_list.specs.Blocks.{joined, room_for, HaveRoom, IsFilled};
     ghost use Rattle.block_list.specs.State.{ListState};
 
     ghost Value = { ListState T };
 
-    ghost view = { λ list. record { items = joined list.blocks.items; spare = min (vec_len list.pool) (vec_capacity list.blocks - vec_len list.blocks) } };
+    ghost view = { λ list. record { items = joined list.blocks.items; spare = room_for list.blocks.items (vec_len list.pool) } };
 
     ghost invariant = { λ list. (All IsFilled list.blocks.items) × (All (λ b. b ≡ []) list.pool.items)
-        × (list.len ≡ length (joined list.blocks.items)) × (list.len ≤ 2 ^ 20) };
+        × (list.len ≡ length (joined list.blocks.items)) × (list.len ≤ 2 ^ 20)
+        × HaveRoom (vec_len list.blocks + vec_len list.pool) (vec_capacity list.blocks) (vec_capacity list.pool) };
 }
 
 impl<T: Copy, W: Weigh<T>> BlockList<T, W> {
@@ -134,8 +135,7 @@ impl<T: Copy, W: Weigh<T>> BlockList<T, W> {
         ensures unchanged { self.new.items ≡ self.old.items }
         ensures room_stays { self.old.spare ≤ self.new.spare }
     {
-        self.blocks.reserve(n)?;
-        fill(self.alloc, &mut self.pool, n)
+        supply(self.alloc, &mut self.blocks, &mut self.pool, n)
     }
 
     /// What the items before the index count together.

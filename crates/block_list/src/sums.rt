@@ -8,6 +8,9 @@ use crate::weigh::Weigh;
 /// The most items that a block takes.
 pub(crate) const MOST: usize = 128;
 
+/// Half of them.
+pub(crate) const HALF: usize = MOST / 2;
+
 /// What some items count together, and the least of what fronts of them do.
 #[derive(Clone, Copy)]
 pub(crate) struct Sums {

@@ -2,8 +2,9 @@
 use Rattle.std.proofs.Common.{◌≡◌, ◌≤◌, [], length, ap, sym, ◌∙◌, subst, arith}
 use Rattle.std.specs.List.{All}
 use Rattle.std.proofs.lemmas.List.{get_or_default}
-use Rattle.block_list.specs.Blocks.{joined, block_at, IsFilled}
+use Rattle.block_list.specs.Blocks.{joined, block_at, pressure, IsFilled}
 use Rattle.block_list.proofs.Joined.{joined-without, filled-without}
+use Rattle.block_list.proofs.Pressure.{pressure-removed}
 use Rattle.block_list.proofs.blocks.drop_empty.Goals as goal
 
 pub returns-clause-items : goal.returns-clause-items
@@ -19,3 +20,7 @@ returns-clause-filled g c =
     let bs = c.args.blocks.now.items in
     let i = c.args.block in
     subst (All IsFilled) (sym c.remove-none.ensures.items) (filled-without IsFilled c.requires.filled.0 bs i (block_at bs i) c.requires.filled.1 c.requires.filled.2)
+
+pub returns-clause-pressure : goal.returns-clause-pressure
+returns-clause-pressure g c =
+    omega (arith, pressure-removed c.args.blocks.now.items c.args.block c.requires.within, ap pressure c.remove-none.ensures.items, c.keep.ensures.pool)
