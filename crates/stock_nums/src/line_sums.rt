@@ -1,5 +1,5 @@
 //! Numbers that are added up for lines of vouchers.
-ghost use Rattle.std.specs.Prelude.{◌≡◌, ◌+◌, ◌^◌, ◌<◌, true, if◌then◌else◌, OnOk};
+ghost use Rattle.std.specs.Prelude.{◌≡◌, ◌+◌, ◌-◌, ◌^◌, ◌<◌, ◌≤◌, true, if◌then◌else◌, OnOk};
 ghost use Rattle.stock_nums.specs.LineSums.{number_of, has_room};
 ghost use Rattle.stock_nums.specs.Targets.{is_same_target};
 ghost use Rattle.stock_nums.specs.declared.cause.Target.{Target};
@@ -57,6 +57,17 @@ impl LineSums {
         let sum = self.of(line) + number;
         let _ = self.by_line.insert(line, sum);
     }
+
+    /// Takes from the number of a line, which is no less. It takes no memory.
+    pub fn subtract(&mut self, line: Target, number: u128)
+        requires within { number ≤ number_of self.old line }
+        ensures { (other : Target) → number_of self.new other ≡ number_of self.old other - (if is_same_target line other then number else 0) }
+    {
+        let before = self.of(line);
+        if before > 0 {
+            let _ = self.by_line.insert(line, before - number);
+        }
+    }
 }
 
 #[cfg(test)]
@@ -78,6 +89,10 @@ mod tests {
         sums.reserve(line)?;
         sums.add(line, 2);
         assert_eq!(rt; sums.of(line), 5);
+        if sums.of(line) == 5 {
+            sums.subtract(line, 4);
+        }
+        assert_eq!(rt; sums.of(line), 1);
         assert_eq!(rt; sums.of(other), 0);
         Ok(())
     }
