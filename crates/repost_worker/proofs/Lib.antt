@@ -1,3 +1,5 @@
+pub mod FreshTurns
+pub mod Paces
 pub mod RunLaws
 pub mod Running
 pub mod TurnsAhead

@@ -42,7 +42,7 @@ turns-last (first ∷ turns) turned history build history' build' run =
     (rest.0, rest.1, (run.0, run.1, run.2, rest.2), rest.3)
 
 -- after an idle turn all that was accepted is covered
-covered-idle : (turns before : List Turned) (history : List Deed) (build : Build) (history' : List Deed) (build' : Build)
+pub covered-idle : (turns before : List Turned) (history : List Deed) (build : Build) (history' : List Deed) (build' : Build)
     → turns ≡ before ++ Idle ∷ [] → AreTurnsTo turns history build history' build' → covered history' ≡ accepted history'
 covered-idle turns before history build history' build' is run =
     let last = turns-last before Idle history build history' build' (subst (λ (ts : List Turned). AreTurnsTo ts history build history' build') is run) in

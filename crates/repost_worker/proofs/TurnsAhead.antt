@@ -118,7 +118,7 @@ ahead-turned journal old new place turned =
     (AreAhead-turn (added journal) (posting_line journal) (found_in old) (suspects_in old) turned.entry (found_in new) (suspects_in new) turned.turn)
 
 -- the first records have no more movements than all
-movements-front : (journal : List Record) (n : ℕ) → length (posting_line (take n journal)) ≤ length (posting_line journal)
+pub movements-front : (journal : List Record) (n : ℕ) → length (posting_line (take n journal)) ≤ length (posting_line journal)
 movements-front journal n = omega (arith, length-posting_line (take n journal), length-posting_line journal, length-all_entries-take journal n)
 
 -- ---- the fetches and publications

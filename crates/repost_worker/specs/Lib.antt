@@ -1,3 +1,4 @@
 pub mod Turns
 pub mod Published
 pub mod Runs
+pub mod Paces

@@ -3,6 +3,7 @@ ghost use Rattle.std.specs.Prelude.{◌≡◌, ◌⊎◌, ◌<◌, List, [], ◌
 ghost use Rattle.stock_model.specs.declared.deeds.Deed.TheVariants as deed;
 ghost use Rattle.stock_model.specs.Faults.{fault_but_short, fault};
 ghost use Rattle.stock_model.specs.History as history;
+ghost use Rattle.repost_worker.specs.Paces.{pace_of, first_pace, IsInPace, IsSamePace, WorksInPace};
 ghost use Rattle.repost_worker.specs.Published.{Publishes};
 ghost use Rattle.repost_worker.specs.Turns.{IsWorkOf};
 
@@ -18,7 +19,8 @@ use stock_nums::memory::NoMemory;
 use stock_nums::numbers::RecordNo;
 use stock_nums::steps::Steps;
 
-/// A book, with a build that works for it. Contracts see the book's history.
+/// A book, with a build that works for it. Contracts see the book's history and how far
+/// the build has come.
 #[derive(Drop)]
 pub struct RevaluedBook {
     book: Book,
@@ -26,12 +28,12 @@ pub struct RevaluedBook {
 }
 
 impl Model for RevaluedBook {
-    ghost use Rattle.generation_book.specs.State.{BookState};
+    ghost use Rattle.repost_worker.specs.Paces.{Pace, pace_of};
     ghost use Rattle.repost_worker.specs.Turns.{IsWorkOf};
 
-    ghost Value = { BookState };
+    ghost Value = { Pace };
 
-    ghost view = { λ revalued. record { history = revalued.book.history } };
+    ghost view = { λ revalued. pace_of revalued.book.history revalued.build };
 
     ghost invariant = { λ revalued. IsWorkOf revalued.book.history revalued.build };
 }
@@ -39,7 +41,7 @@ impl Model for RevaluedBook {
 impl RevaluedBook {
     /// The empty book. It takes no memory.
     pub fn start(alloc: Global) -> RevaluedBook
-        ensures { result.history ≡ [] }
+        ensures { result ≡ first_pace }
     {
         RevaluedBook {
             book: Book::start(alloc),
@@ -62,6 +64,7 @@ impl RevaluedBook {
         ensures fault { IfErr result (λ f. (f ≡ PostFault.NoMemory) × (fault_but_short (history.records self.old.history) item ≡ None)
             ⊎ (fault (history.records self.old.history) item ≡ Some f)) }
         ensures unchanged { OnErr result (self.new ≡ self.old) }
+        ensures pace { IsSamePace self.old self.new }
         ensures legal { OnOk result (history.IsLegal self.new.history) }
     {
         self.book.post(alloc, item)
@@ -75,6 +78,8 @@ impl RevaluedBook {
     /// `NoMemory`: memory was wanting for a turn. What turns before it published stands.
     pub fn work(&mut self, alloc: Global, turns: Option<u32>) -> Result<RecordNo, NoMemory>
         requires some { IfSome turns (λ n. 0 < n) }
+        ensures pace { IfSome turns (λ n. OnOk result (WorksInPace self.old n self.new)) }
+        ensures in_pace { IsInPace self.new }
         ensures grows { Publishes self.old.history self.new.history }
         ensures covered { IfOk result (λ n. n.0 ≡ history.covered self.new.history) }
         ensures all { turns ≡ None → OnOk result (history.covered self.new.history ≡ history.accepted self.new.history) }
@@ -102,6 +107,8 @@ fn counted<L: Ledger>(
     requires work { IsWorkOf book.old.history build.old }
     requires some { IfSome turns (λ n. 0 < n) }
     ensures work { IsWorkOf book.new.history build.new }
+    ensures pace { IfSome turns (λ n. result.stopped ≡ None → WorksInPace (pace_of book.old.history build.old) n (pace_of book.new.history build.new)) }
+    ensures in_pace { IsInPace (pace_of book.new.history build.new) }
     ensures grows { Publishes book.old.history book.new.history }
     ensures covered { result.covered.0 ≡ history.covered book.new.history }
     ensures all { turns ≡ None → result.stopped ≡ None → history.covered book.new.history ≡ history.accepted book.new.history }

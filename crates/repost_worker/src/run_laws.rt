@@ -1,5 +1,5 @@
 //! What holds of turns and runs of turns. None of it runs: these are facts about plain histories and builds, with their proofs.
-ghost use Rattle.std.specs.Prelude.{◌≡◌, ◌+◌, ◌*◌, ◌≤◌, ℕ, List, [], ◌∷◌, ◌++◌, length, Option, Some, None};
+ghost use Rattle.std.specs.Prelude.{◌≡◌, ◌+◌, ◌*◌, ◌<◌, ◌≤◌, ℕ, List, [], ◌∷◌, ◌++◌, length, Option, Some, None};
 ghost use Rattle.stock_nums.specs.declared.memory.NoMemory.{NoMemory};
 ghost use Rattle.stock_model.specs.History.{records, accepted, covered};
 ghost use Rattle.stock_model.specs.PostingOrder.{posting_line};
@@ -8,6 +8,7 @@ ghost use Rattle.stock_model.specs.declared.deeds.Deed.TheVariants as deed;
 ghost use Rattle.stock_model.specs.declared.records.Record.{Record};
 ghost use Rattle.repost_build.specs.Builds.{IsOf};
 ghost use Rattle.repost_build.specs.declared.build.Build.{Build};
+ghost use Rattle.repost_worker.specs.Paces.{pace_of, IsInPace, WorksInPace};
 ghost use Rattle.repost_worker.specs.Runs.{IsRun};
 ghost use Rattle.repost_worker.specs.Turns.{IsWorkOf};
 
@@ -35,4 +36,12 @@ pub fn few_turns_cover_all()
     ensures all { (limit : ℕ) (history history' : List Deed) (build build' : Build) (steps steps' : ℕ)
         → IsWorkOf history build → IsRun (Some limit) None history build steps history' build' steps'
         → 2 * length (posting_line (records history)) + 3 ≤ limit → covered history' ≡ accepted history' }
+{}
+
+/// A build that works on a book is in pace, and a run of so many turns, none of which was refused, keeps the pace.
+pub fn a_run_keeps_pace()
+    ensures in_pace { (history : List Deed) (build : Build) → IsWorkOf history build → IsInPace (pace_of history build) }
+    ensures works { (limit : ℕ) (history history' : List Deed) (build build' : Build) (steps steps' : ℕ) → IsWorkOf history build
+        → IsRun (Some limit) None history build steps history' build' steps'
+        → WorksInPace (pace_of history build) limit (pace_of history' build') }
 {}

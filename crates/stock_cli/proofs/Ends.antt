@@ -9,6 +9,7 @@ use Rattle.stock_model.specs.InputLines.{lines_of, whole_lines_of}
 use Rattle.stock_cli.specs.declared.batch.Batch.{Batch}
 use Rattle.stock_cli.specs.declared.end.End.{End}
 use Rattle.stock_cli.specs.declared.end.End.TheVariants.{Done, NoMemory, ReadFailed, WriteFailed, TooLong}
+use Rattle.repost_worker.specs.Paces.{first_pace}
 use Rattle.stock_cli.specs.Statuses.{HasCause, IsReadToEnd, max_input}
 use Rattle.stock_cli.specs.Replies.{Answered}
 use Rattle.std.proofs.lemmas.List.Elements.{All-nil}
@@ -99,7 +100,7 @@ consumed_all (Some xs) (Some ys) taken took at_end = sym (took ∙ ap (λ (rest 
 
 -- nothing is answered where nothing was taken
 pub Answered-nothing : Answered [] []
-Answered-nothing = record { answers = []; history = []; run = refl; legal = tt; keeps = All-nil ShowsKeptStock; text_is = refl }
+Answered-nothing = record { answers = []; last = first_pace; run = refl; paced = refl; legal = tt; keeps = All-nil ShowsKeptStock; text_is = refl }
 
 module _ {S O : Type 0} (left : S → Option (List ℕ)) (taken read_faults : S → ℕ) (written : O → Option (List ℕ)) (write_faults : O → ℕ) where
   -- a run for which memory is wanting before it begins

@@ -1,3 +1,4 @@
+pub mod PacedRuns
 pub mod Parts
 pub mod Runs
 pub mod Batches

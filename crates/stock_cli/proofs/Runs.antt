@@ -1,6 +1,6 @@
 -- How a run goes on, and which answers make its steps.
-use Rattle.std.proofs.Common.{◌≡◌, ℕ, ◌+◌, ◌≤◌, Bool, true, false, ltb, List, [], ◌∷◌, ◌++◌, length, refl, sym, ap, ◌∙◌, subst, length-append, arith, inl, inr, ◌⊎◌, None, Some, Result, Ok, Err, IfOk}
-use Rattle.std.proofs.lemmas.Bool.{ltb-true, ltb-false}
+use Rattle.std.proofs.Common.{◌≡◌, ℕ, ◌+◌, ◌≤◌, Bool, false, ltb, List, [], ◌∷◌, ◌++◌, length, refl, sym, ap, ◌∙◌, subst, length-append, arith, inl, inr, ◌⊎◌, None, Some, Result, Ok, Err, IfOk}
+use Rattle.std.proofs.lemmas.Bool.{ltb-false}
 use Rattle.stock_nums.specs.declared.numbers.RecordNo.{RecordNo}
 use Rattle.stock_model.specs.declared.records.Record.{Record}
 use Rattle.stock_model.specs.declared.deeds.Deed.{Deed}
@@ -8,11 +8,10 @@ use Rattle.stock_model.specs.declared.deeds.Deed.TheVariants.{Kept}
 use Rattle.stock_nums.specs.declared.memory.NoMemory as memory
 use Rattle.stock_model.specs.declared.faults.PostFault.{PostFault}
 use Rattle.stock_model.specs.declared.faults.PostFault.TheVariants.{NoMemory}
-use Rattle.stock_model.specs.declared.requests.Request.{Request}
 use Rattle.stock_model.specs.declared.requests.Request.TheVariants.{Post}
 use Rattle.stock_model.specs.declared.answers.Answer.{Answer}
 use Rattle.stock_model.specs.declared.answers.Answer.TheVariants.{Told}
-use Rattle.stock_model.specs.declared.replies.Reply.TheVariants.{Accepted, Pending, NoSuchRecord, Worked, Settled, Long, Bad}
+use Rattle.stock_model.specs.declared.replies.Reply.TheVariants.{Accepted, Pending, NoSuchRecord, Worked, Settled, Bad}
 use Rattle.stock_model.specs.declared.queries.Need.{Need}
 use Rattle.stock_model.specs.declared.queries.Need.TheVariants as need
 use Rattle.stock_model.specs.declared.queries.Query.{Query}
@@ -23,19 +22,10 @@ use Rattle.stock_model.specs.Faults.{fault, fault_but_short}
 use Rattle.stock_model.specs.History.{records, accepted, covered}
 use Rattle.stock_model.specs.declared.read_faults.ReadFault.{ReadFault}
 use Rattle.stock_model.specs.declared.read_faults.ReadFault.TheVariants as read_fault
-use Rattle.stock_model.specs.Run.{max_line, RunState, Step, Run, IsAnswerTo, Settles, Works}
+use Rattle.stock_model.specs.Run.{max_line, IsAnswerTo, Settles, Works}
 use Rattle.repost_worker.specs.Published.{Publishes}
 use Rattle.stock_cli.specs.Answers.{HasText}
 use Rattle.stock_laws.proofs.Histories.{records-append}
-
--- a run over more lines from where one ended
-pub Run-append : (reads : List ℕ → Result Request ReadFault → Type 0) (old mid new : RunState) (lines more : List (List ℕ)) (answers others : List Answer)
-    → Run reads old lines answers mid → Run reads mid more others new → Run reads old (lines ++ more) (answers ++ others) new
-Run-append reads old mid new [] more [] others first then = subst (λ (s : RunState). Run reads s more others new) first then
-Run-append reads old mid new [] more (answer ∷ answers) others first then = absurd first
-Run-append reads old mid new (line ∷ lines) more [] others first then = absurd first
-Run-append reads old mid new (line ∷ lines) more (answer ∷ answers) others first then =
-    (first.0, first.1, Run-append reads first.0 mid new lines more answers others first.2 then)
 
 -- a record without a fault that was kept is accepted under the next number
 pub IsAnswerTo-accepted : (old new : List Deed) (item : Record) (n : RecordNo) → item.desk.0 ≡ 0 → fault (records old) item ≡ None
@@ -97,22 +87,10 @@ Works-published old new n published is =
       told = ap (λ (k : ℕ). Told (Worked (record { 0 = k })) []) is;
     }
 
--- a line that is too long is answered so, and nothing changed
-pub Step-long : (reads : List ℕ → Result Request ReadFault → Type 0) (old new : RunState) (line : List ℕ) (long : Bool) → long ≡ ltb max_line (length line) → long ≡ true → new.history ≡ old.history
-    → Step reads old line (Told Long []) new
-Step-long reads old new line long is tested same = inl (ltb-true max_line (length line) (sym is ∙ tested), refl, same)
-
 -- a line that is not too long
 pub fits : (line : List ℕ) (long : Bool) → long ≡ ltb max_line (length line) → long ≡ false → length line ≤ max_line
 fits line long is tested = ltb-false max_line (length line) (sym is ∙ tested)
 
 -- want of memory is no fault that is printed
-bad_memory : (f : ReadFault) (answer : Answer) → answer ≡ Told (Bad f) [] → HasText answer → f ≡ read_fault.NoMemory → ⊥
+pub bad_memory : (f : ReadFault) (answer : Answer) → answer ≡ Told (Bad f) [] → HasText answer → f ≡ read_fault.NoMemory → ⊥
 bad_memory f answer is told memory = subst HasText (is ∙ ap (λ (g : ReadFault). Told (Bad g) []) memory) told
-
--- where a line that is no request is told, its fault is told
-pub Step-bad : (reads : List ℕ → Result Request ReadFault → Type 0) (old new : RunState) (line : List ℕ) (f : ReadFault) (r : Result Answer memory.NoMemory) → length line ≤ max_line
-    → (f ≡ read_fault.NoMemory) ⊎ reads line (Err f) → new.history ≡ old.history → IfOk r (λ answer. answer ≡ Told (Bad f) []) → IfOk r HasText → IfOk r (λ answer. Step reads old line answer new)
-Step-bad reads old new line f (Err e) short read same is told = tt
-Step-bad reads old new line f (Ok answer) short (inl memory) same is told = absurd (bad_memory f answer is told memory)
-Step-bad reads old new line f (Ok answer) short (inr read) same is told = inr (short, inr (f, read, is, same))

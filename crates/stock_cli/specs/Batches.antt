@@ -1,13 +1,14 @@
 -- What a batch under way stands for.
-use Rattle.std.specs.Prelude.{ℕ, ◌≡◌, List, All, [], ◌++◌}
+use Rattle.std.specs.Prelude.{ℕ, ◌≡◌, List, All, ◌++◌}
 use Rattle.std.specs.List.{flat_map}
 use Rattle.stock_model.specs.declared.answers.Answer.{Answer}
 use Rattle.stock_model.specs.History.{IsLegal}
+use Rattle.repost_worker.specs.Paces.{first_pace}
 use Rattle.stock_cli.specs.Answers.{answer_line, ShowsKeptStock}
 use Rattle.stock_cli.specs.declared.batch.Batch.{Batch}
 use Rattle.stock_cli.specs.InputParts.{Parted}
 use Rattle.stock_cli.specs.OpenLines.{StandsForLine}
-use Rattle.stock_cli.specs.Replies.{RunsOver}
+use Rattle.stock_cli.specs.Replies.{PacedOver}
 
 -- these bytes were taken and this text was written: the whole lines are answered, by what was written and by
 -- what waits, and the open line stands for the rest
@@ -17,7 +18,7 @@ pub record StandsFor (batch : Batch) (taken written : List ℕ) : Type 0 where
   pub answers : List Answer
   pub parted : Parted taken whole rest
   pub under_way : StandsForLine batch.line rest
-  pub run : RunsOver whole [] answers batch.book.history
+  pub paced : PacedOver whole first_pace answers batch.book
   pub legal : IsLegal batch.book.history
   pub keeps : All ShowsKeptStock answers
   pub text_is : written ++ batch.waiting.items ≡ flat_map answer_line answers

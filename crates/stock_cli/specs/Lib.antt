@@ -5,3 +5,4 @@ pub mod Replies
 pub mod Batches
 pub mod Statuses
 pub mod Ran
+pub mod Paces

@@ -7,32 +7,36 @@ use Rattle.stock_model.specs.declared.faults.PostFault.TheVariants as fault_of
 use Rattle.stock_model.specs.declared.answers.Answer.{Answer}
 use Rattle.stock_model.specs.History.{IsLegal}
 use Rattle.stock_model.specs.InputLines.{is_asked}
-use Rattle.stock_model.specs.Run.{RunState, Run}
+use Rattle.stock_model.specs.Run.{Run}
+use Rattle.repost_worker.specs.Paces.{Pace, first_pace}
 use Rattle.voucher_json.specs.Requests.{IsReadAs}
 use Rattle.stock_cli.specs.Answers.{answer_line, ShowsKeptStock}
-
-abbrev pub state_of : List Deed → RunState
-state_of history = record { history = history }
+use Rattle.stock_cli.specs.Paces.{state_of, PacedRun}
 
 -- From the history old on, the lines have these answers, each at its point of one history, which is the new one in the
 -- end. Blank lines have no answer.
 abbrev pub RunsOver : List (List ℕ) → List Deed → List Answer → List Deed → Type 0
 RunsOver lines old answers new = Run (IsReadAs false) (state_of old) (filter is_asked lines) answers (state_of new)
 
--- the text is that of the answers to these lines, from the empty book on, over one legal history; and whatever a sheet
--- shows, the ledger keeps the stock
+-- and so they have where the worker keeps its pace
+abbrev pub PacedOver : List (List ℕ) → Pace → List Answer → Pace → Type 0
+PacedOver lines old answers new = PacedRun (IsReadAs false) old (filter is_asked lines) answers new
+
+-- the text is that of the answers to these lines, from the empty book on, over one legal history; the worker keeps its pace;
+-- and whatever a sheet shows, the ledger keeps the stock
 pub record Answered (lines : List (List ℕ)) (text : List ℕ) : Type 0 where
   pub answers : List Answer
-  pub history : List Deed
-  pub run : RunsOver lines [] answers history
-  pub legal : IsLegal history
+  pub last : Pace
+  pub run : RunsOver lines [] answers last.history
+  pub paced : PacedOver lines first_pace answers last
+  pub legal : IsLegal last.history
   pub keeps : All ShowsKeptStock answers
   pub text_is : text ≡ flat_map answer_line answers
 
 -- a line is answered: what waits to be written grows by the text of its answer, if it has one
-pub record AnswersLine (line : List ℕ) (old new : List Deed) (waiting after : List ℕ) : Type 0 where
+pub record AnswersLine (line : List ℕ) (old new : Pace) (waiting after : List ℕ) : Type 0 where
   pub answers : List Answer
-  pub run : RunsOver (line ∷ []) old answers new
+  pub paced : PacedOver (line ∷ []) old answers new
   pub keeps : All ShowsKeptStock answers
   pub text_is : after ≡ waiting ++ flat_map answer_line answers
 

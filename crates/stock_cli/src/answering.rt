@@ -3,12 +3,13 @@ ghost use Rattle.std.specs.Prelude.{◌≡◌, ◌<◌, ℕ, List, [], IfOk, OnE
 ghost use Rattle.stock_model.specs.Limits.{is_within_limits};
 ghost use Rattle.stock_model.specs.declared.replies.Reply.TheVariants as reply;
 ghost use Rattle.stock_model.specs.History.{IsLegal};
-ghost use Rattle.stock_model.specs.Run.{IsAnswerTo, Step};
+ghost use Rattle.stock_model.specs.Run.{IsAnswerTo};
+ghost use Rattle.repost_worker.specs.Paces.{IsSamePace};
 ghost use Rattle.repost_worker.specs.Published.{Publishes};
 ghost use Rattle.voucher_json.specs.Requests.{IsReadAs, IsWithinLimits};
 ghost use Rattle.stock_cli.specs.Answers.{HasText, ShowsKeptStock};
 ghost use Rattle.stock_cli.specs.OpenLines.{StandsForLine};
-ghost use Rattle.stock_cli.specs.Replies.{state_of};
+ghost use Rattle.stock_cli.specs.Paces.{KeepsPace, PacedStep};
 
 use crate::open_line::OpenLine;
 use crate::refusing::{bad, refused, told};
@@ -23,7 +24,7 @@ use stock_model::requests::Request;
 use stock_model::vouchers::What;
 use stock_nums::memory::NoMemory;
 use stock_nums::numbers::DeskNo;
-use voucher_json::reading::read_request;
+use voucher_json::reading::{read_request, requests_have_one_reading};
 
 /// The answer to a line that is not blank, at this point of the book's history. A long line
 /// takes no memory.
@@ -36,13 +37,14 @@ pub fn answer_to(
     book: &mut RevaluedBook,
     line: &OpenLine,
 ) -> Result<Answer, NoMemory>
-    ensures step { IfOk result (λ answer. (text : List ℕ) → StandsForLine line.now text → Step (IsReadAs false) (state_of book.old.history) text answer (state_of book.new.history)) }
+    ensures step { IfOk result (λ answer. (text : List ℕ) → StandsForLine line.now text → PacedStep (IsReadAs false) book.old text answer book.new) }
     ensures text { IfOk result HasText }
     ensures keeps { IfOk result ShowsKeptStock }
     ensures legal { IfOk result (λ _. IsLegal book.old.history → IsLegal book.new.history) }
     ensures grows { OnErr result (Publishes book.old.history book.new.history) }
     ensures long { IsTrue line.now.long → result ≡ Ok (Answer.Told reply.Long []) }
 {
+    requests_have_one_reading();
     if line.long {
         return Ok(told(alloc, Reply::Long));
     }
@@ -55,6 +57,7 @@ pub fn answer_to(
 fn answer(alloc: Global, book: &mut RevaluedBook, request: Request) -> Result<Answer, NoMemory>
     requires { IsWithinLimits request }
     ensures answers { IfOk result (λ answer. IsAnswerTo book.old.history request answer book.new.history) }
+    ensures pace { IfOk result (λ _. KeepsPace book.old request book.new) }
     ensures text { IfOk result HasText }
     ensures keeps { IfOk result ShowsKeptStock }
     ensures legal { IfOk result (λ _. IsLegal book.old.history → IsLegal book.new.history) }
@@ -71,6 +74,7 @@ fn answer(alloc: Global, book: &mut RevaluedBook, request: Request) -> Result<An
 fn post(alloc: Global, book: &mut RevaluedBook, what: What) -> Result<Answer, NoMemory>
     requires { IsTrue (is_within_limits what) }
     ensures answers { IfOk result (λ answer. IsAnswerTo book.old.history (Request.Post what) answer book.new.history) }
+    ensures pace { IsSamePace book.old book.new }
     ensures text { IfOk result HasText }
     ensures keeps { IfOk result ShowsKeptStock }
     ensures legal { IfOk result (λ _. IsLegal book.old.history → IsLegal book.new.history) }
@@ -90,6 +94,7 @@ fn post(alloc: Global, book: &mut RevaluedBook, what: What) -> Result<Answer, No
 fn work(alloc: Global, book: &mut RevaluedBook, turns: u32) -> Result<Answer, NoMemory>
     requires { 0 < turns }
     ensures answers { IfOk result (λ answer. IsAnswerTo book.old.history (Request.Work turns) answer book.new.history) }
+    ensures pace { IfOk result (λ _. KeepsPace book.old (Request.Work turns) book.new) }
     ensures text { IfOk result HasText }
     ensures keeps { IfOk result ShowsKeptStock }
     ensures legal { IfOk result (λ _. IsLegal book.old.history → IsLegal book.new.history) }
@@ -102,6 +107,7 @@ fn work(alloc: Global, book: &mut RevaluedBook, turns: u32) -> Result<Answer, No
 /// Makes all turns that there are.
 fn settle(alloc: Global, book: &mut RevaluedBook) -> Result<Answer, NoMemory>
     ensures answers { IfOk result (λ answer. IsAnswerTo book.old.history Request.Settle answer book.new.history) }
+    ensures pace { IfOk result (λ _. KeepsPace book.old Request.Settle book.new) }
     ensures text { IfOk result HasText }
     ensures keeps { IfOk result ShowsKeptStock }
     ensures legal { IfOk result (λ _. IsLegal book.old.history → IsLegal book.new.history) }

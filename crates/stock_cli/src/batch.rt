@@ -101,7 +101,7 @@ impl Batch {
 
     /// Answers the line under way, unless it is blank.
     fn answer_line(&mut self, alloc: Global) -> Result<(), NoMemory>
-        ensures answers { OnOk result ((line : List ℕ) → StandsForLine self.old.line line → AnswersLine line self.old.book.history self.new.book.history self.old.waiting.items self.new.waiting.items) }
+        ensures answers { OnOk result ((line : List ℕ) → StandsForLine self.old.line line → AnswersLine line self.old.book self.new.book self.old.waiting.items self.new.waiting.items) }
         ensures legal { OnOk result (IsLegal self.old.book.history → IsLegal self.new.book.history) }
         ensures blank { IsTrue self.old.line.blank → IsOk result }
     {

@@ -3,6 +3,7 @@ use Rattle.std.proofs.Common.{ℕ, Option, None, subst}
 use Rattle.stock_nums.specs.declared.memory.NoMemory.{NoMemory}
 use Rattle.repost_worker.specs.Runs.{IsRun}
 use Rattle.repost_worker.proofs.RunLaws.{covered-run}
+use Rattle.repost_worker.proofs.Paces.{in_pace-work, in_pace-limit}
 use Rattle.repost_worker.proofs.Working.{turns-publish, turns-legal}
 use Rattle.repost_worker.proofs.revalued_book.counted.Goals as goal
 
@@ -25,3 +26,11 @@ pub returns-clause-legal : goal.returns-clause-legal
 returns-clause-legal g c legal =
     let run = c.run_turns.ensures.run in
     turns-legal run.turns c.args.book.now.history c.run_turns.new.book.history c.args.build.now run.last run.run c.requires.work.within legal
+
+pub returns-clause-pace : goal.returns-clause-pace
+returns-clause-pace g c =
+    in_pace-limit c.args.turns c.run_turns.result.stopped c.args.book.now.history c.run_turns.new.book.history c.args.build.now
+    c.run_turns.new.build c.new-steps.result c.run_turns.new.steps c.requires.work c.run_turns.ensures.run
+
+pub returns-clause-in_pace : goal.returns-clause-in_pace
+returns-clause-in_pace g c = in_pace-work c.run_turns.new.book.history c.run_turns.new.build c.run_turns.ensures.work

@@ -1,0 +1,52 @@
+-- How far a worker has come with a book, and what its turns come to: as many as were asked for count, and nothing is published
+-- that they did not revalue.
+use Rattle.std.specs.Prelude.{ℕ, ◌≡◌, ◌+◌, ◌*◌, ◌<◌, ◌≤◌, List, [], length, filter}
+use Rattle.stock_model.specs.History.{records, accepted, covered}
+use Rattle.stock_model.specs.PostingOrder.{posting_line}
+use Rattle.stock_model.specs.declared.deeds.Deed.{Deed}
+use Rattle.repost_laws.specs.Touched.{is_new}
+use Rattle.repost_build.specs.Readings.{target_of, turns_of}
+use Rattle.repost_build.specs.declared.build.Build.{Build}
+use Rattle.repost_worker.specs.declared.turn.TheConstants.{MAX_FETCHES}
+
+-- the history, how many records the worker has taken in, and how many turns it made since it last published
+pub record Pace : Type 0 where
+  pub history : List Deed
+  pub known : ℕ
+  pub turns : ℕ
+
+-- before anything was done
+abbrev pub first_pace : Pace
+first_pace = record { history = []; known = 0; turns = 0 }
+
+-- of a build that works for a book with this history
+abbrev pub pace_of : List Deed → Build → Pace
+pace_of history build = record { history = history; known = target_of build; turns = turns_of build }
+
+-- how many movements the accepted records make, and how many of them those after the first n ones
+abbrev pub movements_of : List Deed → ℕ
+movements_of history = length (posting_line (records history))
+
+abbrev pub movements_after : ℕ → List Deed → ℕ
+movements_after n history = length (filter (is_new n) (posting_line (records history)))
+
+-- the worker has taken in what is covered, and no more than was accepted; and since the last publication it made no more turns
+-- than four times one for each movement and one
+pub record IsInPace (pace : Pace) : Type 0 where
+  pub covered : covered pace.history ≤ pace.known
+  pub known : pace.known ≤ accepted pace.history
+  pub few : pace.turns ≤ MAX_FETCHES * (movements_of pace.history + 1)
+
+-- Nothing of it changed but perhaps the history.
+pub record IsSamePace (old new : Pace) : Type 0 where
+  pub known : new.known ≡ old.known
+  pub turns : new.turns ≡ old.turns
+
+-- so many turns were asked for, and were made or brought all that there was to do
+pub record WorksInPace (old : Pace) (turns : ℕ) (new : Pace) : Type 0 where
+  -- two for each movement and three more are always enough
+  pub covers : 2 * movements_of old.history + 3 ≤ turns → covered new.history ≡ accepted new.history
+  -- where records wait and none is published, each of the turns was made
+  pub waits : covered old.history < accepted old.history → new.history ≡ old.history → new.turns ≡ old.turns + turns
+  -- records that the worker had not taken in are published once they are, and each of their movements is valued
+  pub fresh : old.known < covered new.history → movements_after old.known old.history + 2 ≤ turns
