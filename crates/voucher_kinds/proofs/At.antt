@@ -1,7 +1,8 @@
 -- The record with a number, as an index finds it.
-use Rattle.std.proofs.Common.{◌≡◌, ℕ, zero, suc, ◌+◌, ◌-◌, ◌<◌, ◌≤◌, List, [], ◌∷◌, ◌++◌, length, take, get_or, Some, refl, ap, ◌∙◌, arith}
+use Rattle.std.proofs.Common.{◌≡◌, ℕ, zero, suc, ◌+◌, ◌-◌, ◌<◌, ◌≤◌, List, [], ◌∷◌, ◌++◌, length, take, get_or, Some, refl, sym, ap, ◌∙◌, arith}
 use Rattle.std.proofs.lemmas.Option.{slice_get_read}
-use Rattle.std.proofs.lemmas.List.{append-nil}
+use Rattle.std.proofs.lemmas.List.{append-nil, take_more}
+use Rattle.std.proofs.Math.Seq.{take-length}
 use Rattle.stock_model.specs.declared.records.Record.{Record}
 use Rattle.stock_model.specs.Masters.{record_at}
 use Rattle.stock_model.specs.Entries.{entries, entries_of}
@@ -27,3 +28,11 @@ pub last-pushed : (journal new : List Record) (n : ℕ) (item last : Record) →
 last-pushed journal new n item last grows number is =
     let index : n - 1 ≡ length journal = omega (arith, number) in
     is ∙ ap (λ (all : List Record). get_or all (n - 1) last) grows ∙ ap (λ (i : ℕ). get_or (journal ++ item ∷ []) i last) index ∙ get_or-last journal item last
+
+-- a journal is its records before the last one, and that one
+pub journal-last : (journal shown : List Record) (count : ℕ) (last : Record) → 0 < length journal → shown ≡ journal → count ≡ length shown → last ≡ get_or shown (count - 1) last
+    → journal ≡ take (count - 1) journal ++ last ∷ []
+journal-last journal shown count last some same counted is =
+    let all : count - 1 + 1 ≡ length journal = omega (arith, ap (λ (records : List Record). length records) same) in
+    sym (take-length journal) ∙ ap (λ (k : ℕ). take k journal) (sym all) ∙ take_more journal (count - 1) last (omega arith)
+    ∙ ap (λ (r : Record). take (count - 1) journal ++ r ∷ []) (sym (is ∙ ap (λ (records : List Record). get_or records (count - 1) last) same))

@@ -1,11 +1,14 @@
--- The items and warehouses of a journal with one more record.
-use Rattle.std.proofs.Common.{◌≡◌, ℕ, ◌+◌, ◌<◌, ◌≤◌, List, [], ◌∷◌, ◌++◌, length, Option, None, Some, refl, sym, ap, ◌∙◌, subst, arith}
+-- The items and warehouses of a journal with one more record, and with one less.
+use Rattle.std.proofs.Common.{◌≡◌, ℕ, ◌+◌, ◌-◌, ◌<◌, ◌≤◌, List, [], ◌∷◌, ◌++◌, length, take, Option, None, Some, refl, sym, ap, ◌∙◌, subst, arith, append_assoc}
 use Rattle.std.specs.Option.{option_to_list}
 use Rattle.std.specs.List.{filter_map, enumerate_from}
-use Rattle.std.proofs.lemmas.List.{length-append}
+use Rattle.std.proofs.lemmas.List.{length-append, append-nil}
 use Rattle.std.proofs.lemmas.List.Elements.{filter_map-append}
+use Rattle.std.proofs.Math.Seq.{take-append_seam}
 use Rattle.item_master.specs.State.{MasterState}
 use Rattle.stock_model.specs.declared.records.Record.{Record}
+use Rattle.stock_model.specs.declared.vouchers.What.{What}
+use Rattle.stock_model.specs.declared.vouchers.What.TheVariants.{Item, Store, Receipt, Issue, Transfer, CustomerReturn, SupplierReturn, Landed}
 use Rattle.stock_nums.specs.declared.limits.TheConstants.{MAX_RECORDS}
 use Rattle.stock_nums.specs.LineSums.{number_of}
 use Rattle.stock_nums.specs.declared.cause.Target.{Target}
@@ -13,13 +16,13 @@ use Rattle.stock_nums.specs.declared.entry.Entry.{Entry}
 use Rattle.stock_nums.specs.declared.line_sums.LineSums.{LineSums}
 use Rattle.stock_model.specs.Entries.{all_entries}
 use Rattle.stock_model.specs.Faults.{voucher_fault}
-use Rattle.stock_model.specs.Journals.{AreSound}
+use Rattle.stock_model.specs.Journals.{AreSound, AreSoundAfter}
 use Rattle.stock_model.specs.Masters.{item_numbered, store_numbered}
 use Rattle.stock_model.specs.Returns.{returned, units_named}
 use Rattle.stock_model.specs.VoucherLines.{lines_of}
 use Rattle.stock_model.proofs.Growth.{all_entries-after}
 use Rattle.stock_laws.proofs.ReturnedUnits.{returned-snoc, returned-within, units_at-le, AreSound-snoc}
-use Rattle.voucher_kinds.specs.Heads.{with_made}
+use Rattle.voucher_kinds.specs.Heads.{made_by, with_made, without_last}
 use Rattle.voucher_kinds.specs.Journals.{master_of, IsJournal}
 
 -- one more element has the next number
@@ -47,6 +50,35 @@ master_of-push journal item =
     let at : 1 + length journal ≡ length journal + 1 = omega arith in
     rw (filter_map-push item_numbered 1 journal item, filter_map-push store_numbered 1 journal item, at) refl
 
+-- a list without the element that was put at its end
+take-push : {X : Type 0} (xs : List X) (x : X) → take (length (xs ++ x ∷ []) - 1) (xs ++ x ∷ []) ≡ xs
+take-push xs x =
+    let count : length (xs ++ x ∷ []) - 1 ≡ length xs = omega (arith, length-append xs (x ∷ [])) in
+    rw count (take-append_seam xs (x ∷ []))
+
+-- with no item and no warehouse more
+with-none : (master same : MasterState) → same ≡ record { items = master.items ++ []; stores = master.stores ++ [] } → same ≡ master
+with-none master same is = is ∙ rw (append-nil master.items, append-nil master.stores) refl
+
+-- what a record made in the master, taken away again
+pub without_last-with_made : (master : MasterState) (n : ℕ) (what : What) → without_last (with_made master n what) (made_by what) ≡ master
+without_last-with_made master n (Item code method) = rw (take-push master.items (record { number = n; code = code; method = method }), append-nil master.stores) refl
+without_last-with_made master n (Store code account) = rw (take-push master.stores (record { number = n; code = code; account = account.0 }), append-nil master.items) refl
+without_last-with_made master n (Receipt at lines) = with-none master _ refl
+without_last-with_made master n (Issue at purpose lines) = with-none master _ refl
+without_last-with_made master n (Transfer at lines) = with-none master _ refl
+without_last-with_made master n (CustomerReturn at lines) = with-none master _ refl
+without_last-with_made master n (SupplierReturn at lines) = with-none master _ refl
+without_last-with_made master n (Landed charge basis targets) = with-none master _ refl
+
+-- a sound journal is so without its last record, which had no fault in it
+sound_after-front : (journal records : List Record) (last : Record) → AreSoundAfter journal (records ++ last ∷ [])
+    → AreSoundAfter journal records × (voucher_fault (journal ++ records) last.what ≡ None)
+sound_after-front journal [] last sound = (tt, subst (λ (held : List Record). voucher_fault held last.what ≡ None) (sym (append-nil journal)) sound.0)
+sound_after-front journal (r ∷ records) last sound =
+    let rest = sound_after-front (journal ++ r ∷ []) records last sound.1 in
+    ((sound.0, rest.0), subst (λ (held : List Record). voucher_fault held last.what ≡ None) (append_assoc journal (r ∷ []) records) rest.1)
+
 -- the empty journal
 pub IsJournal-start : (records : List Record) (master : MasterState) (units : LineSums) → records ≡ [] → master ≡ record { items = []; stores = [] }
     → ((target : Target) → number_of units target ≡ 0) → IsJournal records master units
@@ -60,6 +92,16 @@ IsJournal-start records master units none empty nothing =
     } in
     subst (λ (journal : List Record). IsJournal journal master units) (sym none) (subst (λ (m : MasterState). IsJournal [] m units) (sym empty) start)
 
+-- a journal that was kept anew and says the same
+pub IsJournal-same : (journal new : List Record) (master new_master : MasterState) (units new_units : LineSums) → IsJournal journal master units → new ≡ journal → new_master ≡ master
+    → ((target : Target) → number_of new_units target ≡ number_of units target) → IsJournal new new_master new_units
+IsJournal-same journal new master new_master units new_units is stays master_stays units_stay = record {
+  few = rw stays is.few;
+  master_is = rw (stays, master_stays) is.master_is;
+  sound = rw stays is.sound;
+  counted = λ target. units_stay target ∙ is.counted target ∙ ap (λ (all : List Record). returned (all_entries all) target) (sym stays);
+}
+
 -- a journal with one more record
 pub IsJournal-push : (journal new : List Record) (master with_it : MasterState) (units with_units : LineSums) (item : Record) (n : ℕ) → IsJournal journal master units → length journal < MAX_RECORDS
     → n ≡ length journal + 1 → new ≡ journal ++ item ∷ [] → with_it ≡ with_made master n item.what → voucher_fault journal item.what ≡ None
@@ -72,6 +114,33 @@ IsJournal-push journal new master with_it units with_units item n is room number
       more target ∙ ap (λ (x : ℕ). x + units_named (lines_of item.what) target) (is.counted target)
       ∙ sym (ap (λ (all : List Record). returned (all_entries all) target) grows ∙ returned-snoc journal item target is.sound none);
 }
+
+-- of a journal the units that its last record returns are counted, beside those that the records before it do
+last-counted : (front : List Record) (last : Record) (master : MasterState) (units : LineSums) (target : Target) → IsJournal (front ++ last ∷ []) master units
+    → returned (all_entries front) target + units_named (lines_of last.what) target ≡ number_of units target
+last-counted front last master units target is =
+    let parts = sound_after-front [] front last is.sound in
+    sym (is.counted target ∙ returned-snoc front last target parts.0 parts.1)
+
+-- so they can be taken from what is counted
+pub last-within : (journal front : List Record) (last : Record) (master : MasterState) (units : LineSums) (target : Target) → journal ≡ front ++ last ∷ [] → IsJournal journal master units
+    → units_named (lines_of last.what) target ≤ number_of units target
+last-within journal front last master units target ends is =
+    omega (arith, last-counted front last master units target (subst (λ (records : List Record). IsJournal records master units) ends is))
+
+-- a journal without its last record
+pub IsJournal-pop : (journal front : List Record) (last : Record) (master without_it : MasterState) (units less_units : LineSums) → journal ≡ front ++ last ∷ [] → IsJournal journal master units
+    → without_it ≡ without_last master (made_by last.what) → ((target : Target) → number_of less_units target + units_named (lines_of last.what) target ≡ number_of units target)
+    → IsJournal front without_it less_units
+IsJournal-pop journal front last master without_it units less_units ends journal_is takes less =
+    let is : IsJournal (front ++ last ∷ []) master units = subst (λ (records : List Record). IsJournal records master units) ends journal_is in record {
+      few = omega (arith, is.few, length-append front (last ∷ []));
+      master_is =
+          takes ∙ ap (λ (m : MasterState). without_last m (made_by last.what)) (is.master_is ∙ master_of-push front last)
+          ∙ without_last-with_made (master_of front) (length front + 1) last.what;
+      sound = (sound_after-front [] front last is.sound).0;
+      counted = λ target. omega (arith, less target, last-counted front last master units target is);
+    }
 
 -- the units that a journal returns of a line fit
 pub returned-fits : (journal : List Record) (master : MasterState) (units : LineSums) (target : Target) → IsJournal journal master units → number_of units target ≤ 1_000_000_000

@@ -1,6 +1,6 @@
 //! The accepted records, and what a voucher's codes stand for.
 
-ghost use Rattle.std.specs.Prelude.{◌≡◌, ◌⊎◌, ◌+◌, ◌<◌, ◌≤◌, [], ◌∷◌, ◌++◌, length, take, IfOk, OnOk, OnErr, IfErr, Some, None};
+ghost use Rattle.std.specs.Prelude.{◌≡◌, ◌⊎◌, ◌+◌, ◌-◌, ◌<◌, ◌≤◌, [], ◌∷◌, ◌++◌, length, take, IfOk, OnOk, OnErr, IfErr, Some, None};
 ghost use Rattle.std.specs.Option.{option_copied};
 ghost use Rattle.stock_model.specs.Faults.{voucher_fault};
 ghost use Rattle.stock_model.specs.Entries.{entries, entries_of};
@@ -27,7 +27,7 @@ use stock_nums::numbers::{AccountNo, ItemNo, Qty, RecordNo, StoreNo};
 /// which are found without going over the records. Contracts see it as the list of the records.
 #[derive(Drop)]
 pub struct Journal {
-    records: Lines<Record>,
+    records: Vec<Record>,
     master: Master,
     returned_units: LineSums,
 }
@@ -39,9 +39,9 @@ impl Model for Journal {
 
     ghost Value = { List Record };
 
-    ghost view = { λ journal. journal.records };
+    ghost view = { λ journal. journal.records.items };
 
-    ghost invariant = { λ journal. IsJournal journal.records journal.master journal.returned_units };
+    ghost invariant = { λ journal. IsJournal journal.records.items journal.master journal.returned_units };
 }
 
 impl Names for Journal {
@@ -72,7 +72,7 @@ impl Journal {
         ensures { result ≡ [] }
     {
         Journal {
-            records: Lines::new(alloc),
+            records: Vec::new(alloc),
             master: Master::new(alloc),
             returned_units: LineSums::new(alloc),
         }
@@ -137,6 +137,18 @@ impl Journal {
         }
     }
 
+    /// Takes the last record away again: the journal is as it was before that record's `push`. It takes no memory.
+    pub fn pop(&mut self)
+        requires { 0 < length self.old }
+        ensures { self.new ≡ take (length self.old - 1) self.old }
+    {
+        let index = self.records.len() - 1;
+        let last = &self.records.as_slice()[index];
+        returned_units::take_units(&mut self.returned_units, &last.what);
+        heads::take_away(&mut self.master, heads::made_by(&last.what));
+        self.records.truncate(index);
+    }
+
     // The number of the next record.
     fn next(&self) -> RecordNo
         ensures { result.0 ≡ length self.now + 1 }
@@ -189,8 +201,8 @@ impl Journal {
 mod tests {
     use super::*;
     use std::test::Fail;
-    use stock_model::vouchers::{ReceiptLine, What};
-    use stock_nums::cause::{Cause, Method};
+    use stock_model::vouchers::{ReceiptLine, ReturnLine, What};
+    use stock_nums::cause::{Cause, Method, Target};
     use stock_nums::code::Code;
     use stock_nums::moment::Moment;
     use stock_nums::numbers::{AccountNo, DeskNo, ItemNo, Minor, Qty, StoreNo};
@@ -344,6 +356,81 @@ mod tests {
         assert_eq!(rt; seen.count, 3);
         assert_eq!(rt; seen.records, 3);
         assert_eq!(rt; seen.entries, Some([ten_entered(1), ten_entered(2)]));
+        Ok(())
+    }
+
+    // A return to the supplier of the ten units of that receipt's first line.
+    fn sent_back(alloc: Global) -> Result<Record, NoMemory> {
+        let mut lines = Lines::new(alloc);
+        lines.push(ReturnLine {
+            target: Target {
+                voucher: RecordNo(3),
+                line: 1,
+            },
+            store: Code::of(alloc, "W1")?,
+            qty: Qty(10),
+        })?;
+        Ok(Record {
+            desk: DeskNo(0),
+            what: What::SupplierReturn { at: NINE, lines },
+        })
+    }
+
+    // What is said of the item, the warehouse, the receipt and the return, each as the next record.
+    fn next_faults(alloc: Global, journal: &Journal) -> Result<[Option<PostFault>; 4], NoMemory> {
+        Ok([
+            journal.fault(&item(alloc, "B")?),
+            journal.fault(&store(alloc, "W1")?),
+            journal.fault(&receipt(alloc, ["B", "B"], "W1")?),
+            journal.fault(&sent_back(alloc)?),
+        ])
+    }
+
+    fn pop(journal: &mut Journal) {
+        if journal.count() > 0 {
+            journal.pop();
+        }
+    }
+
+    // What is said with all four of them, and as each of them from the last on is taken away.
+    fn said_on_the_way_back(
+        alloc: Global,
+        journal: &mut Journal,
+    ) -> Result<[[Option<PostFault>; 4]; 5], NoMemory> {
+        let mut said = [[None; 4]; 5];
+        for index in 0..5 {
+            said[index] = next_faults(alloc, journal)?;
+            pop(journal);
+        }
+        Ok(said)
+    }
+
+    #[test]
+    fn takes_records_away_again(rt: HostRuntime) -> Result<(), Fail> {
+        let alloc = rt.alloc();
+        let mut journal = Journal::new(alloc);
+        keep_three(alloc, &mut journal)?;
+        accept(alloc, &mut journal, sent_back(alloc)?)?;
+        let said = said_on_the_way_back(alloc, &mut journal)?;
+        let taken = Some(PostFault::CodeTaken);
+        let nothing_left = Some(PostFault::OverReturn {
+            line: 1,
+            asked: Qty(10),
+            left: Qty(0),
+        });
+        let no_target = Some(PostFault::UnknownTarget { line: 1 });
+        let no_store = Some(PostFault::UnknownStore { line: 1 });
+        let no_item = Some(PostFault::UnknownItem { line: 1 });
+        assert_eq!(rt; said[0], [taken, taken, None, nothing_left]);
+        assert_eq!(rt; said[1], [taken, taken, None, None]);
+        assert_eq!(rt; said[2], [taken, taken, None, no_target]);
+        assert_eq!(rt; said[3], [taken, None, no_store, no_store]);
+        assert_eq!(rt; said[4], [None, None, no_item, no_store]);
+        assert_eq!(rt; journal.count(), 0);
+        let again = keep_three(alloc, &mut journal)?;
+        assert_eq!(rt; again, [RecordNo(1), RecordNo(2), RecordNo(3)]);
+        let last = accept(alloc, &mut journal, sent_back(alloc)?)?;
+        assert_eq!(rt; last, RecordNo(4));
         Ok(())
     }
 

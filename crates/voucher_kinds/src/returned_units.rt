@@ -1,5 +1,5 @@
 //! The units that vouchers return, counted for each line that they are returned of.
-ghost use Rattle.std.specs.Prelude.{◌≡◌, ◌+◌, ◌<◌, ◌^◌, ℕ, true, OnOk};
+ghost use Rattle.std.specs.Prelude.{◌≡◌, ◌+◌, ◌<◌, ◌≤◌, ◌^◌, ℕ, true, OnOk};
 ghost use Rattle.stock_nums.specs.LineSums.{number_of};
 ghost use Rattle.stock_nums.specs.declared.cause.Target.{Target};
 ghost use Rattle.stock_model.specs.LineViews.{seen};
@@ -78,5 +78,35 @@ fn add_units_of(sums: &mut LineSums, line: &LineView<'_>)
 {
     if let LineItem::OfTarget(named) = line.item {
         sums.add(named.target, u128::from(line.qty.0));
+    }
+}
+
+/// Takes the units that the lines of the voucher return out of the numbers again: those before are these with the
+/// units of the voucher. It takes no memory.
+pub(crate) fn take_units(sums: &mut LineSums, what: &What)
+    requires { (target : Target) → units_named (lines_of what.now) target ≤ number_of sums.old target }
+    ensures { (target : Target) → number_of sums.new target + units_named (lines_of what.now) target ≡ number_of sums.old target }
+{
+    for index in 0..line_count(what) {
+        take_units_at(sums, what, index);
+    }
+}
+
+// Takes what the line at this index returns, if there is one.
+fn take_units_at(sums: &mut LineSums, what: &What, index: usize)
+    requires { (target : Target) → units_named_at (lines_of what.now) index target ≤ number_of sums.old target }
+    ensures { (target : Target) → number_of sums.new target + units_named_at (lines_of what.now) index target ≡ number_of sums.old target }
+{
+    if let Some(line) = line_at(what, index) {
+        take_units_of(sums, &line);
+    }
+}
+
+fn take_units_of(sums: &mut LineSums, line: &LineView<'_>)
+    requires { (target : Target) → units_of_line target (seen line.now) ≤ number_of sums.old target }
+    ensures { (target : Target) → number_of sums.new target + units_of_line target (seen line.now) ≡ number_of sums.old target }
+{
+    if let LineItem::OfTarget(named) = line.item {
+        sums.subtract(named.target, u128::from(line.qty.0));
     }
 }

@@ -1,0 +1,11 @@
+-- What is counted, and what the lines so far returned, is what was counted.
+use Rattle.std.proofs.Common.{◌≡◌, ◌+◌, drop}
+use Rattle.stock_nums.specs.LineSums.{number_of}
+use Rattle.stock_nums.specs.declared.cause.Target.{Target}
+use Rattle.stock_model.specs.Returns.{units_named}
+use Rattle.stock_model.specs.VoucherLines.{lines_of}
+use Rattle.voucher_kinds.proofs.returned_units.take_units.Given as goal
+
+abbrev pub invariant-loop-index : goal.invariant-loop-index
+invariant-loop-index l =
+    (target : Target) → number_of l.sums target + units_named (lines_of l.what) target ≡ number_of l.initial.sums target + units_named (drop l.index (lines_of l.what)) target
