@@ -376,7 +376,13 @@ mod tests {
         })
     }
 
-    // What is said of the item, the warehouse, the receipt and the return, each as the next record.
+    fn keep_four(alloc: Global, journal: &mut Journal) -> Result<[RecordNo; 4], Fail> {
+        let [first, second, third] = keep_three(alloc, journal)?;
+        let fourth = accept(alloc, journal, sent_back(alloc)?)?;
+        Ok([first, second, third, fourth])
+    }
+
+    // What is said of each of these four as the next record.
     fn next_faults(alloc: Global, journal: &Journal) -> Result<[Option<PostFault>; 4], NoMemory> {
         Ok([
             journal.fault(&item(alloc, "B")?),
@@ -392,7 +398,7 @@ mod tests {
         }
     }
 
-    // What is said with all four of them, and as each of them from the last on is taken away.
+    // What is said with four records, and with each of them taken away from the last on.
     fn said_on_the_way_back(
         alloc: Global,
         journal: &mut Journal,
@@ -405,13 +411,26 @@ mod tests {
         Ok(said)
     }
 
+    #[derive(Clone, Copy)]
+    struct Popped {
+        said: [[Option<PostFault>; 4]; 5],
+        count: u32,
+        again: [RecordNo; 4],
+    }
+
+    fn pop_all(alloc: Global) -> Result<Popped, Fail> {
+        let mut journal = Journal::new(alloc);
+        keep_four(alloc, &mut journal)?;
+        Ok(Popped {
+            said: said_on_the_way_back(alloc, &mut journal)?,
+            count: journal.count(),
+            again: keep_four(alloc, &mut journal)?,
+        })
+    }
+
     #[test]
     fn takes_records_away_again(rt: HostRuntime) -> Result<(), Fail> {
-        let alloc = rt.alloc();
-        let mut journal = Journal::new(alloc);
-        keep_three(alloc, &mut journal)?;
-        accept(alloc, &mut journal, sent_back(alloc)?)?;
-        let said = said_on_the_way_back(alloc, &mut journal)?;
+        let popped = pop_all(rt.alloc())?;
         let taken = Some(PostFault::CodeTaken);
         let nothing_left = Some(PostFault::OverReturn {
             line: 1,
@@ -421,16 +440,16 @@ mod tests {
         let no_target = Some(PostFault::UnknownTarget { line: 1 });
         let no_store = Some(PostFault::UnknownStore { line: 1 });
         let no_item = Some(PostFault::UnknownItem { line: 1 });
-        assert_eq!(rt; said[0], [taken, taken, None, nothing_left]);
-        assert_eq!(rt; said[1], [taken, taken, None, None]);
-        assert_eq!(rt; said[2], [taken, taken, None, no_target]);
-        assert_eq!(rt; said[3], [taken, None, no_store, no_store]);
-        assert_eq!(rt; said[4], [None, None, no_item, no_store]);
-        assert_eq!(rt; journal.count(), 0);
-        let again = keep_three(alloc, &mut journal)?;
-        assert_eq!(rt; again, [RecordNo(1), RecordNo(2), RecordNo(3)]);
-        let last = accept(alloc, &mut journal, sent_back(alloc)?)?;
-        assert_eq!(rt; last, RecordNo(4));
+        let said = [
+            [taken, taken, None, nothing_left],
+            [taken, taken, None, None],
+            [taken, taken, None, no_target],
+            [taken, None, no_store, no_store],
+            [None, None, no_item, no_store],
+        ];
+        assert_eq!(rt; popped.said, said);
+        assert_eq!(rt; popped.count, 0);
+        assert_eq!(rt; popped.again, [1, 2, 3, 4].map(RecordNo));
         Ok(())
     }
 

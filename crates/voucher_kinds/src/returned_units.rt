@@ -81,8 +81,8 @@ fn add_units_of(sums: &mut LineSums, line: &LineView<'_>)
     }
 }
 
-/// Takes the units that the lines of the voucher return out of the numbers again: those before are these with the
-/// units of the voucher. It takes no memory.
+/// Takes the units that the lines of the voucher return, which were counted, out of the numbers again. It takes no
+/// memory.
 pub(crate) fn take_units(sums: &mut LineSums, what: &What)
     requires { (target : Target) → units_named (lines_of what.now) target ≤ number_of sums.old target }
     ensures { (target : Target) → number_of sums.new target + units_named (lines_of what.now) target ≡ number_of sums.old target }
