@@ -14,36 +14,41 @@ STORES = ["MAIN", "SHOP", "VAN"]
 ITEMS = {"BOLT": "fifo", "NUT": "average", "OIL": "average", "TAPE": "fifo"}
 # By how much each kind is more frequent than the rarest.
 KINDS = {"receipt": 8, "issue": 7, "transfer": 6, "customer-return": 3, "supplier-return": 2, "landed": 2}
+TARGETING = ["customer-return", "supplier-return", "landed"]
 
 
 class Maker:
-    def __init__(self, seed, moments):
+    def __init__(self, seed, moments, ledger=None):
         self.chance = random.Random(seed)
         start = datetime.datetime(2026, 1, 1)
         # Few moments, so that many vouchers share a second.
         self.moments = [(start + datetime.timedelta(seconds=self.chance.randrange(86_400 * 90))).isoformat() for _ in range(moments)]
-        self.ledger = plain_replay.Ledger()
+        self.ledger = plain_replay.Ledger() if ledger is None else ledger
         self.lines = []
+        self.targets = {kind: [] for kind in TARGETING}  # the records whose lines a voucher of this kind may name
         for number, code in enumerate(STORES):
             self.post({"do": "store", "code": code, "account": 100 + number})
         for code, method in ITEMS.items():
             self.post({"do": "item", "code": code, "method": method})
 
     def post(self, it):
-        """Adds a posting, and notes with the judge whether it is accepted."""
+        """Adds a posting, and returns what the judge answers, who notes whether it is accepted."""
         line = json.dumps(it, separators=(",", ":"))
         self.lines.append(line)
-        self.ledger.answer(line.encode())
+        reply = self.ledger.answer(line.encode())
+        for kind, numbers in self.targets.items():
+            if reply["status"] == "accepted" and plain_replay.is_target_kind(it, kind):
+                numbers.append(reply["record"])
+        return reply
 
     def movements(self):
         return len(self.ledger.movements)
 
     def target(self, kind):
         """Returns the record and a line of an accepted voucher that this kind may name; one in nine is any record's."""
-        numbered = [number for number, it in enumerate(self.ledger.accepted, 1) if "lines" in it and plain_replay.is_target_kind(it, kind)]
-        if not numbered or self.chance.randrange(9) == 0:
+        if not self.targets[kind] or self.chance.randrange(9) == 0:
             return {"record": self.chance.randint(1, len(self.ledger.accepted) + 1), "line": self.chance.randint(1, 3)}
-        record = self.chance.choice(numbered)
+        record = self.chance.choice(self.targets[kind])
         return {"record": record, "line": self.chance.randint(1, len(self.ledger.accepted[record - 1]["lines"]))}
 
     def line(self, kind):
@@ -69,15 +74,14 @@ class Maker:
         return [{"do": "report", **it, "as": chance.choice(["json", "csv"])} for it in asked]
 
     def posting(self):
-        """Posts a voucher of some kind with up to three lines."""
+        """Posts a voucher of some kind with up to three lines, and returns what the judge answers."""
         chance = self.chance
         kind = chance.choices(list(KINDS), list(KINDS.values()))[0]
         lines = [self.line(kind) for _ in range(1 if chance.randrange(3) else chance.randint(2, 3))]
         if kind == "landed":
-            self.post({"do": kind, "charge": chance.randint(0, 999), "basis": chance.choice(["qty", "amount"]), "targets": lines})
-            return
+            return self.post({"do": kind, "charge": chance.randint(0, 999), "basis": chance.choice(["qty", "amount"]), "targets": lines})
         use = {"use": chance.choice(["sold", "sold", "used"])} if kind == "issue" else {}
-        self.post({"do": kind, "at": chance.choice(self.moments), **use, "lines": lines})
+        return self.post({"do": kind, "at": chance.choice(self.moments), **use, "lines": lines})
 
 
 def in_random_order():

@@ -71,6 +71,7 @@ FORMS = {
     "supplier-return": RETURN,
     "landed": {"charge": whole(0, 10**12), "basis": text("qty", "amount"), "targets": lines_of(TARGET)},
     "settle": {},
+    "work": {"turns": whole(1, 10**6)},
 }
 # The forms of reports, by their sheets: what has to be there, and what may be left out.
 ANY_SHEET = {"need": whole(0, 2**32 - 1), "as": text("json", "csv")}
@@ -314,6 +315,9 @@ def posted(it, value, share, kind, account):
 
 # The ledger.
 
+# What is said of a line that publishes.
+PUBLISHED = {"settle": "settled", "work": "worked"}
+
 
 def refused(fault, **data):
     return {"fault": fault, **data, "status": "refused"}
@@ -347,10 +351,16 @@ class Ledger:
         it = request_of(line)
         if it is None:
             return BAD
-        if it["do"] == "settle":
-            self.covered = len(self.accepted)
-            return {"covered": self.covered, "status": "settled"}
+        if it["do"] in PUBLISHED:
+            self.work(it.get("turns"))
+            return {"covered": self.covered, "status": PUBLISHED[it["do"]]}
         return self.report(it) if it["do"] == "report" else self.post(it)
+
+    def work(self, turns):
+        """Covers all that was accepted, as all turns of a worker do that there are. This judge has none that makes so many turns."""
+        if turns is not None:
+            raise NotImplementedError("turns of a worker: plain_build makes them")
+        self.covered = len(self.accepted)
 
     def masters_of(self, it):
         return {"item": self.items, "store": self.stores}.get(it["do"])
@@ -433,10 +443,10 @@ class Ledger:
         new = [movement for number, line in enumerate(it.get("lines", []), 1) for movement in self.movements_of(it, number, line)]
         if len(self.accepted) >= MOST_RECORDS or len(self.movements) + len(new) > MOST_MOVEMENTS:
             return refused("full", records=len(self.accepted), entries=len(self.movements))
-        found = first_shortage(self.movements + new)
+        found = self.shortage_with(new)
         if found is not None:
             return self.short(*found)
-        self.movements += new
+        self.hold(new)
         self.accepted.append(it)
         masters = self.masters_of(it)
         if masters is not None:
@@ -446,6 +456,12 @@ class Ledger:
         if it["do"] == "store":
             self.accounts[len(self.accepted)] = it["account"]
         return {"record": len(self.accepted), "status": "accepted"}
+
+    def shortage_with(self, new):
+        return first_shortage(self.movements + new)
+
+    def hold(self, new):
+        self.movements += new
 
     def movements_of(self, it, number, line):
         """Returns the movements that the line with this number makes of the next record."""
@@ -477,10 +493,13 @@ class Ledger:
         if need > self.covered:
             return {"covered": self.covered, "need": need, "status": "pending"}
         charges = self.charges(self.covered)
-        rows = valued([movement for movement in self.movements if movement.record <= self.covered], charges)
+        rows = self.covered_rows(charges)
         shown = self.sheet(it, [row for row in rows if row[0].at <= it.get("until", row[0].at)], charges)
         written = {"csv": csv_of(it["of"], shown)} if it.get("as") == "csv" else {"rows": shown}
         return {"covered": self.covered, "report": it["of"], **written, "status": "ok"}
+
+    def covered_rows(self, charges):
+        return valued([movement for movement in self.movements if movement.record <= self.covered], charges)
 
     def sheet(self, asked, rows, charges):
         if asked["of"] == "accounts":
@@ -520,12 +539,15 @@ class Ledger:
         ]
 
 
-def replies(given):
-    """Returns the replies to the lines of an input, in their order, as texts."""
-    lines, ledger = given.split(b"\n"), Ledger()
-    return [json.dumps(ledger.answer(line), separators=(",", ":"), sort_keys=True) for line in lines if line.strip(b" \t\r")]
+def text_of(reply):
+    return json.dumps(reply, separators=(",", ":"), sort_keys=True)
+
+
+def replies(given, ledger):
+    """Returns the replies of a new ledger to the lines of an input, in their order, as texts."""
+    return [text_of(ledger.answer(line)) for line in given.split(b"\n") if line.strip(b" \t\r")]
 
 
 if __name__ == "__main__":
-    for reply in replies(sys.stdin.buffer.read()):
+    for reply in replies(sys.stdin.buffer.read(), Ledger()):
         print(reply)
