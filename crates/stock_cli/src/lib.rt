@@ -4,6 +4,8 @@
 mod answering;
 pub mod batch;
 mod blank;
+#[cfg(test)]
+mod builds_tests;
 pub mod end;
 pub mod open_line;
 mod refusing;
