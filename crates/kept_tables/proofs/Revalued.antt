@@ -1,0 +1,152 @@
+-- The worths of the rows that changed, put among the old ones, are those of all rows.
+use Rattle.std.proofs.Common.{◌≡◌, ℕ, pos, ◌<◌, Bool, true, false, not, List, [], ◌∷◌, ◌++◌, map, fold, filter, take, inl, inr, refl, sym, ap, ◌∙◌, subst, arith, Contains}
+use Rattle.std.proofs.lemmas.List.{append-nil, take-take}
+use Rattle.std.proofs.lemmas.List.Kept.{AllPairs-filter}
+use Rattle.stock_nums.specs.declared.entry.Row.{Row}
+use Rattle.stock_nums.specs.declared.numbers.RecordNo.{RecordNo}
+use Rattle.stock_nums.specs.declared.place.Spot.{Spot}
+use Rattle.stock_model.specs.History.{records, covered, covered_records}
+use Rattle.stock_model.specs.Replay.{replay}
+use Rattle.stock_model.specs.declared.deeds.Deed.{Deed}
+use Rattle.stock_model.specs.declared.deeds.Deed.TheVariants.{Published}
+use Rattle.stock_model.specs.declared.records.Record.{Record}
+use Rattle.stock_model.proofs.Pairwise.{Pairwise, Each, Pairwise-from_AllPairs}
+use Rattle.stock_laws.proofs.Histories.{records-append, covered_after-append}
+use Rattle.stock_keeper.specs.Changed.{published}
+use Rattle.stock_keeper.specs.Worths.{IsBefore, put, without}
+use Rattle.stock_keeper.specs.declared.changes.SpotWorth.{SpotWorth}
+use Rattle.stock_keeper.specs.declared.tables.Tables.{Tables}
+use Rattle.repost_laws.specs.Builds.{ValuedSince, is_as_published}
+use Rattle.repost_laws.proofs.Filtered.{Contains-filtered, Contains-filter}
+use Rattle.repost_fetch.specs.Changes.{is_valued, AreChanges}
+use Rattle.kept_tables.specs.Differences.{worth_at}
+use Rattle.kept_tables.specs.TablesOf.{stored_from, spot_of, spot_worth, worths_of, changes_of, tables_of}
+use Rattle.kept_tables.proofs.OwnSpots.{HasEntry, HasEntry-replay, AllPairs-replay}
+use Rattle.kept_tables.proofs.RowWorths.{IsElsewhere, HasOtherSpot, HasAt, fold-elsewhere, fold-held, held_or_elsewhere, not_elsewhere, AreInOrder-worths_of}
+use Rattle.kept_tables.proofs.WorthsAt.{same-from_spots, AreInOrder-fold}
+
+-- old rows and all rows, each of a spot of its own: those at places that were not valued are the same, and one of all rows is
+-- of the movement of each old one
+pub record AreRevalued (valued : ValuedSince) (old all : List Row) : Type 0 where
+  pub old_own : Pairwise HasOtherSpot old
+  pub own : Pairwise HasOtherSpot all
+  pub changed_own : Pairwise HasOtherSpot (filter (is_valued valued) all)
+  pub known : (row : Row) → Contains old row → HasEntry all row.entry
+  pub same : filter (is_as_published valued) all ≡ filter (is_as_published valued) old
+
+module _ (valued : ValuedSince) (old all : List Row) (are : AreRevalued valued old all) where
+  abbrev changed_rows : List Row
+  changed_rows = filter (is_valued valued) all
+
+  -- a row that was not valued is an old one, and an old one is one of all
+  was_old : (row : Row) → Contains all row → is_valued valued row ≡ false → Contains old row
+  was_old row held is =
+      (Contains-filtered (is_as_published valued) old row
+      (subst (λ (rows : List Row). Contains rows row) are.same (Contains-filter (is_as_published valued) all row held (ap not is)))).0
+
+  still_held : (row : Row) → Contains old row → is_valued valued row ≡ false → Contains all row
+  still_held row held is =
+      (Contains-filtered (is_as_published valued) all row
+      (subst (λ (rows : List Row). Contains rows row) (sym are.same) (Contains-filter (is_as_published valued) old row held (ap not is)))).0
+
+  -- where no row of a spot changed, no old row of it was valued, and none of all
+  HasAt-changed : (row : Row) → Contains all row → is_valued valued row ≡ true → HasAt changed_rows (spot_of row.entry.place)
+  HasAt-changed row held is = record { row = row; held = Contains-filter (is_valued valued) all row held is; at = refl }
+
+  old-unvalued : (s : Spot) → Each (IsElsewhere s) changed_rows → (has : HasAt old s) → is_valued valued has.row ≡ false
+  old-unvalued s others has = by_test (is_valued valued has.row) refl
+    where
+      by_test : (b : Bool) → is_valued valued has.row ≡ b → is_valued valued has.row ≡ false
+      by_test false is = is
+      by_test true is =
+          let now = are.known has.row has.held in
+          let valued_now : is_valued valued now.row ≡ true = ap (λ e. valued e.place) now.is ∙ is in
+          let at : spot_of now.row.entry.place ≡ s = ap (λ e. spot_of e.place) now.is ∙ has.at in
+          absurd (not_elsewhere changed_rows s (subst (HasAt changed_rows) at (HasAt-changed now.row now.held valued_now)) others)
+
+  all-unvalued : (s : Spot) → Each (IsElsewhere s) changed_rows → (has : HasAt all s) → is_valued valued has.row ≡ false
+  all-unvalued s others has = by_test (is_valued valued has.row) refl
+    where
+      by_test : (b : Bool) → is_valued valued has.row ≡ b → is_valued valued has.row ≡ false
+      by_test false is = is
+      by_test true is =
+          absurd (not_elsewhere changed_rows s (subst (HasAt changed_rows) has.at (HasAt-changed has.row has.held is)) others)
+
+  -- what stands at a spot of which no row changed
+  kept-at : (s : Spot) → Each (IsElsewhere s) changed_rows → worth_at (worths_of old) s ≡ worth_at (worths_of all) s
+  kept-at s others =
+      elim (held_or_elsewhere old s) [
+        | inl has ↦
+            subst (λ (t : Spot). worth_at (worths_of old) t ≡ worth_at (worths_of all) t) has.at
+            (fold-held [] old has.row are.old_own has.held
+            ∙ sym (fold-held [] all has.row are.own (still_held has.row has.held (old-unvalued s others has))))
+        | inr none ↦ elim (held_or_elsewhere all s) [
+          | inl has ↦
+              absurd (not_elsewhere old s
+              (record { row = has.row; held = was_old has.row has.held (all-unvalued s others has); at = has.at }) none)
+          | inr neither ↦ fold-elsewhere [] old s none ∙ sym (fold-elsewhere [] all s neither)
+        ]
+      ]
+
+  -- and at each spot
+  same-at : (s : Spot) → worth_at (fold put (worths_of old) (map spot_worth changed_rows)) s ≡ worth_at (worths_of all) s
+  same-at s =
+      elim (held_or_elsewhere changed_rows s) [
+        | inl has ↦
+            subst (λ (t : Spot). worth_at (fold put (worths_of old) (map spot_worth changed_rows)) t ≡ worth_at (worths_of all) t) has.at
+            (fold-held (worths_of old) changed_rows has.row are.changed_own has.held
+            ∙ sym (fold-held [] all has.row are.own (Contains-filtered (is_valued valued) all has.row has.held).0))
+        | inr others ↦ fold-elsewhere (worths_of old) changed_rows s others ∙ kept-at s others
+      ]
+
+  pub worths_of-revalued : fold put (worths_of old) (map spot_worth changed_rows) ≡ worths_of all
+  worths_of-revalued =
+      let made = fold put (worths_of old) (map spot_worth changed_rows) in
+      same-from_spots made (worths_of all)
+      (Pairwise-from_AllPairs IsBefore made (AreInOrder-fold (worths_of old) (map spot_worth changed_rows) (AreInOrder-worths_of old)))
+      (Pairwise-from_AllPairs IsBefore (worths_of all) (AreInOrder-worths_of all)) same-at
+
+-- the rows of a replay and those of a replay of the first records are such
+AreRevalued-changes : (journal : List Record) (n : ℕ) (changed : List Row) (are : AreChanges journal n changed)
+    → AreRevalued are.valued (replay (take n journal)) (replay journal)
+AreRevalued-changes journal n changed are =
+    record {
+      old_own = Pairwise-from_AllPairs HasOtherSpot (replay (take n journal)) (AllPairs-replay (take n journal));
+      own = Pairwise-from_AllPairs HasOtherSpot (replay journal) (AllPairs-replay journal);
+      changed_own = Pairwise-from_AllPairs HasOtherSpot (filter (is_valued are.valued) (replay journal))
+          (AllPairs-filter HasOtherSpot (is_valued are.valued) (replay journal) (AllPairs-replay journal));
+      known = HasEntry-replay journal n;
+      same = are.others;
+    }
+
+-- what changed, put among the worths of the first records, makes the worths of all
+worths_of-changed : (journal : List Record) (n : ℕ) (changed : List Row) → AreChanges journal n changed
+    → fold put (worths_of (replay (take n journal))) (map spot_worth changed) ≡ worths_of (replay journal)
+worths_of-changed journal n changed are =
+    ap (λ (rows : List Row). fold put (worths_of (replay (take n journal))) (map spot_worth rows)) are.rows
+    ∙ worths_of-revalued are.valued (replay (take n journal)) (replay journal) (AreRevalued-changes journal n changed are)
+
+-- nothing goes
+without-none : (worths : List SpotWorth) → without [] worths ≡ worths
+without-none [] = refl
+without-none (w ∷ worths) = ap (λ (ws : List SpotWorth). w ∷ ws) (without-none worths)
+
+-- a publication of what changed makes the tables of the history with it
+pub tables_of-published : (history : List Deed) (n : RecordNo) (changed : List Row) → covered history < n.0
+    → AreChanges (take n.0 (records history)) (covered history) changed
+    → published n (changes_of changed) (tables_of history) ≡ tables_of (history ++ Published n ∷ [])
+tables_of-published history n changed more are =
+    let last = Published n ∷ [] in
+    let journal = take n.0 (records history) in
+    let made : List Record → ℕ → List SpotWorth → Tables =
+    λ items m worths. record { version = pos 1; records = stored_from 1 items; covered = pos m; worths = worths } in
+    let old : worths_of (replay (take (covered history) journal)) ≡ worths_of (replay (covered_records history)) =
+    ap (λ (items : List Record). worths_of (replay items)) (take-take (covered history) n.0 (records history) (omega arith)) in
+    let worths : without [] (fold put (worths_of (replay (covered_records history))) (map spot_worth changed)) ≡ worths_of (replay journal) =
+    without-none (fold put (worths_of (replay (covered_records history))) (map spot_worth changed))
+    ∙ ap (λ (ws : List SpotWorth). fold put ws (map spot_worth changed)) (sym old) ∙ worths_of-changed journal (covered history) changed are in
+    let all : records history ≡ records (history ++ last) = sym (records-append history last ∙ append-nil (records history)) in
+    let upto : n.0 ≡ covered (history ++ last) = sym (covered_after-append 0 history last) in
+    ap (made (records history) n.0) worths
+    ∙ ap (λ (items : List Record). made items n.0 (worths_of (replay (take n.0 items)))) all
+    ∙ ap (λ (m : ℕ). made (records (history ++ last)) m (worths_of (replay (take m (records (history ++ last)))))) upto
