@@ -25,7 +25,9 @@ MOMENTS = 600
 EVERY = 200
 WORK = {"do": "work", "turns": 500}
 PORTIONS = [1, 1, 2, 3, 7, 30, 100]
-# After so many vouchers each: turns that end right before a publication; the same while further vouchers come; a settlement, and
+# Before all other moments, and after them.
+FIRST, LAST = "2025-12-31T09:00:00", "2026-12-31T09:00:00"
+# After so many vouchers each: turns that end right before a publication; such turns while further vouchers come; a settlement, and
 # an item alone.
 PUBLISH_EVERY, BUSY_EVERY, SETTLE_EVERY = 310, 430, 900
 
@@ -69,9 +71,31 @@ def add_turns(maker):
     maker.post({"do": "report", "of": "balance", "need": ledger.build.target})
 
 
+def add_unchanging(maker):
+    """Adds vouchers that touch others and change none: a charge of nothing, and goods that come in before all others and are sold at
+    once. A worker that valued more than what they touch would make more turns. Returns the number of the sale."""
+    chance = maker.chance
+    target = {"record": chance.choice(maker.targets["landed"]), "line": 1}
+    maker.post({"do": "landed", "charge": 0, "basis": "qty", "targets": [target]})
+    goods = [{"item": item, "store": chance.choice(all_kinds.STORES), "qty": chance.randint(2, 20)} for item in all_kinds.ITEMS]
+    maker.post({"do": "receipt", "at": FIRST, "lines": [{**line, "amount": chance.randint(1, 9_999)} for line in goods]})
+    return maker.post({"do": "issue", "at": FIRST, "use": "sold", "lines": goods})["record"]
+
+
+def add_return(maker, sale, at):
+    line = {"record": sale, "line": 1, "store": maker.chance.choice(all_kinds.STORES), "qty": 1}
+    maker.post({"do": "customer-return", "at": at, "lines": [line]})
+
+
 def add_publication(maker):
     """Adds turns that end right before a publication, and then one alone that publishes: a turn more or less than is due would be
-    seen."""
+    seen. The fetches before it are of vouchers that change no value of others, and of a return that stands before another one of
+    the same sale."""
+    add_turns(maker)
+    sale = add_unchanging(maker)
+    add_return(maker, sale, LAST)
+    add_turns(maker)
+    add_return(maker, sale, FIRST)
     add_turns(maker)
     maker.post({"do": "work", "turns": 1})
     maker.post({"do": "report", "of": "balance", "need": maker.ledger.build.target})
