@@ -42,7 +42,8 @@ later_ones ws i w at =
     (subst (Pairwise IsBefore) (from_index ws i w at) (Pairwise-drop i ws (Pairwise-from_AllPairs IsBefore ws at.order))).0
 
 -- all from the index on stand behind what comes before the first of them, or there are none
-behind_from : (v : SpotWorth) (ws : List SpotWorth) (i : ℕ) (w : SpotWorth) → StandsAt ws i w → is_spot_before v.spot w.spot ≡ true
+behind_from : (v : SpotWorth) (ws : List SpotWorth) (i : ℕ) (w : SpotWorth) → StandsAt ws i w
+    → is_spot_before v.spot w.spot ≡ true
     → Each (IsBehind v.spot) (drop i ws)
 behind_from v ws i w at before =
     subst (Each (IsBehind v.spot)) (sym (from_index ws i w at)) (all_behind v.spot w (drop (i + 1) ws) before (later_ones ws i w at))
@@ -63,7 +64,8 @@ replayed_behind vs ws i w at behind =
     (sym (from_index ws i w at)) (told-replayed w (drop i vs) (drop (i + 1) ws) (later_ones ws i w at) behind)
 
 -- a stored worth comes first, or is left alone
-pub stored_first : (vs ws : List SpotWorth) (i : ℕ) (v w : SpotWorth) → StandsAt vs i v → StandsAt ws i w → is_spot_before v.spot w.spot ≡ true
+pub stored_first : (vs ws : List SpotWorth) (i : ℕ) (v w : SpotWorth) → StandsAt vs i v → StandsAt ws i w
+    → is_spot_before v.spot w.spot ≡ true
     → IsTold (drop i vs) (drop i ws) (Some (record { spot = v.spot; stored = Some v.worth; replayed = None }))
 stored_first vs ws i v w at made_at before = stored_behind vs ws i v at (behind_from v ws i w made_at before)
 
@@ -72,7 +74,8 @@ pub stored_left : (vs ws : List SpotWorth) (i : ℕ) (v : SpotWorth) → StandsA
 stored_left vs ws i v at past = stored_behind vs ws i v at (behind_end v ws i past)
 
 -- a replayed one does
-pub replayed_first : (vs ws : List SpotWorth) (i : ℕ) (v w : SpotWorth) → StandsAt vs i v → StandsAt ws i w → is_spot_before w.spot v.spot ≡ true
+pub replayed_first : (vs ws : List SpotWorth) (i : ℕ) (v w : SpotWorth) → StandsAt vs i v → StandsAt ws i w
+    → is_spot_before w.spot v.spot ≡ true
     → IsTold (drop i vs) (drop i ws) (Some (record { spot = w.spot; stored = None; replayed = Some w.worth }))
 replayed_first vs ws i v w at made_at before = replayed_behind vs ws i w made_at (behind_from w vs i v at before)
 
@@ -81,7 +84,8 @@ pub replayed_left : (vs ws : List SpotWorth) (i : ℕ) (w : SpotWorth) → Stand
 replayed_left vs ws i w at past = replayed_behind vs ws i w at (behind_end w vs i past)
 
 -- two of one spot differ, or are the same
-pub changed_here : (vs ws : List SpotWorth) (i : ℕ) (v w : SpotWorth) → StandsAt vs i v → StandsAt ws i w → v.spot ≡ w.spot → (v.worth ≡ w.worth → ⊥)
+pub changed_here : (vs ws : List SpotWorth) (i : ℕ) (v w : SpotWorth) → StandsAt vs i v → StandsAt ws i w
+    → v.spot ≡ w.spot → (v.worth ≡ w.worth → ⊥)
     → IsTold (drop i vs) (drop i ws) (Some (record { spot = v.spot; stored = Some v.worth; replayed = Some w.worth }))
 changed_here vs ws i v w at made_at one other =
     let told : Option Difference = Some (record { spot = v.spot; stored = Some v.worth; replayed = Some w.worth }) in
@@ -89,8 +93,10 @@ changed_here vs ws i v w at made_at one other =
     (subst (λ (us : List SpotWorth). IsTold (v ∷ drop (i + 1) vs) us told) (sym (from_index ws i w made_at))
     (told-changed v w (drop (i + 1) vs) (drop (i + 1) ws) one other (later_ones vs i v at) (later_ones ws i w made_at)))
 
-pub same_here : (vs ws : List SpotWorth) (i : ℕ) (v w : SpotWorth) (told : Option Difference) → StandsAt vs i v → StandsAt ws i w
-    → v.spot ≡ w.spot → v.worth ≡ w.worth → IsTold (drop (i + 1) vs) (drop (i + 1) ws) told → IsTold (drop i vs) (drop i ws) told
+pub same_here : (vs ws : List SpotWorth) (i : ℕ) (v w : SpotWorth) (told : Option Difference) → StandsAt vs i v
+    → StandsAt ws i w
+    → v.spot ≡ w.spot → v.worth ≡ w.worth → IsTold (drop (i + 1) vs) (drop (i + 1) ws) told
+    → IsTold (drop i vs) (drop i ws) told
 same_here vs ws i v w told at made_at spots worths rest =
     subst (λ (us : List SpotWorth). IsTold us (drop i ws) told) (sym (from_index vs i v at))
     (subst (λ (us : List SpotWorth). IsTold (v ∷ drop (i + 1) vs) us told) (sym (from_index ws i w made_at))

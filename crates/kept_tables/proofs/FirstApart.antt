@@ -59,7 +59,8 @@ told-changed v w vs ws one other order made_order =
       first = record {
         differs = λ alike. let both : Some v.worth ≡ Some w.worth = sym at ∙ alike ∙ made_at in other cc;
         first = λ s before. worth_at-none s (v ∷ vs) (all_behind s v vs before order)
-            ∙ sym (worth_at-none s (w ∷ ws) (all_behind s w ws (subst (λ (t : Spot). is_spot_before s t ≡ true) one before) made_order));
+            ∙ sym (worth_at-none s (w ∷ ws)
+            (all_behind s w ws (subst (λ (t : Spot). is_spot_before s t ≡ true) one before) made_order));
       };
       stored = sym at;
       replayed = sym made_at;
@@ -76,7 +77,8 @@ differs-later v vs ws s order made_order first =
     ∙ sym (worth_at-none v.spot ws (behind-first v ws made_order)) ∙ ap (worth_at ws) at))
 
 -- what is told of the rest is told with one worth before both
-told-same : (v : SpotWorth) (vs ws : List SpotWorth) (told : Option Difference) → Precedes IsBefore v vs → Precedes IsBefore v ws
+told-same : (v : SpotWorth) (vs ws : List SpotWorth) (told : Option Difference) → Precedes IsBefore v vs
+    → Precedes IsBefore v ws
     → IsTold vs ws told → IsTold (v ∷ vs) (v ∷ ws) told
 told-same v vs ws None order made_order rest =
     record { first = tt; stored = tt; replayed = tt; same = λ is. ap (λ (us : List SpotWorth). v ∷ us) (rest.same is) }

@@ -28,12 +28,13 @@ stored_from-snoc n (first ∷ items) item =
     (stored_from-snoc (n + 1) items item
     ∙ ap (λ (m : ℕ). stored_from (n + 1) items ++ stored (record { 0 = m }) (record_text item) ∷ []) next)
 
-pub length-stored_from : (n : ℕ) (items : List Record) → length (stored_from n items) ≡ length items
+length-stored_from : (n : ℕ) (items : List Record) → length (stored_from n items) ≡ length items
 length-stored_from n [] = refl
 length-stored_from n (item ∷ items) = ap suc (length-stored_from (n + 1) items)
 
 -- the last number
-last_number-stored_from : (n : ℕ) (items : List Record) → last_number (pos n) (stored_from (n + 1) items) ≡ pos (n + length items)
+last_number-stored_from : (n : ℕ) (items : List Record)
+    → last_number (pos n) (stored_from (n + 1) items) ≡ pos (n + length items)
 last_number-stored_from n [] =
     let same : n ≡ n + 0 = omega arith in ap pos same
 last_number-stored_from n (item ∷ items) =
@@ -73,5 +74,6 @@ tables_of-kept history item legal =
     front)
 
 -- no more is covered than there are records
-pub CoversRecords-accepted : (history : List Deed) (n : RecordNo) → n.0 ≤ accepted history → CoversRecords (tables_of history) n
+pub CoversRecords-accepted : (history : List Deed) (n : RecordNo) → n.0 ≤ accepted history
+    → CoversRecords (tables_of history) n
 CoversRecords-accepted history n within = omega (arith, within, length-stored_from 1 (records history))

@@ -30,7 +30,8 @@ different_spots a b differ same =
     differ (ap (λ (s : Spot). s.voucher.0) same) (ap (λ (s : Spot). s.line) same) (ap (λ (s : Spot). s.side) same)
 
 -- so movements of one spot are one
-one_entry : (es : List Entry) (a b : Entry) → Pairwise Differ es → Contains es a → Contains es b → spot_of a.place ≡ spot_of b.place → a ≡ b
+one_entry : (es : List Entry) (a b : Entry) → Pairwise Differ es → Contains es a → Contains es b
+    → spot_of a.place ≡ spot_of b.place → a ≡ b
 one_entry [] a b apart first second same = absurd (omega (arith, first.1))
 one_entry (e ∷ es) a b apart first second same =
     elim (Contains-cases e es a first) [
@@ -51,22 +52,26 @@ abbrev IsOfOtherSpot : Entry → Entry → Type 0
 IsOfOtherSpot a b = is_same_spot (spot_of b.place) (spot_of a.place) ≡ false
 
 -- in posting order each movement is of another spot than those before it
-later-other : (journal : List Record) (a b : Entry) → Contains (posting_line journal) a → Contains (posting_line journal) b → IsBefore a b → IsOfOtherSpot a b
+later-other : (journal : List Record) (a b : Entry) → Contains (posting_line journal) a
+    → Contains (posting_line journal) b → IsBefore a b → IsOfOtherSpot a b
 later-other journal a b first second before =
     fails (is_same_spot (spot_of b.place) (spot_of a.place)) (λ test.
-    let one : b ≡ a = one_entry (all_entries journal) b a (all_entries-Pairwise journal) (of_line journal b second) (of_line journal a first)
+    let one : b ≡ a =
+    one_entry (all_entries journal) b a (all_entries-Pairwise journal) (of_line journal b second) (of_line journal a first)
     (same-from_test (spot_of b.place) (spot_of a.place) test) in
     never_itself a (subst (IsBefore a) one before))
 
 -- elements of a list that are related in one way are related in another, where that follows
-AllPairs-held : {X : Type 0} (R Q : X → X → Type 0) (xs : List X) → ((a b : X) → Contains xs a → Contains xs b → R a b → Q a b)
+AllPairs-held : {X : Type 0} (R Q : X → X → Type 0) (xs : List X)
+    → ((a b : X) → Contains xs a → Contains xs b → R a b → Q a b)
     → AllPairs R xs → AllPairs Q xs
 AllPairs-held R Q xs follows pairs i j d less within =
     let early : i < length xs = omega arith in
     follows (get_or xs i d) (get_or xs j d) (Contains-get_or xs i d early) (Contains-get_or xs j d within) (pairs i j d less within)
 
 -- elements from which related ones are made are related by what is made of them
-AllPairs-map : {X Y : Type 0} (R : Y → Y → Type 0) (f : X → Y) (xs : List X) → AllPairs R (map f xs) → AllPairs (λ a b. R (f a) (f b)) xs
+AllPairs-map : {X Y : Type 0} (R : Y → Y → Type 0) (f : X → Y) (xs : List X) → AllPairs R (map f xs)
+    → AllPairs (λ a b. R (f a) (f b)) xs
 AllPairs-map {Y = Y} R f xs pairs i j d less within =
     let early : i < length xs = omega arith in
     let long : j < length (map f xs) = omega (arith, length-map xs f) in
@@ -112,7 +117,8 @@ Contains-entry (first ∷ rows) row held =
     ]
 
 -- a movement of the first records is one of all
-in_longer : (journal : List Record) (n : ℕ) (e : Entry) → Contains (posting_line (take n journal)) e → Contains (posting_line journal) e
+in_longer : (journal : List Record) (n : ℕ) (e : Entry) → Contains (posting_line (take n journal)) e
+    → Contains (posting_line journal) e
 in_longer journal n e held =
     let front = take n journal in
     let more = drop n journal in
@@ -121,9 +127,11 @@ in_longer journal n e held =
     (Contains-front (all_entries front) (entries_after front more) e (of_line front e held))))
 
 -- so a row of their replay is of a movement of the whole replay
-pub HasEntry-replay : (journal : List Record) (n : ℕ) (row : Row) → Contains (replay (take n journal)) row → HasEntry (replay journal) row.entry
+pub HasEntry-replay : (journal : List Record) (n : ℕ) (row : Row) → Contains (replay (take n journal)) row
+    → HasEntry (replay journal) row.entry
 HasEntry-replay journal n row held =
     let early : Contains (posting_line (take n journal)) row.entry =
-    subst (λ (es : List Entry). Contains es row.entry) (entries-replay (take n journal)) (Contains-entry (replay (take n journal)) row held) in
+    subst (λ (es : List Entry). Contains es row.entry) (entries-replay (take n journal))
+    (Contains-entry (replay (take n journal)) row held) in
     HasEntry-from (replay journal) row.entry
     (subst (λ (es : List Entry). Contains es row.entry) (sym (entries-replay journal)) (in_longer journal n row.entry early))

@@ -47,7 +47,8 @@ module _ (valued : ValuedSince) (old all : List Row) (are : AreRevalued valued o
   still_held : (row : Row) → Contains old row → is_valued valued row ≡ false → Contains all row
   still_held row held is =
       (Contains-filtered (is_as_published valued) all row
-      (subst (λ (rows : List Row). Contains rows row) (sym are.same) (Contains-filter (is_as_published valued) old row held (ap not is)))).0
+      (subst (λ (rows : List Row). Contains rows row) (sym are.same)
+      (Contains-filter (is_as_published valued) old row held (ap not is)))).0
 
   -- where no row of a spot changed, no old row of it was valued, and none of all
   HasAt-changed : (row : Row) → Contains all row → is_valued valued row ≡ true → HasAt changed_rows (spot_of row.entry.place)
@@ -93,7 +94,8 @@ module _ (valued : ValuedSince) (old all : List Row) (are : AreRevalued valued o
   same-at s =
       elim (held_or_elsewhere changed_rows s) [
         | inl has ↦
-            subst (λ (t : Spot). worth_at (fold put (worths_of old) (map spot_worth changed_rows)) t ≡ worth_at (worths_of all) t) has.at
+            subst (λ (t : Spot). worth_at (fold put (worths_of old) (map spot_worth changed_rows)) t ≡ worth_at (worths_of all) t)
+            has.at
             (fold-held (worths_of old) changed_rows has.row are.changed_own has.held
             ∙ sym (fold-held [] all has.row are.own (Contains-filtered (is_valued valued) all has.row has.held).0))
         | inr others ↦ fold-elsewhere (worths_of old) changed_rows s others ∙ kept-at s others
@@ -103,7 +105,8 @@ module _ (valued : ValuedSince) (old all : List Row) (are : AreRevalued valued o
   worths_of-revalued =
       let made = fold put (worths_of old) (map spot_worth changed_rows) in
       same-from_spots made (worths_of all)
-      (Pairwise-from_AllPairs IsBefore made (AreInOrder-fold (worths_of old) (map spot_worth changed_rows) (AreInOrder-worths_of old)))
+      (Pairwise-from_AllPairs IsBefore made
+      (AreInOrder-fold (worths_of old) (map spot_worth changed_rows) (AreInOrder-worths_of old)))
       (Pairwise-from_AllPairs IsBefore (worths_of all) (AreInOrder-worths_of all)) same-at
 
 -- the rows of a replay and those of a replay of the first records are such
@@ -142,9 +145,11 @@ tables_of-published history n changed more are =
     λ items m worths. record { version = pos 1; records = stored_from 1 items; covered = pos m; worths = worths } in
     let old : worths_of (replay (take (covered history) journal)) ≡ worths_of (replay (covered_records history)) =
     ap (λ (items : List Record). worths_of (replay items)) (take-take (covered history) n.0 (records history) (omega arith)) in
-    let worths : without [] (fold put (worths_of (replay (covered_records history))) (map spot_worth changed)) ≡ worths_of (replay journal) =
-    without-none (fold put (worths_of (replay (covered_records history))) (map spot_worth changed))
-    ∙ ap (λ (ws : List SpotWorth). fold put ws (map spot_worth changed)) (sym old) ∙ worths_of-changed journal (covered history) changed are in
+    let old_worths = worths_of (replay (covered_records history)) in
+    let worths : without [] (fold put old_worths (map spot_worth changed)) ≡ worths_of (replay journal) =
+    without-none (fold put old_worths (map spot_worth changed))
+    ∙ ap (λ (ws : List SpotWorth). fold put ws (map spot_worth changed)) (sym old)
+    ∙ worths_of-changed journal (covered history) changed are in
     let all : records history ≡ records (history ++ last) = sym (records-append history last ∙ append-nil (records history)) in
     let upto : n.0 ≡ covered (history ++ last) = sym (covered_after-append 0 history last) in
     ap (made (records history) n.0) worths

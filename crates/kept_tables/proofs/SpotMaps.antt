@@ -43,20 +43,24 @@ first_by-tie : (a b : ℕ) (r : Bool) → a ≡ b → r ≡ first_by a b r
 first_by-tie a b r same = grind (arith, nat_tests)
 
 -- by the side
-tells-side : (a b : Side) → Tells ((side_order.ghosts).cmp a b) (nat_lt (side_rank a) (side_rank b)) (nat_lt (side_rank b) (side_rank a))
+tells-side : (a b : Side)
+    → Tells ((side_order.ghosts).cmp a b) (nat_lt (side_rank a) (side_rank b)) (nat_lt (side_rank b) (side_rank a))
 tells-side Leaves Leaves = (refl, refl)
 tells-side Leaves Enters = (refl, refl)
 tells-side Enters Leaves = (refl, refl)
 tells-side Enters Enters = (refl, refl)
 
 -- by a number, and then by the rest
-tells-then : (a b : ℕ) (o : Ordering) (x y : Bool) → Tells o x y → Tells (ordering_then (nat_cmp a b) o) (first_by a b x) (first_by b a y)
+tells-then : (a b : ℕ) (o : Ordering) (x y : Bool) → Tells o x y
+    → Tells (ordering_then (nat_cmp a b) o) (first_by a b x) (first_by b a y)
 tells-then a b o x y rest =
     elim (cases_lt a b) [
-      | inl less ↦ subst (λ (first : Ordering). Tells (ordering_then first o) (first_by a b x) (first_by b a y)) (nat_cmp_is a b Less less)
+      | inl less ↦ subst (λ (first : Ordering). Tells (ordering_then first o) (first_by a b x) (first_by b a y))
+          (nat_cmp_is a b Less less)
           (first_by-less a b x less, first_by-more b a y less)
       | inr not_less ↦ elim (cases_lt b a) [
-        | inl more ↦ subst (λ (first : Ordering). Tells (ordering_then first o) (first_by a b x) (first_by b a y)) (nat_cmp_is a b Greater more)
+        | inl more ↦ subst (λ (first : Ordering). Tells (ordering_then first o) (first_by a b x) (first_by b a y))
+            (nat_cmp_is a b Greater more)
             (first_by-more a b x more, first_by-less b a y more)
         | inr not_more ↦
             let same : a ≡ b = omega arith in
@@ -72,13 +76,15 @@ tells-spot a b =
     tells-then a.voucher.0 b.voucher.0 _ _ _ (tells-then a.line b.line _ _ _ (tells-side a.side b.side))
 
 -- an entry is put in as a worth is
-put-entry : (es : List (Spot × Worth)) (own : SpotWorth) → map entry_worth (insert_entry spot_cmp es own.spot own.worth) ≡ put (map entry_worth es) own
+put-entry : (es : List (Spot × Worth)) (own : SpotWorth)
+    → map entry_worth (insert_entry spot_cmp es own.spot own.worth) ≡ put (map entry_worth es) own
 put-entry [] own = refl
 put-entry (e ∷ es) own = by_order (spot_cmp own.spot e.0) (tells-spot own.spot e.0) (put-entry es own)
   where
     by_order : (o : Ordering) → Tells o (is_spot_before own.spot e.0) (is_spot_before e.0 own.spot)
         → map entry_worth (insert_entry spot_cmp es own.spot own.worth) ≡ put (map entry_worth es) own
-        → map entry_worth (match_ordering o ((own.spot, own.worth) ∷ e ∷ es) ((e.0, own.worth) ∷ es) (e ∷ insert_entry spot_cmp es own.spot own.worth))
+        → map entry_worth (match_ordering o ((own.spot, own.worth) ∷ e ∷ es) ((e.0, own.worth) ∷ es)
+        (e ∷ insert_entry spot_cmp es own.spot own.worth))
         ≡ cond (is_spot_before e.0 own.spot) (entry_worth e ∷ put (map entry_worth es) own)
         (cond (is_spot_before own.spot e.0) (own ∷ entry_worth e ∷ map entry_worth es) (own ∷ map entry_worth es))
     by_order Less told rest = rw (told.1, told.0) refl
@@ -96,8 +102,10 @@ worths_of-more rows i row within is =
     ∙ ap (λ (r : Row). put (worths_of (take i rows)) (spot_worth r)) (sym is)
 
 -- so the entries with those of one more row are its worths
-pub entries-more : (rows : List Row) (i : ℕ) (row : Row) (own : SpotWorth) (old new : List (Spot × Worth)) → i < length rows → row ≡ get_or rows i row
-    → own ≡ spot_worth row → map entry_worth old ≡ worths_of (take i rows) → new ≡ insert_entry spot_cmp old own.spot own.worth
+pub entries-more : (rows : List Row) (i : ℕ) (row : Row) (own : SpotWorth) (old new : List (Spot × Worth))
+    → i < length rows → row ≡ get_or rows i row
+    → own ≡ spot_worth row → map entry_worth old ≡ worths_of (take i rows)
+    → new ≡ insert_entry spot_cmp old own.spot own.worth
     → map entry_worth new ≡ worths_of (take (i + 1) rows)
 entries-more rows i row own old new within is own_is so_far inserted =
     ap (map entry_worth) inserted ∙ put-entry old own ∙ ap (λ (ws : List SpotWorth). put ws own) so_far

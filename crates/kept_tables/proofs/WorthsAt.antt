@@ -22,7 +22,7 @@ pub test-refl : (a : Spot) → is_same_spot a a ≡ true
 test-refl a = grind (arith, nat_tests)
 
 -- a spot that comes before another is not that one
-pub other-from_after : (a b : Spot) → is_spot_before a b ≡ true → is_same_spot b a ≡ false
+other-from_after : (a b : Spot) → is_spot_before a b ≡ true → is_same_spot b a ≡ false
 other-from_after a b before = fails (is_same_spot b a) (λ same. false≢true (sym (neither-from_test b a same).1 ∙ before))
 
 -- nor are both of them a third
@@ -32,9 +32,11 @@ never_both a b s before first second =
     false≢true (sym (irreflexive b) ∙ subst (λ (t : Spot). is_spot_before t b ≡ true) same before)
 
 -- what stands at a spot where one more stands in front
-pub worth_at-cons : (w : SpotWorth) (ws : List SpotWorth) (s : Spot) → worth_at (w ∷ ws) s ≡ cond (is_same_spot w.spot s) (Some w.worth) (worth_at ws s)
+pub worth_at-cons : (w : SpotWorth) (ws : List SpotWorth) (s : Spot)
+    → worth_at (w ∷ ws) s ≡ cond (is_same_spot w.spot s) (Some w.worth) (worth_at ws s)
 worth_at-cons w ws s =
-    elim (is_same_spot w.spot s) as (λ b. option_map worth_in (cond b (Some w) (find (is_at s) ws)) ≡ cond b (Some w.worth) (worth_at ws s)) [
+    elim (is_same_spot w.spot s) as (λ b. option_map worth_in (cond b (Some w) (find (is_at s) ws))
+    ≡ cond b (Some w.worth) (worth_at ws s)) [
       | true ↦ refl
       | false ↦ refl
     ]
@@ -42,7 +44,8 @@ worth_at-cons w ws s =
 pub worth_at-first : (w : SpotWorth) (ws : List SpotWorth) → worth_at (w ∷ ws) w.spot ≡ Some w.worth
 worth_at-first w ws = worth_at-cons w ws w.spot ∙ ap (λ (b : Bool). cond b (Some w.worth) (worth_at ws w.spot)) (test-refl w.spot)
 
-pub worth_at-other : (w : SpotWorth) (ws : List SpotWorth) (s : Spot) → is_same_spot w.spot s ≡ false → worth_at (w ∷ ws) s ≡ worth_at ws s
+pub worth_at-other : (w : SpotWorth) (ws : List SpotWorth) (s : Spot) → is_same_spot w.spot s ≡ false
+    → worth_at (w ∷ ws) s ≡ worth_at ws s
 worth_at-other w ws s other = worth_at-cons w ws s ∙ ap (λ (b : Bool). cond b (Some w.worth) (worth_at ws s)) other
 
 -- the worth stands behind the spot
@@ -55,7 +58,8 @@ worth_at-none s [] behind = refl
 worth_at-none s (w ∷ ws) behind = worth_at-other w ws s (other-from_after s w.spot behind.0) ∙ worth_at-none s ws behind.1
 
 -- what stands behind a spot stands behind each earlier one
-pub behind-before : (s t : Spot) (ws : List SpotWorth) → is_spot_before s t ≡ true → Each (IsBehind t) ws → Each (IsBehind s) ws
+pub behind-before : (s t : Spot) (ws : List SpotWorth) → is_spot_before s t ≡ true → Each (IsBehind t) ws
+    → Each (IsBehind s) ws
 behind-before s t ws before behind = Each-weaker (IsBehind t) (IsBehind s) (λ w next. transitive s t w.spot before next) ws behind
 
 -- in order, all after the first stand behind it
@@ -63,7 +67,8 @@ pub behind-first : (w : SpotWorth) (ws : List SpotWorth) → Precedes IsBefore w
 behind-first w ws order = Each-from_Precedes IsBefore w ws order
 
 -- and so the first and all after it stand behind what comes before the first
-pub all_behind : (s : Spot) (w : SpotWorth) (ws : List SpotWorth) → is_spot_before s w.spot ≡ true → Precedes IsBefore w ws → Each (IsBehind s) (w ∷ ws)
+pub all_behind : (s : Spot) (w : SpotWorth) (ws : List SpotWorth) → is_spot_before s w.spot ≡ true
+    → Precedes IsBefore w ws → Each (IsBehind s) (w ∷ ws)
 all_behind s w ws before order = (before, behind-before s w.spot ws before (behind-first w ws order))
 
 cond-swap : {X : Type 0} (p q : Bool) (x y z : X) → (p ≡ true → q ≡ true → ⊥) → cond p x (cond q y z) ≡ cond q y (cond p x z)
@@ -76,7 +81,8 @@ cond-again true x y z = refl
 cond-again false x y z = refl
 
 -- what is put in stands at its spot, and at others what stood there
-pub worth_at-put : (ws : List SpotWorth) (w : SpotWorth) (s : Spot) → worth_at (put ws w) s ≡ cond (is_same_spot w.spot s) (Some w.worth) (worth_at ws s)
+pub worth_at-put : (ws : List SpotWorth) (w : SpotWorth) (s : Spot)
+    → worth_at (put ws w) s ≡ cond (is_same_spot w.spot s) (Some w.worth) (worth_at ws s)
 worth_at-put [] w s = worth_at-cons w [] s
 worth_at-put (v ∷ vs) w s = by_first (is_spot_before v.spot w.spot) refl (worth_at-put vs w s)
   where
@@ -87,7 +93,8 @@ worth_at-put (v ∷ vs) w s = by_first (is_spot_before v.spot w.spot) refl (wort
         let one : v.spot ≡ w.spot = same-from_neither v.spot w.spot not_before is in
         worth_at-cons w vs s
         ∙ sym (cond-again (is_same_spot w.spot s) (Some w.worth) (Some v.worth) (worth_at vs s))
-        ∙ ap (λ (t : Spot). cond (is_same_spot w.spot s) (Some w.worth) (cond (is_same_spot t s) (Some v.worth) (worth_at vs s))) (sym one)
+        ∙ ap (λ (t : Spot). cond (is_same_spot w.spot s) (Some w.worth) (cond (is_same_spot t s) (Some v.worth) (worth_at vs s)))
+        (sym one)
         ∙ ap (cond (is_same_spot w.spot s) (Some w.worth)) (sym (worth_at-cons v vs s))
 
     by_first : (b : Bool) → is_spot_before v.spot w.spot ≡ b
@@ -121,12 +128,14 @@ rest-same x y xs ys first second one same s = by_test (is_same_spot x.spot s) re
         ∙ worth_at-other y ys s (subst (λ (t : Spot). is_same_spot t s ≡ false) one is)
 
 -- something stands at the spot of the first, and nothing where all stand behind
-not_behind : (x : SpotWorth) (xs ys : List SpotWorth) → Each (IsBehind x.spot) ys → worth_at (x ∷ xs) x.spot ≡ worth_at ys x.spot → ⊥
+not_behind : (x : SpotWorth) (xs ys : List SpotWorth) → Each (IsBehind x.spot) ys
+    → worth_at (x ∷ xs) x.spot ≡ worth_at ys x.spot → ⊥
 not_behind x xs ys behind same =
     let none : Some x.worth ≡ None = sym (worth_at-first x xs) ∙ same ∙ worth_at-none x.spot ys behind in cc
 
 -- worths in order are one list where the same stands at each spot
-pub same-from_spots : (xs ys : List SpotWorth) → Pairwise IsBefore xs → Pairwise IsBefore ys → ((s : Spot) → worth_at xs s ≡ worth_at ys s) → xs ≡ ys
+pub same-from_spots : (xs ys : List SpotWorth) → Pairwise IsBefore xs → Pairwise IsBefore ys
+    → ((s : Spot) → worth_at xs s ≡ worth_at ys s) → xs ≡ ys
 same-from_spots [] [] h k same = refl
 same-from_spots [] (y ∷ ys) h k same = absurd (not_behind y ys [] tt (sym (same y.spot)))
 same-from_spots (x ∷ xs) [] h k same = absurd (not_behind x xs [] tt (same x.spot))
@@ -136,7 +145,8 @@ same-from_spots (x ∷ xs) (y ∷ ys) h k same =
       | inr rest ↦ elim rest [
         | inl after ↦ absurd (not_behind y ys (x ∷ xs) (all_behind y.spot x xs after h.0) (sym (same y.spot)))
         | inr one ↦
-            let worths : Some x.worth ≡ Some y.worth = sym (worth_at-first x xs) ∙ same x.spot ∙ ap (worth_at (y ∷ ys)) one ∙ worth_at-first y ys in
+            let worths : Some x.worth ≡ Some y.worth =
+            sym (worth_at-first x xs) ∙ same x.spot ∙ ap (worth_at (y ∷ ys)) one ∙ worth_at-first y ys in
             let first : x ≡ y = one_worth x y one cc in
             ap (λ (z : SpotWorth). z ∷ xs) first
             ∙ ap (λ (zs : List SpotWorth). y ∷ zs) (same-from_spots xs ys h.1 k.1 (rest-same x y xs ys h.0 k.0 one same))

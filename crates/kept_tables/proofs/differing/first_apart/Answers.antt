@@ -37,7 +37,8 @@ returns-then-not-is_same_worth c =
     let ws = c.args.replayed.now in
     let at = stands vs i c.requires.stored c.loop-index-test.true in
     let made_at = stands ws i c.requires.replayed c.if-index-replayed.true in
-    let one = same-from_neither _ _ (sym c.is_before.ensures ∙ c.if-is_before.false) (sym c.is_before-in-loop-index.ensures ∙ c.if-is_before-2.false) in
+    let one = same-from_neither _ _ (sym c.is_before.ensures ∙ c.if-is_before.false)
+    (sym c.is_before-in-loop-index.ensures ∙ c.if-is_before-2.false) in
     c.loop-index.invariant.told (Some c.changed.result)
     (subst (λ (d : Difference). IsTold (drop i vs) (drop i ws) (Some d)) (sym c.changed.ensures)
     (changed_here vs ws i _ _ at made_at one (λ same. false≢true (sym c.if-not-is_same_worth.true ∙ c.is_same_worth.ensures.1 same))))
@@ -49,7 +50,8 @@ loop-index-preserved c =
     let ws = c.args.replayed.now in
     let at = stands vs i c.requires.stored c.loop-index-test.true in
     let made_at = stands ws i c.requires.replayed c.if-index-replayed.true in
-    let one = same-from_neither _ _ (sym c.is_before.ensures ∙ c.if-is_before.false) (sym c.is_before-in-loop-index.ensures ∙ c.if-is_before-2.false) in
+    let one = same-from_neither _ _ (sym c.is_before.ensures ∙ c.if-is_before.false)
+    (sym c.is_before-in-loop-index.ensures ∙ c.if-is_before-2.false) in
     record {
       within = omega arith;
       made_within = omega arith;

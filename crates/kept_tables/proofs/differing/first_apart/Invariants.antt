@@ -8,7 +8,8 @@ abbrev pub invariant-loop-index : goal.invariant-loop-index
 invariant-loop-index l = record {
   within : l.index ≤ length l.stored;
   made_within : l.index ≤ length l.replayed;
-  told : (told : Option Difference) → IsTold (drop l.index l.stored) (drop l.index l.replayed) told → IsTold l.stored l.replayed told;
+  told : (told : Option Difference) → IsTold (drop l.index l.stored) (drop l.index l.replayed) told
+      → IsTold l.stored l.replayed told;
 }
 
 abbrev pub decreases-loop-index : goal.decreases-loop-index

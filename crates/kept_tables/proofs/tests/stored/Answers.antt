@@ -10,5 +10,7 @@ returns c =
     let a = c.args.first in
     let b = c.args.second in
     let d = c.args.third in
-    AllPairs-from_Pairwise IsBefore (a ∷ b ∷ d ∷ [])
-    ((c.requires.first, (transitive a.spot b.spot d.spot c.requires.first c.requires.second, tt)), ((c.requires.second, tt), (tt, tt)))
+    AllPairs-from_Pairwise IsBefore (a ∷ b ∷ d ∷ []) (
+      (c.requires.first, (transitive a.spot b.spot d.spot c.requires.first c.requires.second, tt)),
+      ((c.requires.second, tt), (tt, tt)),
+    )
