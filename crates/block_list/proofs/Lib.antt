@@ -3,3 +3,4 @@ pub mod Crossings
 pub mod Joined
 pub mod Pressure
 pub mod Sides
+pub mod Grouped

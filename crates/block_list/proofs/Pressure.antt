@@ -1,5 +1,5 @@
 -- How far blocks are on the way to being parted.
-use Rattle.std.proofs.Common.{◌≡◌, ℕ, zero, suc, ◌+◌, ◌-◌, ◌*◌, ◌<◌, ◌≤◌, set, List, [], ◌∷◌, ◌++◌, length, take, drop, refl, sym, ap, subst, arith, length-append, length-take, length-drop}
+use Rattle.std.proofs.Common.{◌≡◌, ℕ, zero, suc, ◌+◌, ◌*◌, ◌<◌, ◌≤◌, set, List, [], ◌∷◌, ◌++◌, length, arith, length-append}
 use Rattle.std.specs.List.{insert, remove, All}
 use Rattle.block_list.specs.Blocks.{block_at, pressed, pressure, IsFilled}
 use Rattle.block_list.specs.declared.sums.TheConstants.{MOST, HALF}

@@ -1,7 +1,9 @@
 -- Sums of what items count.
-use Rattle.std.proofs.Common.{◌≡◌, ℕ, zero, suc, ◌+◌, ◌<◌, ◌≤◌, ℤ, ◌+ℤ◌, ◌≤ℤ◌, unsigned_abs, slice_index_or, List, [], ◌∷◌, ◌++◌, length, take, ap, subst, arith, inl, inr}
+use Rattle.std.proofs.Common.{◌≡◌, ℕ, zero, suc, ◌+◌, ◌-◌, ◌<◌, ◌≤◌, ℤ, ◌+ℤ◌, ◌≤ℤ◌, unsigned_abs, slice_index_or, List, [], ◌∷◌, ◌++◌, length, take, ap, ◌∙◌, subst, arith, inl, inr}
 use Rattle.std.proofs.lemmas.Bool.{cases_lt}
 use Rattle.std.proofs.lemmas.Int.{ints}
+use Rattle.std.proofs.Math.Seq.{take-append-add}
+use Rattle.std.proofs.lemmas.List.{take-append-le}
 use Rattle.block_list.specs.Sums.{total}
 
 -- of two lists
@@ -36,4 +38,20 @@ low-more w xs i old new so_far falls last k within =
     elim (cases_lt i k) [
       | inl more ↦ let is : i + 1 ≡ k = omega (arith, more, within) in subst (λ (n : ℕ). new ≤ℤ total w (take n xs)) is last
       | inr less ↦ let before = so_far k less in omega (arith, ints, falls, before)
+    ]
+
+-- what is below all fronts of a list, and with the sum of the list below those of another one, is below all of both
+pub low-both : {T : Type 0} (w : T → ℤ) (xs ys : List T) (first sum second low : ℤ) → ((k : ℕ) → first ≤ℤ total w (take k xs)) → sum ≡ total w xs
+    → ((k : ℕ) → second ≤ℤ total w (take k ys)) → low ≤ℤ first → low ≤ℤ (sum +ℤ second) → (k : ℕ) → low ≤ℤ total w (take k (xs ++ ys))
+low-both w xs ys first sum second low fronts is later one two k =
+    elim (cases_lt (length xs) k) [
+      | inl more ↦
+          let m = k - length xs in
+          let at : k ≡ length xs + m = omega (arith, more) in
+          let whole : total w (take k (xs ++ ys)) ≡ total w xs +ℤ total w (take m ys) =
+          ap (λ n. total w (take n (xs ++ ys))) at ∙ ap (total w) (take-append-add xs ys m) ∙ total-append w xs (take m ys) in
+          omega (arith, ints, whole, is, two, later m)
+      | inr within ↦
+          let front : total w (take k (xs ++ ys)) ≡ total w (take k xs) = ap (total w) (take-append-le k xs ys within) in
+          omega (arith, ints, front, one, fronts k)
     ]

@@ -1,7 +1,7 @@
 -- Blocks side by side, as one list.
 use Rattle.std.specs.Prelude.{◌≡◌, ℕ, ◌+◌, ◌-◌, ◌*◌, ◌<◌, ◌≤◌, List, [], ◌∷◌, length, take, slice_index_or}
 use Rattle.std.specs.List.{flat_map}
-use Rattle.block_list.specs.declared.sums.TheConstants.{MOST, HALF}
+use Rattle.block_list.specs.declared.sums.TheConstants.{MOST, HALF, GROUP}
 
 -- the items of all blocks, one block after another
 abbrev pub joined : {T : Type 0} → List (List T) → List T
@@ -44,7 +44,9 @@ pressure (block ∷ blocks) = pressed block blocks
 abbrev pub room_for : {T : Type 0} → List (List T) → ℕ → ℕ
 room_for blocks pool = pool + ((HALF - 1) * pool - pressure blocks)
 
--- so many blocks have room in the list of those that are filled, and in that of those that are not
-pub record HaveRoom (all first second : ℕ) : Type 0 where
+-- so many blocks have room in the list of those that are filled, and in that of those that are not, and their groups in that of
+-- heads
+pub record HaveRoom (all first second third : ℕ) : Type 0 where
   pub filled : all ≤ first
   pub empty : all ≤ second
+  pub heads : all ≤ GROUP * third

@@ -2,3 +2,4 @@ pub mod Sums
 pub mod Blocks
 pub mod State
 pub mod Bounds
+pub mod Heads

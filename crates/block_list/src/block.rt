@@ -139,6 +139,15 @@ impl<T: Copy, W: Weigh<T>> Block<T, W> {
         self.sums.sum
     }
 
+    /// What the items count together, and the least of what fronts of them do.
+    pub(crate) fn sums(&self) -> Sums
+        ensures sum { result.sum ≡ total W.weight self.now }
+        ensures low { (k : ℕ) → result.low ≤ℤ total W.weight (take k self.now) }
+        ensures bound { (unsigned_abs result.sum ≤ length self.now * 2 ^ 40) × (unsigned_abs result.low ≤ length self.now * 2 ^ 40) }
+    {
+        self.sums
+    }
+
     /// What the items before the index count together.
     pub(crate) fn sum_before(&self, index: usize) -> i64
         requires { index ≤ length self.now }

@@ -1,22 +1,19 @@
-//! Blocks side by side: where an item stands in them.
-ghost use Rattle.std.specs.Prelude.{◌≡◌, ◌+◌, ◌*◌, ◌^◌, ◌<◌, ◌≤◌, ◌⊎◌, ℕ, List, [], ◌∷◌, Some, All, slice_get, remove, length, take, drop, insert, slice_set, vec_len, vec_capacity, OnOk};
+//! Blocks side by side: how items come into them and go.
+ghost use Rattle.std.specs.Prelude.{◌≡◌, ◌+◌, ◌*◌, ◌^◌, ◌<◌, ◌≤◌, ◌⊎◌, ℕ, List, [], ◌∷◌, Some, All, slice_get, remove, length, take, drop, insert, slice_set, vec_len, vec_capacity, IfSome, OnOk};
 ghost use Rattle.block_list.specs.Blocks.{joined, block_at, pressure, room_for, HaveRoom, IsFilled, IsSpot, IsGap};
 ghost use Rattle.block_list.specs.Bounds.{HasSides};
+ghost use Rattle.block_list.specs.Heads.{AreHeads, ChangesOnly};
 ghost use Rattle.block_list.specs.declared.sums.TheConstants.{MOST, HALF};
 
 use crate::block::Block;
 use crate::bound::{Bound, search};
-use crate::sums::{HALF, MOST};
+use crate::groups::{items_before, spot_of};
+use crate::heads::Head;
+use crate::sums::{GROUP, HALF, MOST};
+use crate::walks::Spot;
 use crate::weigh::Weigh;
 use std::alloc::Global;
 use stock_nums::memory::NoMemory;
-
-/// An item by its block, and by its index there.
-#[derive(Clone, Copy)]
-pub(crate) struct Spot {
-    pub(crate) block: usize,
-    pub(crate) index: usize,
-}
 
 /// A bound among blocks, by their first items.
 #[derive(Clone, Copy)]
@@ -34,34 +31,21 @@ impl<'a, T: Copy, W: Weigh<T>, B: Bound<T>> Bound<Block<T, W>> for Begins<'a, B>
     }
 }
 
-/// Where the item at an index stands.
-pub(crate) fn spot_of<T: Copy, W: Weigh<T>>(blocks: &[Block<T, W>], index: usize) -> Spot
-    requires { index < length (joined blocks.now) }
-    ensures { IsSpot blocks.now index result.block result.index }
-{
-    let mut at = Spot { block: 0, index };
-    while at.block < blocks.len() {
-        let size = blocks[at.block].len();
-        if at.index < size {
-            return at;
-        }
-        at = Spot {
-            block: at.block + 1,
-            index: at.index - size,
-        };
-    }
-    at
-}
-
 /// Where an item that is put in at an index comes to stand: before the item there, or at the end of the last block.
-fn gap_of<T: Copy, W: Weigh<T>>(blocks: &[Block<T, W>], len: usize, index: usize) -> Spot
+fn gap_of<T: Copy, W: Weigh<T>>(
+    heads: &[Head],
+    blocks: &[Block<T, W>],
+    len: usize,
+    index: usize,
+) -> Spot
+    requires heads { AreHeads W.weight heads.now blocks.now }
     requires some { 0 < length blocks.now }
     requires len { len ≡ length (joined blocks.now) }
     requires within { index ≤ len }
     ensures { IsGap blocks.now index result.block result.index }
 {
     if index < len {
-        return spot_of(blocks, index);
+        return spot_of(heads, blocks, index);
     }
     let last = blocks.len() - 1;
     Spot {
@@ -118,13 +102,13 @@ fn cut_of(blocks: usize, gap: Spot) -> usize
     }
 }
 
-/// Puts an item into a gap. A block that is full then is parted.
+/// Puts an item into a gap. A block that is full then is parted. It answers which block has changed, if it is one alone.
 fn put_among<T: Copy, W: Weigh<T>>(
     blocks: &mut Vec<Block<T, W>>,
     pool: &mut Vec<Block<T, W>>,
     gap: Spot,
     item: T,
-)
+) -> Option<usize>
     requires within { gap.block < length blocks.old.items }
     requires inside { gap.index ≤ length (block_at blocks.old.items gap.block) }
     requires filled { All IsFilled blocks.old.items }
@@ -132,6 +116,7 @@ fn put_among<T: Copy, W: Weigh<T>>(
     requires pool { 0 < vec_len pool.old }
     requires empty { All (λ b. b ≡ []) pool.old.items }
     ensures items { (at : ℕ) → IsGap blocks.old.items at gap.block gap.index → joined blocks.new.items ≡ insert (joined blocks.old.items) at item }
+    ensures changed { ChangesOnly result blocks.old.items blocks.new.items }
     ensures filled { All IsFilled blocks.new.items }
     ensures empty { All (λ b. b ≡ []) pool.new.items }
     ensures room { (vec_capacity blocks.new ≡ vec_capacity blocks.old) × (vec_capacity pool.new ≡ vec_capacity pool.old) }
@@ -141,10 +126,11 @@ fn put_among<T: Copy, W: Weigh<T>>(
 {
     insert_in(blocks, gap, item);
     if blocks[gap.block].len() < MOST {
-        return;
+        return Some(gap.block);
     }
     let cut = cut_of(blocks.len(), gap);
     split(blocks, pool, gap.block, cut);
+    None
 }
 
 /// The first block of a list, with one item.
@@ -163,14 +149,17 @@ fn start<T: Copy, W: Weigh<T>>(blocks: &mut Vec<Block<T, W>>, pool: &mut Vec<Blo
     blocks.push_reserved(block);
 }
 
-/// Puts an item in, before the one at an index or at the end. It takes at most one block of the pool.
+/// Puts an item in, before the one at an index or at the end. It takes at most one block of the pool, and
+/// answers which block has changed, if it is one alone.
 pub(crate) fn put<T: Copy, W: Weigh<T>>(
     blocks: &mut Vec<Block<T, W>>,
     pool: &mut Vec<Block<T, W>>,
+    heads: &[Head],
     len: usize,
     index: usize,
     item: T,
-)
+) -> Option<usize>
+    requires heads { AreHeads W.weight heads.now blocks.old.items }
     requires len { len ≡ length (joined blocks.old.items) }
     requires within { index ≤ len }
     requires filled { All IsFilled blocks.old.items }
@@ -178,6 +167,7 @@ pub(crate) fn put<T: Copy, W: Weigh<T>>(
     requires pool { 0 < vec_len pool.old }
     requires empty { All (λ b. b ≡ []) pool.old.items }
     ensures items { joined blocks.new.items ≡ insert (joined blocks.old.items) index item }
+    ensures changed { ChangesOnly result blocks.old.items blocks.new.items }
     ensures filled { All IsFilled blocks.new.items }
     ensures empty { All (λ b. b ≡ []) pool.new.items }
     ensures room { (vec_capacity blocks.new ≡ vec_capacity blocks.old) × (vec_capacity pool.new ≡ vec_capacity pool.old) }
@@ -187,10 +177,10 @@ pub(crate) fn put<T: Copy, W: Weigh<T>>(
 {
     if blocks.is_empty() {
         start(blocks, pool, item);
-        return;
+        return None;
     }
-    let gap = gap_of(blocks.as_slice(), len, index);
-    put_among(blocks, pool, gap, item);
+    let gap = gap_of(heads, blocks.as_slice(), len, index);
+    put_among(blocks, pool, gap, item)
 }
 
 /// Where an item comes to stand before a bound: in the last block that begins before the bound, or before all.
@@ -214,18 +204,39 @@ pub(crate) fn gap_before<T: Copy, W: Weigh<T>, B: Bound<T>>(
     }
 }
 
-/// Puts an item in before a bound. It takes at most one block of the pool.
+/// Where a bound falls in blocks, each with an item: before the index there is an item before the bound, if any, and at it one
+/// that is not.
+pub(crate) fn partition_point<T: Copy, W: Weigh<T>, B: Bound<T>>(
+    heads: &[Head],
+    blocks: &[Block<T, W>],
+    bound: &B,
+) -> usize
+    requires heads { AreHeads W.weight heads.now blocks.now }
+    requires filled { All IsFilled blocks.now }
+    requires few { length (joined blocks.now) ≤ 2 ^ 20 }
+    ensures { HasSides (B.above bound.now) (joined blocks.now) result }
+{
+    if blocks.is_empty() {
+        return 0;
+    }
+    let gap = gap_before(blocks, bound);
+    items_before(heads, blocks, gap.block) + gap.index
+}
+
+/// Puts an item in before a bound. It takes at most one block of the pool, and answers which block has changed, if it is one
+/// alone.
 pub(crate) fn put_before<T: Copy, W: Weigh<T>, B: Bound<T>>(
     blocks: &mut Vec<Block<T, W>>,
     pool: &mut Vec<Block<T, W>>,
     bound: &B,
     item: T,
-)
+) -> Option<usize>
     requires filled { All IsFilled blocks.old.items }
     requires room { vec_len blocks.old < vec_capacity blocks.old }
     requires pool { 0 < vec_len pool.old }
     requires empty { All (λ b. b ≡ []) pool.old.items }
     ensures items { (at : ℕ) × HasSides (B.above bound.now) (joined blocks.old.items) at × (joined blocks.new.items ≡ insert (joined blocks.old.items) at item) }
+    ensures changed { ChangesOnly result blocks.old.items blocks.new.items }
     ensures filled { All IsFilled blocks.new.items }
     ensures empty { All (λ b. b ≡ []) pool.new.items }
     ensures room { (vec_capacity blocks.new ≡ vec_capacity blocks.old) × (vec_capacity pool.new ≡ vec_capacity pool.old) }
@@ -235,10 +246,10 @@ pub(crate) fn put_before<T: Copy, W: Weigh<T>, B: Bound<T>>(
 {
     if blocks.is_empty() {
         start(blocks, pool, item);
-        return;
+        return None;
     }
     let gap = gap_before(blocks.as_slice(), bound);
-    put_among(blocks, pool, gap, item);
+    put_among(blocks, pool, gap, item)
 }
 
 /// Takes an item out of a block.
@@ -274,6 +285,7 @@ fn join_at<T: Copy, W: Weigh<T>>(
     requires empty { All (λ b. b ≡ []) pool.old.items }
     requires pool { vec_len blocks.old + vec_len pool.old ≤ vec_capacity pool.old }
     ensures items { joined blocks.new.items ≡ joined blocks.old.items }
+    ensures same { vec_len blocks.new ≡ vec_len blocks.old → blocks.new.items ≡ blocks.old.items }
     ensures filled { All IsFilled blocks.new.items }
     ensures empty { All (λ b. b ≡ []) pool.new.items }
     ensures room { (vec_capacity blocks.new ≡ vec_capacity blocks.old) × (vec_capacity pool.new ≡ vec_capacity pool.old) }
@@ -304,6 +316,7 @@ fn drop_empty<T: Copy, W: Weigh<T>>(
     requires empty { All (λ b. b ≡ []) pool.old.items }
     requires pool { vec_len blocks.old + vec_len pool.old ≤ vec_capacity pool.old }
     ensures items { joined blocks.new.items ≡ joined blocks.old.items }
+    ensures same { vec_len blocks.new ≡ vec_len blocks.old → blocks.new.items ≡ blocks.old.items }
     ensures filled { All IsFilled blocks.new.items }
     ensures empty { All (λ b. b ≡ []) pool.new.items }
     ensures room { (vec_capacity blocks.new ≡ vec_capacity blocks.old) × (vec_capacity pool.new ≡ vec_capacity pool.old) }
@@ -318,18 +331,35 @@ fn drop_empty<T: Copy, W: Weigh<T>>(
     keep(pool, none);
 }
 
+/// An item that was taken out, and which block has changed, if it is one alone.
+#[derive(Clone, Copy)]
+pub(crate) struct Taken<T> {
+    pub(crate) item: T,
+    pub(crate) changed: Option<usize>,
+}
+
+/// Tells of a block as the only one that has changed if there are as many blocks as before.
+fn alone_at(block: usize, before: usize, after: usize) -> Option<usize>
+    ensures { IfSome result (λ alone. (alone ≡ block) × (after ≡ before)) }
+{
+    if after == before { Some(block) } else { None }
+}
+
 /// Takes the item at an index out. Blocks that come to be thin are joined.
 pub(crate) fn take_out<T: Copy, W: Weigh<T>>(
     blocks: &mut Vec<Block<T, W>>,
     pool: &mut Vec<Block<T, W>>,
+    heads: &[Head],
     index: usize,
-) -> T
+) -> Taken<T>
+    requires heads { AreHeads W.weight heads.now blocks.old.items }
     requires within { index < length (joined blocks.old.items) }
     requires filled { All IsFilled blocks.old.items }
     requires empty { All (λ b. b ≡ []) pool.old.items }
     requires pool { vec_len blocks.old + vec_len pool.old ≤ vec_capacity pool.old }
-    ensures item { Some result ≡ slice_get (joined blocks.old.items) index }
+    ensures item { Some result.item ≡ slice_get (joined blocks.old.items) index }
     ensures items { joined blocks.new.items ≡ remove (joined blocks.old.items) index }
+    ensures changed { ChangesOnly result.changed blocks.old.items blocks.new.items }
     ensures filled { All IsFilled blocks.new.items }
     ensures empty { All (λ b. b ≡ []) pool.new.items }
     ensures room { (vec_capacity blocks.new ≡ vec_capacity blocks.old) × (vec_capacity pool.new ≡ vec_capacity pool.old) }
@@ -337,26 +367,38 @@ pub(crate) fn take_out<T: Copy, W: Weigh<T>>(
     ensures pool { vec_len pool.old ≤ vec_len pool.new }
     ensures pressure { pressure blocks.new.items + HALF * vec_len pool.old ≤ pressure blocks.old.items + HALF * vec_len pool.new }
 {
-    let spot = spot_of(blocks.as_slice(), index);
+    let spot = spot_of(heads, blocks.as_slice(), index);
+    let count = blocks.len();
     let item = remove_in(blocks, spot);
     drop_empty(blocks, pool, spot.block);
     join_at(blocks, pool, spot.block);
     join_at(blocks, pool, spot.block.saturating_sub(1));
-    item
+    Taken {
+        item,
+        changed: alone_at(spot.block, count, blocks.len()),
+    }
 }
 
-/// Puts an item in the place of the one at an index.
-pub(crate) fn replace<T: Copy, W: Weigh<T>>(blocks: &mut Vec<Block<T, W>>, index: usize, item: T)
+/// Puts an item in the place of the one at an index. It answers in which block.
+pub(crate) fn replace<T: Copy, W: Weigh<T>>(
+    blocks: &mut Vec<Block<T, W>>,
+    heads: &[Head],
+    index: usize,
+    item: T,
+) -> usize
+    requires heads { AreHeads W.weight heads.now blocks.old.items }
     requires within { index < length (joined blocks.old.items) }
     requires filled { All IsFilled blocks.old.items }
     ensures items { joined blocks.new.items ≡ slice_set (joined blocks.old.items) index item }
+    ensures changed { ChangesOnly (Some result) blocks.old.items blocks.new.items }
     ensures filled { All IsFilled blocks.new.items }
     ensures room { vec_capacity blocks.new ≡ vec_capacity blocks.old }
     ensures count { vec_len blocks.new ≡ vec_len blocks.old }
     ensures pressure { pressure blocks.new.items ≡ pressure blocks.old.items }
 {
-    let spot = spot_of(blocks.as_slice(), index);
+    let spot = spot_of(heads, blocks.as_slice(), index);
     blocks[spot.block].set(spot.index, item);
+    spot.block
 }
 
 /// How many empty blocks are enough for `n` more items beside so many blocks. Half a block of items is put in before a block is
@@ -378,17 +420,19 @@ pub(crate) fn supply<T: Copy, W: Weigh<T>>(
     alloc: Global,
     blocks: &mut Vec<Block<T, W>>,
     pool: &mut Vec<Block<T, W>>,
+    heads: &mut Vec<Head>,
     n: usize,
 ) -> Result<(), NoMemory>
     requires filled { All IsFilled blocks.old.items }
     requires few { length (joined blocks.old.items) ≤ 2 ^ 20 }
     requires empty { All (λ b. b ≡ []) pool.old.items }
-    requires both { HaveRoom (vec_len blocks.old + vec_len pool.old) (vec_capacity blocks.old) (vec_capacity pool.old) }
+    requires both { HaveRoom (vec_len blocks.old + vec_len pool.old) (vec_capacity blocks.old) (vec_capacity pool.old) (vec_capacity heads.old) }
     ensures enough { OnOk result (n ≤ room_for blocks.new.items (vec_len pool.new)) }
     ensures blocks { blocks.new.items ≡ blocks.old.items }
+    ensures heads { heads.new.items ≡ heads.old.items }
     ensures empty { All (λ b. b ≡ []) pool.new.items }
     ensures kept { vec_len pool.old ≤ vec_len pool.new }
-    ensures both { HaveRoom (vec_len blocks.new + vec_len pool.new) (vec_capacity blocks.new) (vec_capacity pool.new) }
+    ensures both { HaveRoom (vec_len blocks.new + vec_len pool.new) (vec_capacity blocks.new) (vec_capacity pool.new) (vec_capacity heads.new) }
 {
     let enough = enough_for(n, blocks.len());
     if pool.len() >= enough {
@@ -397,6 +441,7 @@ pub(crate) fn supply<T: Copy, W: Weigh<T>>(
     let all = blocks.len() + enough;
     blocks.reserve(enough)?;
     pool.reserve(all - pool.len())?;
+    heads.reserve((all / GROUP + 1).saturating_sub(heads.len()))?;
     fill(alloc, pool, enough)
 }
 

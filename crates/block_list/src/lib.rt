@@ -5,6 +5,8 @@ mod block;
 mod blocks;
 pub mod bound;
 pub mod crossing;
+mod groups;
+mod heads;
 pub mod list;
 mod sending;
 mod sums;

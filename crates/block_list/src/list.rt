@@ -6,10 +6,11 @@ ghost use Rattle.block_list.specs.Bounds.{HasSides};
 ghost use Rattle.block_list.specs.Sums.{total, IsFirstBelow};
 
 use crate::block::Block;
-use crate::blocks::{put, put_before, replace, spot_of, supply, take_out};
+use crate::blocks::{partition_point, put, put_before, replace, supply, take_out};
 use crate::bound::Bound;
 use crate::crossing::Crossing;
-use crate::walks::{first_below, partition_point, sum_before};
+use crate::groups::{first_below, spot_of, sum_before};
+use crate::heads::{Head, renew};
 use crate::weigh::Weigh;
 use std::alloc::Global;
 use std::marker::Model;
@@ -21,6 +22,7 @@ use stock_nums::memory::NoMemory;
 pub struct BlockList<T: Copy, W: Weigh<T>> {
     blocks: Vec<Block<T, W>>,
     pool: Vec<Block<T, W>>,
+    heads: Vec<Head>,
     len: usize,
     alloc: Global,
 }
@@ -28,6 +30,7 @@ pub struct BlockList<T: Copy, W: Weigh<T>> {
 impl<T: Copy, W: Weigh<T>> Model for BlockList<T, W> {
     ghost use Rattle.std.specs.Prelude.{◌≡◌, ◌+◌, ◌≤◌, ◌^◌, [], length, All, vec_len, vec_capacity};
     ghost use Rattle.block_list.specs.Blocks.{joined, room_for, HaveRoom, IsFilled};
+    ghost use Rattle.block_list.specs.Heads.{AreHeads};
     ghost use Rattle.block_list.specs.State.{ListState};
 
     ghost Value = { ListState T };
@@ -36,7 +39,8 @@ impl<T: Copy, W: Weigh<T>> Model for BlockList<T, W> {
 
     ghost invariant = { λ list. (All IsFilled list.blocks.items) × (All (λ b. b ≡ []) list.pool.items)
         × (list.len ≡ length (joined list.blocks.items)) × (list.len ≤ 2 ^ 20)
-        × HaveRoom (vec_len list.blocks + vec_len list.pool) (vec_capacity list.blocks) (vec_capacity list.pool) };
+        × HaveRoom (vec_len list.blocks + vec_len list.pool) (vec_capacity list.blocks) (vec_capacity list.pool) (vec_capacity list.heads)
+        × AreHeads W.weight list.heads.items list.blocks.items };
 }
 
 impl<T: Copy, W: Weigh<T>> BlockList<T, W> {
@@ -47,6 +51,7 @@ impl<T: Copy, W: Weigh<T>> BlockList<T, W> {
         BlockList {
             blocks: Vec::new(alloc),
             pool: Vec::new(alloc),
+            heads: Vec::new(alloc),
             len: 0,
             alloc,
         }
@@ -64,7 +69,7 @@ impl<T: Copy, W: Weigh<T>> BlockList<T, W> {
         ensures { option_copied result ≡ slice_get self.now.items index }
     {
         if index < self.len {
-            let spot = spot_of(self.blocks.as_slice(), index);
+            let spot = spot_of(self.heads.as_slice(), self.blocks.as_slice(), index);
             self.blocks[spot.block].get(spot.index)
         } else {
             None
@@ -77,7 +82,7 @@ impl<T: Copy, W: Weigh<T>> BlockList<T, W> {
         ensures some { 0 < length result.now }
         ensures items { result.now ≡ take (length result.now) (drop index self.now.items) }
     {
-        let spot = spot_of(self.blocks.as_slice(), index);
+        let spot = spot_of(self.heads.as_slice(), self.blocks.as_slice(), index);
         &self.blocks[spot.block].as_slice()[spot.index..]
     }
 
@@ -89,7 +94,15 @@ impl<T: Copy, W: Weigh<T>> BlockList<T, W> {
         ensures items { self.new.items ≡ insert self.old.items index item }
         ensures room { self.old.spare ≤ self.new.spare + 1 }
     {
-        put(&mut self.blocks, &mut self.pool, self.len, index, item);
+        let changed = put(
+            &mut self.blocks,
+            &mut self.pool,
+            self.heads.as_slice(),
+            self.len,
+            index,
+            item,
+        );
+        renew(&mut self.heads, self.blocks.as_slice(), changed);
         self.len += 1;
     }
 
@@ -100,7 +113,8 @@ impl<T: Copy, W: Weigh<T>> BlockList<T, W> {
         ensures items { (at : ℕ) × HasSides (B.above bound.now) self.old.items at × (self.new.items ≡ insert self.old.items at item) }
         ensures room { self.old.spare ≤ self.new.spare + 1 }
     {
-        put_before(&mut self.blocks, &mut self.pool, bound, item);
+        let changed = put_before(&mut self.blocks, &mut self.pool, bound, item);
+        renew(&mut self.heads, self.blocks.as_slice(), changed);
         self.len += 1;
     }
 
@@ -111,9 +125,15 @@ impl<T: Copy, W: Weigh<T>> BlockList<T, W> {
         ensures rest { self.new.items ≡ remove self.old.items index }
         ensures room { self.old.spare ≤ self.new.spare }
     {
-        let item = take_out(&mut self.blocks, &mut self.pool, index);
+        let taken = take_out(
+            &mut self.blocks,
+            &mut self.pool,
+            self.heads.as_slice(),
+            index,
+        );
+        renew(&mut self.heads, self.blocks.as_slice(), taken.changed);
         self.len -= 1;
-        item
+        taken.item
     }
 
     /// Puts an item in the place of the one at the index. It takes no memory.
@@ -122,7 +142,8 @@ impl<T: Copy, W: Weigh<T>> BlockList<T, W> {
         ensures items { self.new.items ≡ slice_set self.old.items index item }
         ensures room { self.new.spare ≡ self.old.spare }
     {
-        replace(&mut self.blocks, index, item);
+        let block = replace(&mut self.blocks, self.heads.as_slice(), index, item);
+        renew(&mut self.heads, self.blocks.as_slice(), Some(block));
     }
 
     /// Makes room for `n` more items. The items stay as they are, and no room is lost.
@@ -135,7 +156,13 @@ impl<T: Copy, W: Weigh<T>> BlockList<T, W> {
         ensures unchanged { self.new.items ≡ self.old.items }
         ensures room_stays { self.old.spare ≤ self.new.spare }
     {
-        supply(self.alloc, &mut self.blocks, &mut self.pool, n)
+        supply(
+            self.alloc,
+            &mut self.blocks,
+            &mut self.pool,
+            &mut self.heads,
+            n,
+        )
     }
 
     /// What the items before the index count together.
@@ -143,7 +170,7 @@ impl<T: Copy, W: Weigh<T>> BlockList<T, W> {
         requires { index ≤ length self.now.items }
         ensures { result ≡ total W.weight (take index self.now.items) }
     {
-        sum_before(self.blocks.as_slice(), index)
+        sum_before(self.heads.as_slice(), self.blocks.as_slice(), index)
     }
 
     /// How far a running sum comes from an index before the end: it does not fall below 0 up to the index that is answered, and
@@ -154,7 +181,7 @@ impl<T: Copy, W: Weigh<T>> BlockList<T, W> {
         requires bound { unsigned_abs start.before ≤ 2 ^ 60 }
         ensures { IsFirstBelow W.weight self.now.items start.index end start.before result.index result.before }
     {
-        first_below(self.blocks.as_slice(), start, end)
+        first_below(self.heads.as_slice(), self.blocks.as_slice(), start, end)
     }
 
     /// Where a bound falls: how many items come before it, where those that do come first.
@@ -163,6 +190,6 @@ impl<T: Copy, W: Weigh<T>> BlockList<T, W> {
         ensures point { IsPartitionedBy (B.above bound.now) self.now.items
             → IsPartitionPoint (λ y. B.above bound.now y ≡ true) (λ y. B.above bound.now y ≡ false) self.now.items result }
     {
-        partition_point(self.blocks.as_slice(), bound)
+        partition_point(self.heads.as_slice(), self.blocks.as_slice(), bound)
     }
 }

@@ -1,5 +1,5 @@
 //! Sums over a slice.
-ghost use Rattle.std.specs.Prelude.{◌≡◌, ◌≤◌, ◌+◌, ◌*◌, ◌^◌, ◌+ℤ◌, ◌≤ℤ◌, ℕ, unsigned_abs, length, take};
+ghost use Rattle.std.specs.Prelude.{◌≡◌, ◌≤◌, ◌+◌, ◌*◌, ◌^◌, ◌+ℤ◌, ◌≤ℤ◌, ℕ, max, unsigned_abs, length, take};
 ghost use Rattle.block_list.specs.Sums.{total};
 ghost use Rattle.block_list.specs.declared.sums.TheConstants.{MOST};
 
@@ -10,6 +10,9 @@ pub(crate) const MOST: usize = 128;
 
 /// Half of them.
 pub(crate) const HALF: usize = MOST / 2;
+
+/// How many blocks make a group; the last group may have fewer.
+pub(crate) const GROUP: usize = 32;
 
 /// What some items count together, and the least of what fronts of them do.
 #[derive(Clone, Copy)]
@@ -31,6 +34,22 @@ impl Sums {
             Sums { sum, low: sum }
         } else {
             Sums { sum, low: self.low }
+        }
+    }
+
+    /// The sums of these items and those that come after them.
+    pub(crate) fn followed_by(self, next: Sums) -> Sums
+        requires sum { unsigned_abs self.sum ≤ 2 ^ 61 }
+        requires next_sum { unsigned_abs next.sum ≤ 2 ^ 61 }
+        requires next_low { unsigned_abs next.low ≤ 2 ^ 61 }
+        ensures sum { result.sum ≡ self.sum +ℤ next.sum }
+        ensures low { (result.low ≤ℤ self.low) × (result.low ≤ℤ (self.sum +ℤ next.low)) }
+        ensures bound { unsigned_abs result.low ≤ max (unsigned_abs self.low) (unsigned_abs self.sum + unsigned_abs next.low) }
+    {
+        let low = self.sum + next.low;
+        Sums {
+            sum: self.sum + next.sum,
+            low: low.min(self.low),
         }
     }
 }

@@ -1,4 +1,4 @@
-//! Lists of some hundred numbers, over ample memory, beside plain ones.
+//! Lists of some hundreds or thousands of numbers, over ample memory, beside plain ones.
 
 use crate::bound::Bound;
 use crate::crossing::Crossing;
@@ -138,5 +138,37 @@ fn tells_where_a_sum_falls_below_0(rt: HostRuntime) -> Result<(), Fail> {
     assert_eq!(rt; enough.index, 301);
     list.set(200, 1);
     assert_eq!(rt; list.sum_before(301), 45_151);
+    Ok(())
+}
+
+// The numbers from 1 to 2,300, of which the last one came first. They fill 35 blocks, and so more than one group.
+fn in_groups(alloc: Global) -> Result<BlockList<i32, Number>, Fail> {
+    let mut list = BlockList::new(alloc);
+    for number in 0..2_300 {
+        if list.len() < 2_300 {
+            list.reserve(1)?;
+            list.insert(0, 2_300 - number);
+        }
+    }
+    Ok(list)
+}
+
+#[test]
+fn passes_groups_of_blocks(rt: HostRuntime) -> Result<(), Fail> {
+    let mut list = in_groups(rt.alloc())?;
+    assert_eq!(rt; list.len(), 2_300);
+    assert!(rt; list.get(2_250) == Some(&2_251));
+    assert_eq!(rt; list.sum_before(2_250), 2_532_375);
+    assert_eq!(rt; list.partition_point(&Below { number: 2_200 }), 2_199);
+    let start = Crossing {
+        index: 100,
+        before: 0,
+    };
+    list.set(2_200, -5_000_000);
+    let short = list.first_below(start, 2_300);
+    assert_eq!(rt; (short.index, short.before), (2_200, 2_416_050));
+    assert_eq!(rt; list.remove(2_200), -5_000_000);
+    let enough = list.first_below(start, 2_299);
+    assert_eq!(rt; (enough.index, enough.before), (2_299, 2_638_899));
     Ok(())
 }

@@ -1,14 +1,37 @@
 //! Walks over blocks, with the sums of what was passed.
-ghost use Rattle.std.specs.Prelude.{◌≡◌, ◌+◌, ◌-◌, ◌*◌, ◌^◌, ◌<◌, ◌≤◌, ◌+ℤ◌, ◌++◌, List, All, min, max, unsigned_abs, length, take};
-ghost use Rattle.block_list.specs.Blocks.{joined, IsFilled};
-ghost use Rattle.block_list.specs.Bounds.{HasSides};
+ghost use Rattle.std.specs.Prelude.{◌≡◌, ◌+◌, ◌-◌, ◌*◌, ◌^◌, ◌<◌, ◌≤◌, ◌+ℤ◌, ◌++◌, List, min, max, unsigned_abs, length, take};
+ghost use Rattle.block_list.specs.Blocks.{joined, IsSpot};
 ghost use Rattle.block_list.specs.Sums.{total, IsFirstBelow};
 
 use crate::block::Block;
-use crate::blocks::{Spot, gap_before};
-use crate::bound::Bound;
 use crate::crossing::Crossing;
 use crate::weigh::Weigh;
+
+/// An item by its block, and by its index there.
+#[derive(Clone, Copy)]
+pub(crate) struct Spot {
+    pub(crate) block: usize,
+    pub(crate) index: usize,
+}
+
+/// Where the item at an index stands.
+pub(crate) fn spot_of<T: Copy, W: Weigh<T>>(blocks: &[Block<T, W>], index: usize) -> Spot
+    requires { index < length (joined blocks.now) }
+    ensures { IsSpot blocks.now index result.block result.index }
+{
+    let mut at = Spot { block: 0, index };
+    while at.block < blocks.len() {
+        let size = blocks[at.block].len();
+        if at.index < size {
+            return at;
+        }
+        at = Spot {
+            block: at.block + 1,
+            index: at.index - size,
+        };
+    }
+    at
+}
 
 /// A walk that has come to a block, with so many items left to pass, and what those that it passed count.
 #[derive(Clone, Copy)]
@@ -41,7 +64,7 @@ impl Walk {
         requires size { self.left ≤ length block.now }
         requires bound { unsigned_abs self.sum ≤ 2 ^ 61 }
         ensures sum { result.sum ≡ self.sum +ℤ total W.weight (take self.left block.now) }
-        ensures bound { unsigned_abs result.sum ≤ 2 ^ 62 }
+        ensures bound { unsigned_abs result.sum ≤ unsigned_abs self.sum + 2 ^ 47 }
     {
         Walk {
             block: self.block,
@@ -55,7 +78,8 @@ impl Walk {
 pub(crate) fn sum_before<T: Copy, W: Weigh<T>>(blocks: &[Block<T, W>], index: usize) -> i64
     requires within { index ≤ length (joined blocks.now) }
     requires few { length (joined blocks.now) ≤ 2 ^ 20 }
-    ensures { result ≡ total W.weight (take index (joined blocks.now)) }
+    ensures sum { result ≡ total W.weight (take index (joined blocks.now)) }
+    ensures bound { unsigned_abs result ≤ 2 ^ 61 }
 {
     let mut at = Walk {
         block: 0,
@@ -112,8 +136,9 @@ pub(crate) fn first_below<T: Copy, W: Weigh<T>>(
     requires ordered { start.index ≤ end }
     requires within { end ≤ length (joined blocks.now) }
     requires few { length (joined blocks.now) ≤ 2 ^ 20 }
-    requires bound { unsigned_abs start.before ≤ 2 ^ 60 }
-    ensures { IsFirstBelow W.weight (joined blocks.now) start.index end start.before result.index result.before }
+    requires bound { unsigned_abs start.before + (end - start.index) * 2 ^ 40 ≤ 2 ^ 61 }
+    ensures found { IsFirstBelow W.weight (joined blocks.now) start.index end start.before result.index result.before }
+    ensures bound { unsigned_abs result.before ≤ unsigned_abs start.before + (result.index - start.index) * 2 ^ 40 }
 {
     let mut at = start;
     let mut place = Spot { block: 0, index: 0 };
@@ -134,7 +159,7 @@ pub(crate) fn first_below<T: Copy, W: Weigh<T>>(
 }
 
 /// How many items the first blocks have, so many of them.
-fn items_before<T: Copy, W: Weigh<T>>(blocks: &[Block<T, W>], count: usize) -> usize
+pub(crate) fn items_before<T: Copy, W: Weigh<T>>(blocks: &[Block<T, W>], count: usize) -> usize
     requires within { count ≤ length blocks.now }
     requires few { length (joined blocks.now) ≤ 2 ^ 20 }
     ensures { result ≡ length (joined (take count blocks.now)) }
@@ -147,21 +172,4 @@ fn items_before<T: Copy, W: Weigh<T>>(blocks: &[Block<T, W>], count: usize) -> u
         };
     }
     place.index
-}
-
-/// Where a bound falls in blocks, each with an item: before the index there is an item before the bound, if any, and at it one
-/// that is not.
-pub(crate) fn partition_point<T: Copy, W: Weigh<T>, B: Bound<T>>(
-    blocks: &[Block<T, W>],
-    bound: &B,
-) -> usize
-    requires filled { All IsFilled blocks.now }
-    requires few { length (joined blocks.now) ≤ 2 ^ 20 }
-    ensures { HasSides (B.above bound.now) (joined blocks.now) result }
-{
-    if blocks.is_empty() {
-        return 0;
-    }
-    let gap = gap_before(blocks, bound);
-    items_before(blocks, gap.block) + gap.index
 }

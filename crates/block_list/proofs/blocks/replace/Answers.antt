@@ -2,7 +2,7 @@
 use Rattle.std.proofs.Common.{◌≡◌, List, [], length, set, ap, sym, ◌∙◌, subst, arith}
 use Rattle.std.specs.List.{All}
 use Rattle.std.proofs.lemmas.List.{get_or_default, length-set}
-use Rattle.block_list.specs.Blocks.{joined, block_at, pressure, IsFilled, IsSpot}
+use Rattle.block_list.specs.Blocks.{joined, block_at, IsFilled, IsSpot}
 use Rattle.block_list.proofs.Joined.{joined-replaced, filled-replaced}
 use Rattle.block_list.proofs.Pressure.{pressure-set}
 use Rattle.block_list.proofs.blocks.replace.Goals as goal

@@ -1,7 +1,7 @@
 -- So many empty blocks are enough.
-use Rattle.std.proofs.Common.{◌≡◌, ℕ, ◌+◌, ◌-◌, ◌*◌, ◌≤◌, ◌⊎◌, List, Result, Ok, Err, OnOk, length, ap, sym, subst, inl, inr, arith, vec_len}
+use Rattle.std.proofs.Common.{◌≡◌, ℕ, ◌+◌, ◌*◌, ◌≤◌, ◌⊎◌, List, Result, Ok, Err, OnOk, length, sym, subst, inl, inr, arith, vec_len}
 use Rattle.std.specs.List.{All}
-use Rattle.block_list.specs.Blocks.{joined, pressure, room_for, IsFilled}
+use Rattle.block_list.specs.Blocks.{joined, room_for, IsFilled}
 use Rattle.block_list.specs.declared.sums.TheConstants.{HALF}
 use Rattle.block_list.proofs.Joined.{few_blocks}
 use Rattle.block_list.proofs.Pressure.{pressure-most}

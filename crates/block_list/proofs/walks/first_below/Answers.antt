@@ -8,8 +8,8 @@ use Rattle.block_list.proofs.Crossings.{HasCome-further, IsFirstBelow-further}
 use Rattle.block_list.proofs.walks.first_below.Goals.{then-found-next-via-then-found-next, then-found-next-via-else-found-next+then-end-found}
 use Rattle.block_list.proofs.walks.first_below.Goals as goal
 
-pub returns-then-found-next : goal.returns-then-found-next
-returns-then-found-next g c =
+pub returns-then-found-next-clause-found : goal.returns-then-found-next-clause-found
+returns-then-found-next-clause-found g c =
     let w = g.W.Weigh.weight in
     let bs = c.args.blocks.now in
     let i = c.loop-place.place.block in
@@ -50,3 +50,11 @@ loop-place-preserved g c =
       omega (arith, more, c.loop-place.invariant.3, c.len.ensures.length, ap length read),
       omega (arith, c.if-found-next.false),
     )
+
+pub returns-then-found-next-clause-bound : goal.returns-then-found-next-clause-bound
+returns-then-found-next-clause-bound g c =
+    let i = c.loop-place.place.block in
+    let at = c.loop-place.at in
+    let found = c.over-found.result in
+    let first = c.over-found.ensures.found (joined (take i c.args.blocks.now)) [] (sym c.loop-place.invariant.3) in
+    omega (arith, c.over-found.ensures.bound, c.loop-place.invariant.1, c.loop-place.invariant.0.after, first.after)

@@ -7,8 +7,8 @@ use Rattle.block_list.proofs.Joined.{joined_more, joined-front}
 use Rattle.block_list.proofs.Totals.{total-append}
 use Rattle.block_list.proofs.walks.sum_before.Goals as goal
 
-pub returns-then-at-len : goal.returns-then-at-len
-returns-then-at-len g c =
+pub returns-then-at-len-clause-sum : goal.returns-then-at-len-clause-sum
+returns-then-at-len-clause-sum g c =
     let w = g.W.Weigh.weight in
     let bs = c.args.blocks.now in
     let i = c.loop-at.at.block in

@@ -12,7 +12,7 @@ returns-then-index-self g c =
     let bs = c.self.inside.blocks.items in
     let i = c.spot_of-spot.result.block in
     let o = c.spot_of-spot.result.index in
-    let spot = subst (λ (xs : List (List g.row.T.Denot)). IsSpot xs c.args.index i o) c.as_slice.ensures.value c.spot_of-spot.ensures in
+    let spot = subst (λ (xs : List (List g.row.T.Denot)). IsSpot xs c.args.index i o) c.as_slice-then-index-self.ensures.value c.spot_of-spot.ensures in
     let read : c.index.result.now ≡ block_at bs i = c.index.ensures ∙ get_or_default bs i c.index.result.now [] spot.within in
     c.get.ensures ∙ ap (λ (b : List g.row.T.Denot). slice_get b o) read ∙ joined-get bs c.args.index i o spot
     ∙ ap (λ (s : ListState g.row.T.Denot). slice_get s.items c.args.index) c.self.view_is

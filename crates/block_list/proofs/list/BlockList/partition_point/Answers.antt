@@ -10,5 +10,5 @@ pub returns-clause-point : goal.returns-clause-point
 returns-clause-point g c parted =
     let test = g.B.Bound.above c.args.bound.now in
     let at = c.partition_point.result in
-    let whole = ap joined c.as_slice.ensures.value ∙ ap (λ (s : ListState g.row.T.Denot). s.items) c.self.view_is in
+    let whole = ap joined c.as_slice-2.ensures.value ∙ ap (λ (s : ListState g.row.T.Denot). s.items) c.self.view_is in
     point-from_sides test c.args.self.now.items at parted (subst (λ (xs : List g.row.T.Denot). HasSides test xs at) whole c.partition_point.ensures)
