@@ -143,7 +143,8 @@ impl<T: Copy, W: Weigh<T>> Block<T, W> {
     pub(crate) fn sums(&self) -> Sums
         ensures sum { result.sum ≡ total W.weight self.now }
         ensures low { (k : ℕ) → result.low ≤ℤ total W.weight (take k self.now) }
-        ensures bound { (unsigned_abs result.sum ≤ length self.now * 2 ^ 40) × (unsigned_abs result.low ≤ length self.now * 2 ^ 40) }
+        ensures bound { (unsigned_abs result.sum ≤ length self.now * 2 ^ 40)
+            × (unsigned_abs result.low ≤ length self.now * 2 ^ 40) }
     {
         self.sums
     }

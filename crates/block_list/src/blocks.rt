@@ -426,13 +426,15 @@ pub(crate) fn supply<T: Copy, W: Weigh<T>>(
     requires filled { All IsFilled blocks.old.items }
     requires few { length (joined blocks.old.items) ≤ 2 ^ 20 }
     requires empty { All (λ b. b ≡ []) pool.old.items }
-    requires both { HaveRoom (vec_len blocks.old + vec_len pool.old) (vec_capacity blocks.old) (vec_capacity pool.old) (vec_capacity heads.old) }
+    requires both { HaveRoom (vec_len blocks.old + vec_len pool.old)
+        (vec_capacity blocks.old) (vec_capacity pool.old) (vec_capacity heads.old) }
     ensures enough { OnOk result (n ≤ room_for blocks.new.items (vec_len pool.new)) }
     ensures blocks { blocks.new.items ≡ blocks.old.items }
     ensures heads { heads.new.items ≡ heads.old.items }
     ensures empty { All (λ b. b ≡ []) pool.new.items }
     ensures kept { vec_len pool.old ≤ vec_len pool.new }
-    ensures both { HaveRoom (vec_len blocks.new + vec_len pool.new) (vec_capacity blocks.new) (vec_capacity pool.new) (vec_capacity heads.new) }
+    ensures both { HaveRoom (vec_len blocks.new + vec_len pool.new)
+        (vec_capacity blocks.new) (vec_capacity pool.new) (vec_capacity heads.new) }
 {
     let enough = enough_for(n, blocks.len());
     if pool.len() >= enough {

@@ -151,7 +151,8 @@ fn over<T: Copy, W: Weigh<T>>(
     requires few { before + length (joined group.now) ≤ 2 ^ 20 }
     requires bound { unsigned_abs at.before + (end - at.index) * 2 ^ 40 ≤ 2 ^ 61 }
     ensures found { (front rest : List T) → length front ≡ before
-        → IsFirstBelow W.weight (front ++ (joined group.now ++ rest)) at.index (max at.index (min end (before + length (joined group.now)))) at.before result.index result.before }
+        → IsFirstBelow W.weight (front ++ (joined group.now ++ rest))
+        at.index (max at.index (min end (before + length (joined group.now)))) at.before result.index result.before }
     ensures bound { unsigned_abs result.before ≤ unsigned_abs at.before + (result.index - at.index) * 2 ^ 40 }
 {
     let limit = end.min(before + head.items);

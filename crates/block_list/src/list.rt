@@ -39,7 +39,8 @@ impl<T: Copy, W: Weigh<T>> Model for BlockList<T, W> {
 
     ghost invariant = { λ list. (All IsFilled list.blocks.items) × (All (λ b. b ≡ []) list.pool.items)
         × (list.len ≡ length (joined list.blocks.items)) × (list.len ≤ 2 ^ 20)
-        × HaveRoom (vec_len list.blocks + vec_len list.pool) (vec_capacity list.blocks) (vec_capacity list.pool) (vec_capacity list.heads)
+        × HaveRoom (vec_len list.blocks + vec_len list.pool)
+        (vec_capacity list.blocks) (vec_capacity list.pool) (vec_capacity list.heads)
         × AreHeads W.weight list.heads.items list.blocks.items };
 }
 

@@ -44,7 +44,8 @@ impl Sums {
         requires next_low { unsigned_abs next.low ≤ 2 ^ 61 }
         ensures sum { result.sum ≡ self.sum +ℤ next.sum }
         ensures low { (result.low ≤ℤ self.low) × (result.low ≤ℤ (self.sum +ℤ next.low)) }
-        ensures bound { unsigned_abs result.low ≤ max (unsigned_abs self.low) (unsigned_abs self.sum + unsigned_abs next.low) }
+        ensures bound { unsigned_abs result.low
+            ≤ max (unsigned_abs self.low) (unsigned_abs self.sum + unsigned_abs next.low) }
     {
         let low = self.sum + next.low;
         Sums {

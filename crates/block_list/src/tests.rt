@@ -144,10 +144,10 @@ fn tells_where_a_sum_falls_below_0(rt: HostRuntime) -> Result<(), Fail> {
 // The numbers from 1 to 2,300, of which the last one came first. They fill 35 blocks, and so more than one group.
 fn in_groups(alloc: Global) -> Result<BlockList<i32, Number>, Fail> {
     let mut list = BlockList::new(alloc);
-    for number in 0..2_300 {
+    for number in (1..=2_300).rev() {
         if list.len() < 2_300 {
             list.reserve(1)?;
-            list.insert(0, 2_300 - number);
+            list.insert(0, number);
         }
     }
     Ok(list)
@@ -168,6 +168,7 @@ fn passes_groups_of_blocks(rt: HostRuntime) -> Result<(), Fail> {
     let short = list.first_below(start, 2_300);
     assert_eq!(rt; (short.index, short.before), (2_200, 2_416_050));
     assert_eq!(rt; list.remove(2_200), -5_000_000);
+    assert_eq!(rt; list.len(), 2_299);
     let enough = list.first_below(start, 2_299);
     assert_eq!(rt; (enough.index, enough.before), (2_299, 2_638_899));
     Ok(())
