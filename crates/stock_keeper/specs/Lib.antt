@@ -2,3 +2,4 @@ pub mod Worths
 pub mod Changed
 pub mod Keeping
 pub mod Memory
+pub mod Calls

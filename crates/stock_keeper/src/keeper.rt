@@ -79,7 +79,7 @@ pub trait Keeper {
     /// `Failed` where the keeper failed: a fault was counted. `NoMemory` for want of memory.
     fn load(&mut self) -> Result<Tables, KeepFault>
         ensures tables { IfOk result (λ copy. (t : Tables) → tells self.old t → copy ≡ t) }
-        ensures in_order { IfOk result (λ copy. (t : Tables) → tells self.old t → AreInOrder copy.worths) }
+        ensures in_order { IfOk result (λ copy. AreInOrder copy.worths) }
         ensures tables_kept { Within (tells self.old) (tells self.new) }
         ensures crash { Within (may_leave self.old) (may_leave self.new) }
         ensures faults_kept { OnOk result (faults self.new ≡ faults self.old) }

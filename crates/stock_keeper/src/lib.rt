@@ -7,9 +7,10 @@ pub mod fault;
 pub mod keeper;
 pub mod memory_keeper;
 pub mod memory_shelf;
+pub mod nowhere;
 mod sending;
 pub mod shelf;
 pub mod tables;
 #[cfg(test)]
 mod tests;
-mod worths;
+pub mod worths;

@@ -2,6 +2,7 @@
 
 use crate::memory_keeper::MemKeeper;
 use crate::memory_shelf::MemShelf;
+use crate::nowhere::Nowhere;
 use crate::tables::Tables;
 
 fn sent<T: Send>() {}
@@ -10,4 +11,5 @@ fn values_may_cross_threads() {
     sent::<Tables>();
     sent::<MemKeeper>();
     sent::<MemShelf>();
+    sent::<Nowhere>();
 }

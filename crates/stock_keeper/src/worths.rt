@@ -1,11 +1,18 @@
-//! How worths are changed: those that are put in, and those that are gone.
-ghost use Rattle.std.specs.Prelude.{◌≡◌, IfOk, OnOk, fold};
+//! Whether worths stand in order, and how they are changed: those that are put in, and those that are gone.
+ghost use Rattle.std.specs.Prelude.{◌≡◌, ◌↔◌, IsTrue, IfOk, OnOk, fold};
 ghost use Rattle.stock_keeper.specs.Worths.{AreInOrder, is_spot_before, is_same_spot, is_among, put, without, changed_worths};
 
 use crate::changes::{Changes, SpotWorth};
 use std::alloc::Global;
 use stock_nums::memory::NoMemory;
 use stock_nums::place::Spot;
+
+/// Whether the worths stand by record, line and side, each spot once.
+pub fn are_in_order(worths: &[SpotWorth]) -> bool
+    ensures { IsTrue result ↔ AreInOrder worths.now }
+{
+    worths.is_sorted_by(|a, b| is_before(&a.spot, &b.spot))
+}
 
 /// The worths with these changes.
 pub(crate) fn changed(
