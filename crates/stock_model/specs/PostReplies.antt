@@ -1,5 +1,5 @@
 -- What the posting of a record is answered at a point of the history.
-use Rattle.std.specs.Prelude.{ℕ, ◌+◌, ◌≡◌, Option, List, ◌∷◌, [], ◌++◌, filter_map, MatchOption}
+use Rattle.std.specs.Prelude.{ℕ, ◌+◌, ◌≡◌, ◌⊎◌, Option, List, ◌∷◌, [], ◌++◌, filter_map, MatchOption}
 use Rattle.std.specs.Option.{option_and_then}
 use Rattle.stock_nums.specs.declared.head.Head.{Head}
 use Rattle.stock_model.specs.declared.records.Record.{Record}
@@ -28,10 +28,19 @@ abbrev pub refusal : List Record → PostFault → Answer
 refusal journal KeeperFailed = Told StoreFailed []
 refusal journal f = Told (Refused f) (filter_map (head_at journal) (named f))
 
--- the answer to a record that is posted, and the history after it: refused for its first fault and nothing
--- changed, or accepted under the next number and kept
+-- the record is accepted under the next number and kept
+abbrev pub IsAccepted : List Deed → Record → Answer → List Deed → Type 0
+IsAccepted old item answer new =
+    (answer ≡ Told (Accepted (record { 0 = accepted old + 1 })) []) × (new ≡ old ++ Kept item ∷ [])
+
+-- what keeps the records failed
+abbrev pub TellsStoreFailed : Answer → Type 0
+TellsStoreFailed answer = answer ≡ Told StoreFailed []
+
+-- the answer to a record that is posted, and the history after it: refused for its first fault and nothing changed, or accepted,
+-- unless what keeps it failed and nothing changed
 abbrev pub IsPostAnswer : List Deed → Record → Answer → List Deed → Type 0
 IsPostAnswer old item answer new =
     MatchOption (fault (records old) item)
-    ((answer ≡ Told (Accepted (record { 0 = accepted old + 1 })) []) × (new ≡ old ++ Kept item ∷ []))
+    (IsAccepted old item answer new ⊎ (TellsStoreFailed answer × (new ≡ old)))
     (λ f. (answer ≡ refusal (records old) f) × (new ≡ old))

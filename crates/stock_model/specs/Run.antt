@@ -11,7 +11,7 @@ use Rattle.stock_model.specs.declared.answers.Answer.TheVariants.{Told}
 use Rattle.stock_model.specs.declared.replies.Reply.TheVariants.{Worked, Settled, Long, Bad}
 use Rattle.stock_model.specs.History.{accepted, covered}
 use Rattle.stock_model.specs.Reports.{report}
-use Rattle.stock_model.specs.PostReplies.{IsPostAnswer}
+use Rattle.stock_model.specs.PostReplies.{IsPostAnswer, TellsStoreFailed}
 
 -- what a run has come to
 pub record RunState : Type 0 where
@@ -23,20 +23,23 @@ ArePublications [] = Unit {0}
 ArePublications (Kept item ∷ deeds) = ⊥
 ArePublications (Published n ∷ deeds) = ArePublications deeds
 
--- some publications come
+-- some publications come, and then what keeps the records may fail
 pub record Works (old : List Deed) (answer : Answer) (new : List Deed) : Type 0 where
   pub more : List Deed
   pub publications : ArePublications more
   pub grows : new ≡ old ++ more
-  pub told : answer ≡ Told (Worked (record { 0 = covered new })) []
+  pub told : (answer ≡ Told (Worked (record { 0 = covered new })) []) ⊎ TellsStoreFailed answer
 
--- some publications come, and then every accepted record is covered
+-- every accepted record is covered
+abbrev pub TellsAll : Answer → List Deed → Type 0
+TellsAll answer new = (covered new ≡ accepted new) × (answer ≡ Told (Settled (record { 0 = accepted new })) [])
+
+-- some publications come, and then every accepted record is covered, or what keeps the records failed
 pub record Settles (old : List Deed) (answer : Answer) (new : List Deed) : Type 0 where
   pub more : List Deed
   pub publications : ArePublications more
   pub grows : new ≡ old ++ more
-  pub covers : covered new ≡ accepted new
-  pub told : answer ≡ Told (Settled (record { 0 = accepted new })) []
+  pub told : TellsAll answer new ⊎ TellsStoreFailed answer
 
 -- a post carries desk 0
 pub record Posts (old : List Deed) (answer : Answer) (new : List Deed) (item : Record) : Type 0 where

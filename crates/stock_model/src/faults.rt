@@ -60,7 +60,7 @@ pub enum PostFault {
         store: StoreNo,
         lacking: Qty,
     },
-    /// The keeper failed. No book of today has one.
+    /// What keeps the records failed.
     KeeperFailed,
     /// Memory was wanting. This can come at any time.
     NoMemory,
