@@ -17,7 +17,7 @@ use Rattle.voucher_json.specs.RecordTexts.{record_text}
 use Rattle.kept_tables.specs.TablesOf.{stored_from, worths_of, tables_of}
 
 -- one more record is kept under the next number
-stored_from-snoc : (n : ℕ) (items : List Record) (item : Record) → stored_from n (items ++ item ∷ [])
+pub stored_from-snoc : (n : ℕ) (items : List Record) (item : Record) → stored_from n (items ++ item ∷ [])
     ≡ stored_from n items ++ stored (record { 0 = length items + n }) (record_text item) ∷ []
 stored_from-snoc n [] item =
     let same : n ≡ 0 + n = omega arith in
@@ -28,7 +28,7 @@ stored_from-snoc n (first ∷ items) item =
     (stored_from-snoc (n + 1) items item
     ∙ ap (λ (m : ℕ). stored_from (n + 1) items ++ stored (record { 0 = m }) (record_text item) ∷ []) next)
 
-length-stored_from : (n : ℕ) (items : List Record) → length (stored_from n items) ≡ length items
+pub length-stored_from : (n : ℕ) (items : List Record) → length (stored_from n items) ≡ length items
 length-stored_from n [] = refl
 length-stored_from n (item ∷ items) = ap suc (length-stored_from (n + 1) items)
 

@@ -6,3 +6,9 @@ pub mod Revalued
 pub mod FirstApart
 pub mod ApartSteps
 pub mod SpotMaps
+pub mod Keeping
+pub mod OneText
+pub mod FaultsOf
+pub mod Opened
+pub mod Readings
+pub mod OpeningSteps

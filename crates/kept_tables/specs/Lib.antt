@@ -1,2 +1,4 @@
 pub mod TablesOf
 pub mod Differences
+pub mod Openings
+pub mod Kept

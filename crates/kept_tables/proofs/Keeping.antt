@@ -1,0 +1,36 @@
+-- A keeper of a history after one of its calls: of the longer history where the call was done, and of the same where it was
+-- refused.
+use Rattle.std.proofs.Common.{◌≡◌, List, [], ◌∷◌, ◌++◌, ◌⊎◌, inl, inr, ap, ◌∙◌}
+use Rattle.stock_model.specs.History.{IsLegal}
+use Rattle.stock_model.specs.declared.deeds.Deed.{Deed}
+use Rattle.stock_keeper.specs.Keeping.{Within, IsMade, Makes, MayMake}
+use Rattle.stock_keeper.specs.declared.tables.Tables.{Tables}
+use Rattle.kept_tables.specs.Kept.{IsTried, IsKept}
+use Rattle.kept_tables.specs.TablesOf.{tables_of}
+
+module _ (history : List Deed) (event : Deed) (change : Tables → Tables)
+    (is : change (tables_of history) ≡ tables_of (history ++ event ∷ []))
+    (tells may_leave : Tables → Type 0) (kept : IsKept tells may_leave history) where
+  -- what the change makes of the tables that were told are the tables of the longer history
+  made-is : (t : Tables) → IsMade change tells t → t ≡ tables_of (history ++ event ∷ [])
+  made-is t (old, told, made) = made ∙ ap change (kept.told old told) ∙ is
+
+  pub IsKept-done : (tells' may_leave' : Tables → Type 0) → Makes change tells tells' → Within tells' may_leave'
+      → IsKept tells' may_leave' (history ++ event ∷ [])
+  IsKept-done tells' may_leave' makes durable =
+      record {
+        told = λ t now. made-is t (makes t now);
+        left = λ t may. inl (made-is t (makes t (durable t may)));
+      }
+
+  pub IsKept-refused : (tells' may_leave' : Tables → Type 0) → IsLegal (history ++ event ∷ []) → Within tells tells'
+      → MayMake change tells may_leave may_leave' → IsKept tells' may_leave' history
+  IsKept-refused tells' may_leave' legal same may_make =
+      record {
+        told = λ t now. kept.told t (same t now);
+        left = λ t may. by_cause t (may_make t may);
+      }
+    where
+      by_cause : (t : Tables) → may_leave t ⊎ IsMade change tells t → (t ≡ tables_of history) ⊎ IsTried history t
+      by_cause t (inl before) = kept.left t before
+      by_cause t (inr made) = inr (record { event = event; legal = legal; is = made-is t made })
