@@ -1,5 +1,5 @@
 -- How the parts of a book hang together, and what a kept record and a publication make of them.
-use Rattle.std.proofs.Common.{◌≡◌, ℕ, ◌+◌, ◌<◌, ◌≤◌, ◌⊎◌, List, [], ◌∷◌, ◌++◌, length, None, Some, refl, sym, subst, ap, ◌∙◌, length-append, arith, take, drop}
+use Rattle.std.proofs.Common.{◌≡◌, ℕ, suc, ◌+◌, ◌-◌, ◌<◌, ◌≤◌, ◌⊎◌, List, [], ◌∷◌, ◌++◌, length, None, Some, refl, sym, subst, ap, ◌∙◌, length-append, arith, take, drop}
 use Rattle.std.proofs.lemmas.Bool.{lt-ltb, le-ltb}
 use Rattle.std.proofs.lemmas.Bool.Decides.{nat_tests}
 use Rattle.std.proofs.lemmas.List.{take-append-le, take_all, take-take, take-append-drop}
@@ -75,6 +75,21 @@ deeds-published (Kept ∷ events) [] n counted = absurd (omega (arith, counted))
 deeds-published (Kept ∷ events) (first ∷ journal) n counted = ap (λ rest. deed.Kept first ∷ rest) (deeds-published events journal n (omega (arith, counted)))
 deeds-published (Published m ∷ events) journal n counted = ap (λ rest. deed.Published m ∷ rest) (deeds-published events journal n counted)
 
+-- each event is one deed
+pub length-deeds : (events : List Event) (journal : List Record) → kept_count events ≡ length journal → length (deeds events journal) ≡ length events
+length-deeds [] [] counted = refl
+length-deeds [] (item ∷ journal) counted = absurd (omega (arith, counted))
+length-deeds (Kept ∷ events) [] counted = absurd (omega (arith, counted))
+length-deeds (Kept ∷ events) (item ∷ journal) counted = ap suc (length-deeds events journal (omega (arith, counted)))
+length-deeds (Published n ∷ events) journal counted = ap suc (length-deeds events journal counted)
+
+-- a record that was put at the end and taken away again leaves the journal
+pub popped : (journal : List Record) (item : Record) → take (length (journal ++ item ∷ []) - 1) (journal ++ item ∷ []) ≡ journal
+popped journal item =
+    let n : length (journal ++ item ∷ []) - 1 ≡ length journal = omega (arith, length-append journal (item ∷ [])) in
+    ap (λ (m : ℕ). take m (journal ++ item ∷ [])) n ∙ take-append-le (length journal) journal (item ∷ []) (omega arith)
+    ∙ take_all (length journal) journal (omega arith)
+
 -- what the parts of a book are told as
 pub history-records : (events : List Event) (journal : List Record) (line : List Entry) (c : ℕ) (rows : List Row) (told : List Deed) → IsBook events journal line c rows
     → deeds events journal ≡ told → history.records told ≡ journal
@@ -112,11 +127,11 @@ unfolding fault
 at_once-none journal item none = (neither (fault_but_short journal item) (short journal item) none).0
 
 -- a legal history stays so where a record without a fault is kept
-legal-kept : (told : List Deed) (item : Record) → history.IsLegal told → fault (history.records told) item ≡ None → history.IsLegal (told ++ deed.Kept item ∷ [])
+pub legal-kept : (told : List Deed) (item : Record) → history.IsLegal told → fault (history.records told) item ≡ None → history.IsLegal (told ++ deed.Kept item ∷ [])
 legal-kept told item legal sound = IsLegalAfter-append [] 0 told (deed.Kept item ∷ []) legal (sound, tt)
 
 -- and where more records than before are published, and no more than were accepted
-legal-published : (told : List Deed) (n : RecordNo) → history.IsLegal told → history.covered told < n.0 → n.0 ≤ length (history.records told)
+pub legal-published : (told : List Deed) (n : RecordNo) → history.IsLegal told → history.covered told < n.0 → n.0 ≤ length (history.records told)
     → history.IsLegal (told ++ deed.Published n ∷ [])
 legal-published told n legal more within = IsLegalAfter-append [] 0 told (deed.Published n ∷ []) legal (more, within, tt)
 

@@ -1,3 +1,5 @@
 pub mod Books
 pub mod Filters
 pub mod ChangedRows
+pub mod OwnFaults
+pub mod KeptBooks

@@ -2,3 +2,4 @@ pub mod State
 pub mod Book
 pub mod RecordRows
 pub mod Merged
+pub mod Refusals

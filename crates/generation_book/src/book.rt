@@ -1,6 +1,6 @@
 //! The book: records that are kept, and the generation that reports are made from.
 
-ghost use Rattle.std.specs.Prelude.{◌≡◌, ◌⊎◌, ◌<◌, ◌≤◌, [], ◌∷◌, ◌++◌, take, drop, filter, IfOk, OnOk, OnErr, IfErr, Some, None};
+ghost use Rattle.std.specs.Prelude.{◌≡◌, ◌⊎◌, ◌<◌, ◌≤◌, [], ◌∷◌, ◌++◌, length, take, drop, filter, IfOk, OnOk, OnErr, IfErr, Some, None};
 ghost use Rattle.std.specs.Option.{option_copied};
 ghost use Rattle.stock_model.specs.declared.deeds.Deed.TheVariants as deed;
 ghost use Rattle.stock_model.specs.Reports.{need_at, unmet_need, for_sheet, selected, IsForSheet};
@@ -8,17 +8,26 @@ ghost use Rattle.stock_model.specs.Entries.{entries};
 ghost use Rattle.stock_model.specs.Faults.{voucher_fault, full, fault_but_short, fault, short_of};
 ghost use Rattle.stock_model.specs.History as history;
 ghost use Rattle.stock_model.specs.Masters.{record_at};
+ghost use Rattle.stock_model.specs.Replay.{replay};
+ghost use Rattle.stock_keeper.specs.Calls.{IsDone, IsRefused};
 ghost use Rattle.repost_fetch.specs.Changes.{AreChanges};
 ghost use Rattle.repost_fetch.specs.Fetched.{IsFetchedOf};
+ghost use Rattle.kept_tables.specs.Kept.{IsKept};
+ghost use Rattle.generation_book.specs.State.{first_book};
+ghost use Rattle.generation_book.specs.Refusals.{refusal_of, IsRefusalOf, IsAfterRefusal};
 
 use crate::events::Event;
 use crate::merging::merged;
 use crate::selecting::rows_for;
 use cost_links::replay;
+use kept_tables::publishing::changes_of;
 use quantity_check::running::Running;
 use repost_fetch::fetch::{Fetched, fetch};
 use std::alloc::Global;
 use std::marker::Model;
+use stock_keeper::fault::KeepFault;
+use stock_keeper::keeper::Keeper;
+use stock_keeper::nowhere::Nowhere;
 use stock_model::faults::PostFault;
 use stock_model::queries::{Need, Query, SelectFault, Selected};
 use stock_model::records::Record;
@@ -30,12 +39,17 @@ use stock_nums::lines::Lines;
 use stock_nums::memory::NoMemory;
 use stock_nums::moment::Moment;
 use stock_nums::numbers::RecordNo;
+use voucher_json::record_texts::record_text;
 use voucher_kinds::journal::Journal;
 
-/// The accepted records, and the generation that reports are made from: the valued movements of the
-/// first `covered` records. Contracts see its history.
+/// The accepted records, the generation that reports are made from, which is the valued movements of the first `covered`
+/// records, and what keeps both. Contracts see its history, and what its keeper tells of its calls; the tables of the keeper are
+/// those of the history, where it tells them.
 #[derive(Drop)]
-pub struct Book {
+pub struct Book<K: Keeper> {
+    keeper: K,
+    /// How many events its history began with.
+    opened: usize,
     journal: Journal,
     events: Vec<Event>,
     /// The movements of all accepted records, in posting order, with which no warehouse lacks anything.
@@ -44,24 +58,33 @@ pub struct Book {
     rows: Lines<Row>,
 }
 
-impl Model for Book {
+impl<K: Keeper> Model for Book<K> {
+    ghost use Rattle.std.specs.Prelude.{◌≤◌, length};
     ghost use Rattle.generation_book.specs.State.{BookState};
+    ghost use Rattle.generation_book.specs.Book.{deeds, IsBook};
+    ghost use Rattle.kept_tables.specs.Kept.{IsKept};
 
     ghost Value = { BookState };
 
-    ghost use Rattle.generation_book.specs.Book.{deeds, IsBook};
+    ghost view = { λ book. record {
+        history = deeds book.events.items book.journal;
+        opened = book.opened;
+        keeper = record { faults = K.faults book.keeper; plan = K.plan book.keeper; calls = K.calls book.keeper };
+    } };
 
-    ghost view = { λ book. record { history = deeds book.events.items book.journal } };
-
-    ghost invariant = { λ book. IsBook book.events.items book.journal book.movements.entries book.covered.0 book.rows };
+    ghost invariant = { λ book. IsBook book.events.items book.journal book.movements.entries book.covered.0 book.rows
+        × IsKept (K.tells book.keeper) (K.may_leave book.keeper) (deeds book.events.items book.journal)
+        × (book.opened ≤ length book.events.items) };
 }
 
-impl Book {
-    /// The empty book. It takes no memory.
-    pub fn start(alloc: Global) -> Book
-        ensures { result.history ≡ [] }
+impl Book<Nowhere> {
+    /// The empty book, which is kept nowhere. It takes no memory.
+    pub fn start(alloc: Global) -> Book<Nowhere>
+        ensures { result ≡ first_book }
     {
         Book {
+            keeper: Nowhere::new(alloc),
+            opened: 0,
             journal: Journal::new(alloc),
             events: Vec::new(alloc),
             movements: Running::new(alloc),
@@ -70,20 +93,52 @@ impl Book {
         }
     }
 
-    /// Accepts a record, or refuses it for its first fault. Reports stay as they were. Memory may be wanting only
-    /// where the record has no fault but perhaps a shortage.
+    /// The same book over a keeper of its history, which is its opening then.
+    pub fn with_keeper<K: Keeper>(self, keeper: K) -> Book<K>
+        requires kept { IsKept (K.tells keeper) (K.may_leave keeper) self.history }
+        ensures history { result.history ≡ self.history }
+        ensures opened { result.opened ≡ length self.history }
+        ensures faults { result.keeper.faults ≡ K.faults keeper }
+        ensures plan { result.keeper.plan ≡ K.plan keeper }
+        ensures calls { result.keeper.calls ≡ K.calls keeper }
+    {
+        Book {
+            keeper,
+            opened: self.events.as_slice().len(),
+            journal: self.journal,
+            events: self.events,
+            movements: self.movements,
+            covered: self.covered,
+            rows: self.rows,
+        }
+    }
+}
+
+impl<K: Keeper> Book<K> {
+    /// Accepts a record, or refuses it for its first fault. Reports stay as they were. All memory is taken first and the keeper is
+    /// called last, so that nothing is refused after the keeper has the record.
+    ///
+    /// # Errors
+    ///
+    /// The record's first fault; `KeeperFailed` where it has none and the keeper failed; `NoMemory`, which may be wanting only
+    /// where the record has no fault but perhaps a shortage. The history stays.
     pub fn post(&mut self, alloc: Global, item: Record) -> Result<RecordNo, PostFault>
         ensures sound { OnOk result (fault (history.records self.old.history) item ≡ None) }
         ensures kept { OnOk result (self.new.history ≡ self.old.history ++ deed.Kept item ∷ []) }
         ensures number { IfOk result (λ n. n.0 ≡ history.accepted self.new.history) }
-        ensures fault { IfErr result (λ f. (f ≡ PostFault.NoMemory) × (fault_but_short (history.records self.old.history) item ≡ None)
-            ⊎ (fault (history.records self.old.history) item ≡ Some f)) }
-        ensures unchanged { OnErr result (self.new ≡ self.old) }
+        ensures fault { IfErr result (IsRefusalOf (history.records self.old.history) item) }
+        ensures unchanged { OnErr result (self.new.history ≡ self.old.history) }
+        ensures opened { self.new.opened ≡ self.old.opened }
+        ensures done { OnOk result (IsDone self.old.keeper self.new.keeper) }
+        ensures refused { IfErr result (λ f. IsAfterRefusal f self.old.keeper self.new.keeper) }
         ensures legal { OnOk result (history.IsLegal self.new.history) }
     {
         let entries = match self.new_entries(alloc, &item) {
             Ok(entries) => entries,
             Err(fault) => return Err(fault),
+        };
+        let Ok(text) = record_text(alloc, &item) else {
+            return Err(PostFault::NoMemory);
         };
         if self.events.reserve(1).is_err() {
             return Err(PostFault::NoMemory);
@@ -94,6 +149,10 @@ impl Book {
         let Ok(number) = self.journal.push(item) else {
             return Err(PostFault::NoMemory);
         };
+        if let Err(fault) = self.keeper.append(number, text.as_slice()) {
+            self.journal.pop();
+            return Err(refusal_of(fault));
+        }
         self.events.push_reserved(Event::Kept);
         self.movements.add(entries.as_slice());
         Ok(number)
@@ -144,27 +203,20 @@ impl Book {
         None
     }
 
-    /// Covers every accepted record: where some are not covered it publishes their replay. It answers how
-    /// many are covered. A refusal changes nothing.
-    pub fn settle_all(&mut self, alloc: Global) -> Result<RecordNo, NoMemory>
-        ensures settled { OnOk result (self.new.history ≡ history.settled self.old.history) }
-        ensures covered { IfOk result (λ n. n.0 ≡ history.accepted self.old.history) }
-        ensures memory { OnErr result (history.covered self.old.history < history.accepted self.old.history) }
-        ensures unchanged { OnErr result (self.new ≡ self.old) }
-        ensures legal { OnOk result (history.IsLegal self.new.history) }
+    /// The replay of all accepted records from nothing: what turns of a worker come to, for those who compare. The only error is
+    /// want of memory.
+    pub fn replayed(&self, alloc: Global) -> Result<Lines<Row>, NoMemory>
+        ensures { IfOk result (λ rows. rows ≡ replay (history.records self.now.history)) }
     {
-        let accepted = RecordNo(self.journal.count());
-        if self.covered.0 >= accepted.0 {
-            return Ok(self.covered);
-        }
-        let records = self.journal.records();
         let line = self.movements.timeline().to_lines(alloc)?;
-        let rows = replay::rows_of(alloc, records, line.as_slice())?;
-        self.events.reserve(1)?;
-        self.events.push_reserved(Event::Published(accepted));
-        self.covered = accepted;
-        self.rows = rows;
-        Ok(accepted)
+        replay::rows_of(alloc, self.journal.records(), line.as_slice())
+    }
+
+    /// The movements of the covered records with what each is worth, in posting order.
+    pub fn rows(&self) -> &[Row]
+        ensures { result.now ≡ replay (history.covered_records self.now.history) }
+    {
+        self.rows.as_slice()
     }
 
     /// What the records after the first `after` ones bring to a revaluation: their movements, in the order of the records, and
@@ -179,18 +231,29 @@ impl Book {
     }
 
     /// Publishes the first `n` records. `changed` are the rows of their replay that differ from those of the generation or are
-    /// new, in posting order; rows that stayed may be among them. It costs one pass over the rows, and no replay. The only error
-    /// is want of memory, and then nothing changed.
-    pub fn publish(&mut self, alloc: Global, n: RecordNo, changed: &[Row]) -> Result<(), NoMemory>
+    /// new, in posting order; rows that stayed may be among them. It costs one pass over the rows, and no replay. All memory is
+    /// taken first and the keeper is called last.
+    ///
+    /// # Errors
+    ///
+    /// `Failed` where the keeper failed; `NoMemory` for want of memory. The history stays.
+    pub fn publish(&mut self, alloc: Global, n: RecordNo, changed: &[Row]) -> Result<(), KeepFault>
         requires later { history.covered self.old.history < n.0 }
         requires within { n.0 ≤ history.accepted self.old.history }
         requires changed { AreChanges (take n.0 (history.records self.old.history)) (history.covered self.old.history) changed.now }
         ensures published { OnOk result (self.new.history ≡ self.old.history ++ deed.Published n ∷ []) }
-        ensures unchanged { OnErr result (self.new ≡ self.old) }
+        ensures unchanged { OnErr result (self.new.history ≡ self.old.history) }
+        ensures opened { self.new.opened ≡ self.old.opened }
+        ensures done { OnOk result (IsDone self.old.keeper self.new.keeper) }
+        ensures refused { IfErr result (λ f. IsRefused f self.old.keeper self.new.keeper) }
         ensures legal { OnOk result (history.IsLegal self.new.history) }
     {
         let renewed = merged(alloc, self.rows.as_slice(), changed)?;
-        self.events.reserve(1)?;
+        let changes = changes_of(alloc, changed)?;
+        if self.events.reserve(1).is_err() {
+            return Err(KeepFault::NoMemory);
+        }
+        self.keeper.publish(n, &changes)?;
         self.events.push_reserved(Event::Published(n));
         self.covered = n;
         self.rows = renewed;
@@ -272,6 +335,42 @@ impl Book {
         ensures within { history.covered self.now.history ≤ history.accepted self.now.history }
     {
         self.covered
+    }
+
+    /// How many events the history began with.
+    pub fn opened(&self) -> usize
+        ensures { result ≡ self.now.opened }
+    {
+        self.opened
+    }
+
+    /// The keeper, for good. A crash leaves its tables, or those with an event that it refused since.
+    pub fn into_keeper(self) -> K
+        ensures kept { IsKept (K.tells result) (K.may_leave result) self.history }
+        ensures faults { K.faults result ≡ self.keeper.faults }
+        ensures plan { K.plan result ≡ self.keeper.plan }
+        ensures calls { K.calls result ≡ self.keeper.calls }
+    {
+        let Book {
+            keeper,
+            opened: _,
+            journal: _,
+            events: _,
+            movements: _,
+            covered: _,
+            rows: _,
+        } = self;
+        keeper
+    }
+}
+
+// Why a post is refused that the keeper refused.
+fn refusal_of(fault: KeepFault) -> PostFault
+    ensures { result ≡ refusal_of fault }
+{
+    match fault {
+        KeepFault::Failed => PostFault::KeeperFailed,
+        KeepFault::NoMemory => PostFault::NoMemory,
     }
 }
 
@@ -361,7 +460,7 @@ mod tests {
         })
     }
 
-    fn post_three(alloc: Global, book: &mut Book) -> Result<[u32; 3], Fail> {
+    fn post_three(alloc: Global, book: &mut Book<Nowhere>) -> Result<[u32; 3], Fail> {
         let first = book.post(alloc, item(alloc)?)?;
         let second = book.post(alloc, store(alloc)?)?;
         let third = book.post(alloc, receipt(alloc)?)?;
@@ -369,11 +468,11 @@ mod tests {
     }
 
     // Why the same item is not accepted again.
-    fn refused(alloc: Global, book: &mut Book) -> Option<PostFault> {
+    fn refused(alloc: Global, book: &mut Book<Nowhere>) -> Option<PostFault> {
         book.post(alloc, item(alloc).ok()?).err()
     }
 
-    fn select(alloc: Global, book: &Book) -> Result<Selected, SelectFault> {
+    fn select(alloc: Global, book: &Book<Nowhere>) -> Result<Selected, SelectFault> {
         let query = Query {
             sheet: Sheet::Balance,
             need: RecordNo(0),
@@ -387,7 +486,7 @@ mod tests {
 
     // How many records are accepted and how many are covered, and how many records, movements and heads
     // a report is made from.
-    fn sizes(alloc: Global, book: &Book) -> Result<[usize; 5], SelectFault> {
+    fn sizes(alloc: Global, book: &Book<Nowhere>) -> Result<[usize; 5], SelectFault> {
         let chosen = select(alloc, book)?;
         Ok([
             book.accepted().0 as usize,
@@ -399,14 +498,14 @@ mod tests {
     }
 
     // The quantity and the value of the last movement that a report is made from.
-    fn last_row(alloc: Global, book: &Book) -> Option<(u64, i64)> {
+    fn last_row(alloc: Global, book: &Book<Nowhere>) -> Option<(u64, i64)> {
         let chosen = select(alloc, book).ok()?;
         let row = chosen.rows.as_slice().last()?;
         Some((row.entry.qty.0, row.worth.value.0))
     }
 
     // The record and the units that lack, where an issue of so many units is short.
-    fn lacking(alloc: Global, book: &mut Book, units: u8) -> Option<(u32, u64)>
+    fn lacking(alloc: Global, book: &mut Book<Nowhere>, units: u8) -> Option<(u32, u64)>
         requires { 0 < units }
     {
         match book.post(alloc, issue(alloc, units).ok()?) {
@@ -422,7 +521,7 @@ mod tests {
         }
     }
 
-    fn needs(book: &Book) -> [Need; 3] {
+    fn needs(book: &Book<Nowhere>) -> [Need; 3] {
         [3, 4, 5].map(|number| {
             book.test(&Query {
                 sheet: Sheet::Balance,
@@ -456,7 +555,7 @@ mod tests {
         Ok(Seen {
             posted: post_three(alloc, &mut book)?,
             before: sizes(alloc, &book)?,
-            settled: book.settle_all(alloc)?,
+            settled: publish_all(alloc, &mut book)?,
             refused: refused(alloc, &mut book),
             after: sizes(alloc, &book)?,
             row: last_row(alloc, &book),
@@ -464,13 +563,13 @@ mod tests {
             lacking: lacking(alloc, &mut book, 7),
             needs: needs(&book),
             held: [0, 4, 5].map(|number| book.at(RecordNo(number)).is_some()),
-            resettled: book.settle_all(alloc)?,
+            resettled: publish_all(alloc, &mut book)?,
             cost: last_row(alloc, &book),
         })
     }
 
     // How many movements the records after the first ones bring, and how many records there are with them.
-    fn fetched(alloc: Global, book: &Book, after: u32) -> Option<(usize, RecordNo)> {
+    fn fetched(alloc: Global, book: &Book<Nowhere>, after: u32) -> Option<(usize, RecordNo)> {
         if after > book.accepted().0 {
             return None;
         }
@@ -479,13 +578,12 @@ mod tests {
     }
 
     // Publishes all accepted records, where some are not covered, with each row as one that changed.
-    fn publish_all(alloc: Global, book: &mut Book) -> Result<RecordNo, NoMemory> {
+    fn publish_all(alloc: Global, book: &mut Book<Nowhere>) -> Result<RecordNo, KeepFault> {
         let accepted = book.accepted();
         if book.covered().0 >= accepted.0 {
             return Ok(accepted);
         }
-        let line = book.movements.timeline().to_lines(alloc)?;
-        let rows = replay::rows_of(alloc, book.journal.records(), line.as_slice())?;
+        let rows = book.replayed(alloc)?;
         book.publish(alloc, accepted, rows.as_slice())?;
         Ok(accepted)
     }
@@ -501,7 +599,7 @@ mod tests {
     fn renew(alloc: Global) -> Result<Renewed, Fail> {
         let mut book = Book::start(alloc);
         post_three(alloc, &mut book)?;
-        book.settle_all(alloc)?;
+        publish_all(alloc, &mut book)?;
         book.post(alloc, issue(alloc, 4)?)?;
         Ok(Renewed {
             fetched: fetched(alloc, &book, 3),

@@ -8,5 +8,3 @@ pub mod events;
 mod merging;
 mod selecting;
 mod sending;
-#[cfg(test)]
-mod sheet_tests;

@@ -13,32 +13,32 @@ use Rattle.generation_book.proofs.book.Book.full.Goals.{then-records-ge-MAX_RECO
 use Rattle.generation_book.proofs.book.Book.full.Goals as goal
 
 pub returns-then-records-ge-MAX_RECORDS : goal.returns-then-records-ge-MAX_RECORDS
-returns-then-records-ge-MAX_RECORDS c =
+returns-then-records-ge-MAX_RECORDS g c =
     let told : deeds c.self.inside.events.items c.self.inside.journal ≡ c.args.self.now.history = ap (λ (b : BookState). b.history) c.self.view_is in
-    let records = history-records _ _ _ _ _ c.args.self.now.history c.self.invariant told in
+    let records = history-records _ _ _ _ _ c.args.self.now.history c.self.invariant.0 told in
     let sound : voucher_fault c.self.inside.journal c.args.item.now.what ≡ None =
     subst (λ (journal : List Record). voucher_fault journal c.args.item.now.what ≡ None) records c.requires in
-    let held_sound = AreSound-from c.self.inside.journal (IsBook-legal _ _ _ _ _ c.self.invariant) in
+    let held_sound = AreSound-from c.self.inside.journal (IsBook-legal _ _ _ _ _ c.self.invariant.0) in
     let line : c.len-held.result ≡ length c.self.inside.movements.entries = c.len-held.ensures ∙ ap length c.timeline.ensures.entries in
-    let held : c.len-held.result ≡ length (all_entries c.self.inside.journal) = line ∙ ap length c.self.invariant.posted ∙ length-posting_line c.self.inside.journal in
+    let held : c.len-held.result ≡ length (all_entries c.self.inside.journal) = line ∙ ap length c.self.invariant.0.posted ∙ length-posting_line c.self.inside.journal in
     let no_room : (MAX_RECORDS ≤ length c.self.inside.journal) ⊎ (MAX_ENTRIES < length (all_entries c.self.inside.journal) + length (entries c.self.inside.journal c.args.item.now)) =
     elim c.then-records-ge-MAX_RECORDS.branch [
       | then-records-ge-MAX_RECORDS-via-then-records-ge-MAX_RECORDS w ↦ inl (omega (arith, c.count-records.ensures.count))
-      | then-records-ge-MAX_RECORDS-via-else-records-ge-MAX_RECORDS+then-count-held w ↦ inr (omega (arith, c.self.invariant.few, line, held, w.count.ensures c.self.inside.journal held_sound sound, w.if-count-held.true))
+      | then-records-ge-MAX_RECORDS-via-else-records-ge-MAX_RECORDS+then-count-held w ↦ inr (omega (arith, c.self.invariant.0.few, line, held, w.count.ensures c.self.inside.journal held_sound sound, w.if-count-held.true))
     ] in
     rw (records, c.count-records.ensures.count, held) (sym (full-some c.self.inside.journal c.args.item.now no_room))
 
 pub returns : goal.returns
-returns c =
+returns g c =
     let told : deeds c.self.inside.events.items c.self.inside.journal ≡ c.args.self.now.history = ap (λ (b : BookState). b.history) c.self.view_is in
-    let records = history-records _ _ _ _ _ c.args.self.now.history c.self.invariant told in
+    let records = history-records _ _ _ _ _ c.args.self.now.history c.self.invariant.0 told in
     let sound : voucher_fault c.self.inside.journal c.args.item.now.what ≡ None =
     subst (λ (journal : List Record). voucher_fault journal c.args.item.now.what ≡ None) records c.requires in
-    let held_sound = AreSound-from c.self.inside.journal (IsBook-legal _ _ _ _ _ c.self.invariant) in
+    let held_sound = AreSound-from c.self.inside.journal (IsBook-legal _ _ _ _ _ c.self.invariant.0) in
     let line : c.len-held.result ≡ length c.self.inside.movements.entries = c.len-held.ensures ∙ ap length c.timeline.ensures.entries in
-    let held : c.len-held.result ≡ length (all_entries c.self.inside.journal) = line ∙ ap length c.self.invariant.posted ∙ length-posting_line c.self.inside.journal in
+    let held : c.len-held.result ≡ length (all_entries c.self.inside.journal) = line ∙ ap length c.self.invariant.0.posted ∙ length-posting_line c.self.inside.journal in
     let new = c.count.ensures c.self.inside.journal held_sound sound in
     rw records
     (sym
     (full-none c.self.inside.journal c.args.item.now (omega (arith, c.count-records.ensures.count, c.if-records-ge-MAX_RECORDS.false))
-    (omega (arith, c.self.invariant.few, line, held, new, c.if-count-held.false))))
+    (omega (arith, c.self.invariant.0.few, line, held, new, c.if-count-held.false))))

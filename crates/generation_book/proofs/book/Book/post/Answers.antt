@@ -1,96 +1,168 @@
--- A record without a fault is kept.
-use Rattle.std.proofs.Common.{◌≡◌, [], ◌∷◌, ◌++◌, length-append, ap, ◌∙◌, subst, arith, length, None, List, inl, refl}
+-- A record without a fault is kept: the keeper has it first.
+use Rattle.std.proofs.Common.{◌≡◌, ℕ, ◌+◌, ◌-◌, take, [], ◌∷◌, ◌++◌, length-append, ap, ◌∙◌, sym, subst, arith, length, None, List}
+use Rattle.stock_keeper.specs.Changed.{Follows}
+use Rattle.stock_keeper.specs.declared.tables.Tables.{Tables}
 use Rattle.stock_model.specs.declared.records.Record.{Record}
+use Rattle.stock_model.specs.declared.deeds.Deed.{Deed}
+use Rattle.stock_model.specs.declared.deeds.Deed.TheVariants as deed
 use Rattle.stock_model.specs.Faults.{fault}
-use Rattle.stock_model.specs.History as history
+use Rattle.stock_model.specs.History.{records, accepted, IsLegal}
 use Rattle.stock_model.specs.Entries.{entries}
 use Rattle.stock_model.specs.PostingOrder.{posting_line}
 use Rattle.stock_model.proofs.Growth.{length-posting_line}
 use Rattle.stock_laws.proofs.Histories.{records-append}
+use Rattle.stock_laws.proofs.Legality.{NoFault-from}
+use Rattle.voucher_json.specs.RecordTexts.{record_text}
+use Rattle.kept_tables.specs.Kept.{IsKept}
+use Rattle.kept_tables.specs.TablesOf.{tables_of}
+use Rattle.kept_tables.proofs.KeptRecords.{Follows-next}
 use Rattle.generation_book.specs.State.{BookState}
 use Rattle.generation_book.specs.Book.{deeds}
+use Rattle.generation_book.specs.Refusals.{IsRefusalOf}
 use Rattle.generation_book.specs.declared.events.Event.{Event}
 use Rattle.generation_book.specs.declared.events.Event.TheVariants.{Kept}
-use Rattle.stock_laws.proofs.Legality.{NoFault-from}
-use Rattle.generation_book.proofs.Books.{records-deeds, history-records, IsBook-kept, deeds-kept, put_all-entries, entries-own_places, entries-enough, at_once-none}
+use Rattle.generation_book.proofs.Books.{records-deeds, history-records, IsBook-kept, deeds-kept, legal-kept, put_all-entries, entries-own_places, entries-enough, at_once-none, popped}
+use Rattle.generation_book.proofs.KeptBooks.{kept-appended, kept-unappended}
+use Rattle.generation_book.proofs.OwnFaults.{refused-for, refused-uncalled, refused-by}
 use Rattle.generation_book.proofs.book.Book.post.Goals as goal
 
+pub returns-in-Err-clause-fault : goal.returns-in-Err-clause-fault
+returns-in-Err-clause-fault g c = refused-for (records c.args.self.now.history) c.args.item c.in-Err.fault c.in-Err.ensures.fault
+
+pub returns-in-Err-clause-refused : goal.returns-in-Err-clause-refused
+returns-in-Err-clause-refused g c = refused-uncalled (records c.args.self.now.history) c.args.item c.in-Err.fault c.args.self.now.keeper c.in-Err.ensures.fault
+
+pub returns-in_default-clause-fault : goal.returns-in_default-clause-fault
+returns-in_default-clause-fault g c = at_once-none _ c.args.item c.in-Ok.ensures.sound
+
+pub returns-then-is_err-clause-fault : goal.returns-then-is_err-clause-fault
+returns-then-is_err-clause-fault g c = at_once-none _ c.args.item c.in-Ok.ensures.sound
+
+pub returns-then-is_err-2-clause-fault : goal.returns-then-is_err-2-clause-fault
+returns-then-is_err-2-clause-fault g c = at_once-none _ c.args.item c.in-Ok.ensures.sound
+
+pub returns-in_default-push-clause-fault : goal.returns-in_default-push-clause-fault
+returns-in_default-push-clause-fault g c = at_once-none _ c.args.item c.in-Ok.ensures.sound
+
 pub push-requires-clause-room : goal.push-requires-clause-room
-push-requires-clause-room c =
+push-requires-clause-room g c =
     let told : deeds c.self.inside.events.items c.self.inside.journal ≡ c.args.self.now.history = ap (λ (b : BookState). b.history) c.self.view_is in
-    let held = history-records _ _ _ _ _ c.args.self.now.history c.self.invariant told in
+    let held = history-records _ _ _ _ _ c.args.self.now.history c.self.invariant.0 told in
     let none : fault c.self.inside.journal c.args.item ≡ None = subst (λ (records : List Record). fault records c.args.item ≡ None) held c.in-Ok.ensures.sound in
     (NoFault-from c.self.inside.journal c.args.item none).records
 
 pub push-requires-clause-sound : goal.push-requires-clause-sound
-push-requires-clause-sound c =
+push-requires-clause-sound g c =
     let told : deeds c.self.inside.events.items c.self.inside.journal ≡ c.args.self.now.history = ap (λ (b : BookState). b.history) c.self.view_is in
-    let held = history-records _ _ _ _ _ c.args.self.now.history c.self.invariant told in
+    let held = history-records _ _ _ _ _ c.args.self.now.history c.self.invariant.0 told in
     let none : fault c.self.inside.journal c.args.item ≡ None = subst (λ (records : List Record). fault records c.args.item ≡ None) held c.in-Ok.ensures.sound in
     (NoFault-from c.self.inside.journal c.args.item none).sound
 
-pub add-requires-clause-apart : goal.add-requires-clause-apart
-add-requires-clause-apart c =
+pub append-requires : goal.append-requires
+append-requires g c t tells =
     let told : deeds c.self.inside.events.items c.self.inside.journal ≡ c.args.self.now.history = ap (λ (b : BookState). b.history) c.self.view_is in
-    let held = history-records _ _ _ _ _ c.args.self.now.history c.self.invariant told in
+    let held = history-records _ _ _ _ _ c.args.self.now.history c.self.invariant.0 told in
+    let history = c.args.self.now.history in
+    let kept = subst (IsKept (g.K.Keeper.tells c.self.inside.keeper) (g.K.Keeper.may_leave c.self.inside.keeper)) told c.self.invariant.1 in
+    let next : c.in-Ok-push.number.0 ≡ accepted history + 1 =
+    omega (arith, c.in-Ok-push.ensures.number, ap length c.in-Ok-push.ensures.kept, length-append c.self.inside.journal (c.args.item ∷ []), ap length held) in
+    subst (λ (ts : Tables). Follows ts c.in-Ok-push.number) (sym (kept.told t tells))
+    (subst (λ (n : ℕ). Follows (tables_of history) (record { 0 = n })) (sym next) (Follows-next history))
+
+pub invariant_of-self-in-Err-append : goal.invariant_of-self-in-Err-append
+invariant_of-self-in-Err-append g c =
+    let told : deeds c.self.inside.events.items c.self.inside.journal ≡ c.args.self.now.history = ap (λ (b : BookState). b.history) c.self.view_is in
+    let held = history-records _ _ _ _ _ c.args.self.now.history c.self.invariant.0 told in
     let none : fault c.self.inside.journal c.args.item ≡ None = subst (λ (records : List Record). fault records c.args.item ≡ None) held c.in-Ok.ensures.sound in
-    let new : c.as_slice.result.now ≡ entries c.self.inside.journal c.args.item = c.as_slice.ensures ∙ c.in-Ok.ensures.entries ∙ ap (λ (records : List Record). entries records c.args.item) held in
-    let line : c.reserve-2.new.self.entries ≡ posting_line c.self.inside.journal = c.reserve-2.ensures.unchanged ∙ c.self.invariant.posted in
-    entries-own_places c.self.inside.journal c.args.item c.reserve-2.new.self.entries c.as_slice.result.now line new
+    let history = c.args.self.now.history in
+    let kept = subst (IsKept (g.K.Keeper.tells c.self.inside.keeper) (g.K.Keeper.may_leave c.self.inside.keeper)) told c.self.invariant.1 in
+    let legal = subst IsLegal told c.self.invariant.0.legal in
+    let next : c.in-Ok-push.number.0 ≡ accepted history + 1 =
+    omega (arith, c.in-Ok-push.ensures.number, ap length c.in-Ok-push.ensures.kept, length-append c.self.inside.journal (c.args.item ∷ []), ap length held) in
+    let text : c.as_slice.result.now ≡ record_text c.args.item = c.as_slice.ensures ∙ c.in-Ok-record_text.ensures.text in
+    let journal : c.pop.new.self ≡ c.self.inside.journal =
+    c.pop.ensures ∙ ap (λ (rs : List Record). take (length rs - 1) rs) c.in-Ok-push.ensures.kept ∙ popped c.self.inside.journal c.args.item in
+    let now = kept-unappended history (g.K.Keeper.tells c.self.inside.keeper) (g.K.Keeper.may_leave c.self.inside.keeper)
+        (g.K.Keeper.tells c.append.new.self) (g.K.Keeper.may_leave c.append.new.self) kept c.in-Ok-push.number c.args.item c.as_slice.result.now
+        next text legal (legal-kept history c.args.item legal c.in-Ok.ensures.sound) c.in-Err-append.ensures.tables_kept c.in-Err-append.ensures.crash in
+    rw (c.reserve.ensures.items, journal, c.reserve-2.ensures.unchanged) (
+      c.self.invariant.0,
+      subst (IsKept (g.K.Keeper.tells c.append.new.self) (g.K.Keeper.may_leave c.append.new.self)) (sym told) now,
+      c.self.invariant.2,
+    )
+
+pub returns-in-Err-append-clause-fault : goal.returns-in-Err-append-clause-fault
+returns-in-Err-append-clause-fault g c =
+    subst (IsRefusalOf (records c.args.self.now.history) c.args.item) (sym c.refusal_of.ensures)
+    (refused-by (records c.args.self.now.history) c.args.item c.in-Err-append.fault c.in-Ok.ensures.sound)
+
+pub add-requires-clause-apart : goal.add-requires-clause-apart
+add-requires-clause-apart g c =
+    let told : deeds c.self.inside.events.items c.self.inside.journal ≡ c.args.self.now.history = ap (λ (b : BookState). b.history) c.self.view_is in
+    let held = history-records _ _ _ _ _ c.args.self.now.history c.self.invariant.0 told in
+    let none : fault c.self.inside.journal c.args.item ≡ None = subst (λ (records : List Record). fault records c.args.item ≡ None) held c.in-Ok.ensures.sound in
+    let new : c.as_slice-2.result.now ≡ entries c.self.inside.journal c.args.item = c.as_slice-2.ensures ∙ c.in-Ok.ensures.entries ∙ ap (λ (records : List Record). entries records c.args.item) held in
+    let line : c.reserve-2.new.self.entries ≡ posting_line c.self.inside.journal = c.reserve-2.ensures.unchanged ∙ c.self.invariant.0.posted in
+    entries-own_places c.self.inside.journal c.args.item c.reserve-2.new.self.entries c.as_slice-2.result.now line new
 
 pub add-requires-clause-few : goal.add-requires-clause-few
-add-requires-clause-few c =
+add-requires-clause-few g c =
     let told : deeds c.self.inside.events.items c.self.inside.journal ≡ c.args.self.now.history = ap (λ (b : BookState). b.history) c.self.view_is in
-    let held = history-records _ _ _ _ _ c.args.self.now.history c.self.invariant told in
+    let held = history-records _ _ _ _ _ c.args.self.now.history c.self.invariant.0 told in
     let none : fault c.self.inside.journal c.args.item ≡ None = subst (λ (records : List Record). fault records c.args.item ≡ None) held c.in-Ok.ensures.sound in
-    let new : c.as_slice.result.now ≡ entries c.self.inside.journal c.args.item = c.as_slice.ensures ∙ c.in-Ok.ensures.entries ∙ ap (λ (records : List Record). entries records c.args.item) held in
-    let line : c.reserve-2.new.self.entries ≡ posting_line c.self.inside.journal = c.reserve-2.ensures.unchanged ∙ c.self.invariant.posted in
+    let new : c.as_slice-2.result.now ≡ entries c.self.inside.journal c.args.item = c.as_slice-2.ensures ∙ c.in-Ok.ensures.entries ∙ ap (λ (records : List Record). entries records c.args.item) held in
+    let line : c.reserve-2.new.self.entries ≡ posting_line c.self.inside.journal = c.reserve-2.ensures.unchanged ∙ c.self.invariant.0.posted in
     omega (arith, (NoFault-from c.self.inside.journal c.args.item none).few, ap length line, length-posting_line c.self.inside.journal, ap length new)
 
 pub add-requires-clause-enough : goal.add-requires-clause-enough
-add-requires-clause-enough c =
+add-requires-clause-enough g c =
     let told : deeds c.self.inside.events.items c.self.inside.journal ≡ c.args.self.now.history = ap (λ (b : BookState). b.history) c.self.view_is in
-    let held = history-records _ _ _ _ _ c.args.self.now.history c.self.invariant told in
+    let held = history-records _ _ _ _ _ c.args.self.now.history c.self.invariant.0 told in
     let none : fault c.self.inside.journal c.args.item ≡ None = subst (λ (records : List Record). fault records c.args.item ≡ None) held c.in-Ok.ensures.sound in
-    let new : c.as_slice.result.now ≡ entries c.self.inside.journal c.args.item = c.as_slice.ensures ∙ c.in-Ok.ensures.entries ∙ ap (λ (records : List Record). entries records c.args.item) held in
-    let line : c.reserve-2.new.self.entries ≡ posting_line c.self.inside.journal = c.reserve-2.ensures.unchanged ∙ c.self.invariant.posted in
-    entries-enough c.self.inside.journal c.args.item c.reserve-2.new.self.entries c.as_slice.result.now line new none
+    let new : c.as_slice-2.result.now ≡ entries c.self.inside.journal c.args.item = c.as_slice-2.ensures ∙ c.in-Ok.ensures.entries ∙ ap (λ (records : List Record). entries records c.args.item) held in
+    let line : c.reserve-2.new.self.entries ≡ posting_line c.self.inside.journal = c.reserve-2.ensures.unchanged ∙ c.self.invariant.0.posted in
+    entries-enough c.self.inside.journal c.args.item c.reserve-2.new.self.entries c.as_slice-2.result.now line new none
 
 pub invariant_of-self-2 : goal.invariant_of-self-2
-invariant_of-self-2 c =
+invariant_of-self-2 g c =
     let told : deeds c.self.inside.events.items c.self.inside.journal ≡ c.args.self.now.history = ap (λ (b : BookState). b.history) c.self.view_is in
-    let held = history-records _ _ _ _ _ c.args.self.now.history c.self.invariant told in
+    let held = history-records _ _ _ _ _ c.args.self.now.history c.self.invariant.0 told in
     let none : fault c.self.inside.journal c.args.item ≡ None = subst (λ (records : List Record). fault records c.args.item ≡ None) held c.in-Ok.ensures.sound in
-    let new : c.as_slice.result.now ≡ entries c.self.inside.journal c.args.item = c.as_slice.ensures ∙ c.in-Ok.ensures.entries ∙ ap (λ (records : List Record). entries records c.args.item) held in
-    let line : c.reserve-2.new.self.entries ≡ posting_line c.self.inside.journal = c.reserve-2.ensures.unchanged ∙ c.self.invariant.posted in
+    let new : c.as_slice-2.result.now ≡ entries c.self.inside.journal c.args.item = c.as_slice-2.ensures ∙ c.in-Ok.ensures.entries ∙ ap (λ (records : List Record). entries records c.args.item) held in
+    let line : c.reserve-2.new.self.entries ≡ posting_line c.self.inside.journal = c.reserve-2.ensures.unchanged ∙ c.self.invariant.0.posted in
+    let history = c.args.self.now.history in
+    let kept = subst (IsKept (g.K.Keeper.tells c.self.inside.keeper) (g.K.Keeper.may_leave c.self.inside.keeper)) told c.self.invariant.1 in
+    let legal = subst IsLegal told c.self.invariant.0.legal in
+    let next : c.in-Ok-push.number.0 ≡ accepted history + 1 =
+    omega (arith, c.in-Ok-push.ensures.number, ap length c.in-Ok-push.ensures.kept, length-append c.self.inside.journal (c.args.item ∷ []), ap length held) in
+    let text : c.as_slice.result.now ≡ record_text c.args.item = c.as_slice.ensures ∙ c.in-Ok-record_text.ensures.text in
     let events = c.push_reserved.ensures.items ∙ ap (λ (es : List Event). es ++ Kept ∷ []) c.reserve.ensures.items in
     let journal = c.in-Ok-push.ensures.kept in
-    let all = c.add.ensures.added ∙ put_all-entries c.self.inside.journal c.args.item c.reserve-2.new.self.entries c.as_slice.result.now line new in
-    rw (events, journal)
-    (IsBook-kept c.self.inside.events.items c.self.inside.journal c.self.inside.movements.entries c.self.inside.covered.0 c.self.inside.rows c.args.item c.add.new.self.entries c.self.invariant none all)
+    let all = c.add.ensures.added ∙ put_all-entries c.self.inside.journal c.args.item c.reserve-2.new.self.entries c.as_slice-2.result.now line new in
+    let now = kept-appended history (g.K.Keeper.tells c.self.inside.keeper) (g.K.Keeper.may_leave c.self.inside.keeper)
+        (g.K.Keeper.tells c.append.new.self) (g.K.Keeper.may_leave c.append.new.self) kept c.in-Ok-push.number c.args.item c.as_slice.result.now
+        next text legal c.in_default-append.ensures.made c.in_default-append.ensures.durable in
+    let longer = ap (λ (h : List Deed). h ++ deed.Kept c.args.item ∷ []) told in
+    rw (events, journal) (
+      IsBook-kept c.self.inside.events.items c.self.inside.journal c.self.inside.movements.entries c.self.inside.covered.0 c.self.inside.rows c.args.item c.add.new.self.entries c.self.invariant.0 none all,
+      subst (IsKept (g.K.Keeper.tells c.append.new.self) (g.K.Keeper.may_leave c.append.new.self))
+      (sym (deeds-kept c.self.inside.events.items c.self.inside.journal c.args.item c.self.invariant.0.counted ∙ longer)) now,
+      omega (arith, c.self.invariant.2, length-append c.self.inside.events.items (Kept ∷ [])),
+    )
 
 pub returns-clause-kept : goal.returns-clause-kept
-returns-clause-kept c =
+returns-clause-kept g c =
     let told : deeds c.self.inside.events.items c.self.inside.journal ≡ c.args.self.now.history = ap (λ (b : BookState). b.history) c.self.view_is in
     let events = c.push_reserved.ensures.items ∙ ap (λ (es : List Event). es ++ Kept ∷ []) c.reserve.ensures.items in
     let journal = c.in-Ok-push.ensures.kept in
-    rw (events, journal, ← told) (deeds-kept c.self.inside.events.items c.self.inside.journal c.args.item c.self.invariant.counted)
+    rw (events, journal, ← told) (deeds-kept c.self.inside.events.items c.self.inside.journal c.args.item c.self.invariant.0.counted)
 
 pub returns-clause-number : goal.returns-clause-number
-returns-clause-number c =
+returns-clause-number g c =
     let told : deeds c.self.inside.events.items c.self.inside.journal ≡ c.args.self.now.history = ap (λ (b : BookState). b.history) c.self.view_is in
     let events = c.push_reserved.ensures.items ∙ ap (λ (es : List Event). es ++ Kept ∷ []) c.reserve.ensures.items in
     let journal = c.in-Ok-push.ensures.kept in
-    c.in-Ok-push.ensures.number ∙ rw (events, journal, deeds-kept c.self.inside.events.items c.self.inside.journal c.args.item c.self.invariant.counted, records-append) (omega (arith, length-append c.self.inside.journal (c.args.item ∷ []), length-append (history.records (deeds c.self.inside.events.items c.self.inside.journal)) (c.args.item ∷ []), ap length (records-deeds c.self.inside.events.items c.self.inside.journal c.self.invariant.counted)))
+    c.in-Ok-push.ensures.number ∙ rw (events, journal, deeds-kept c.self.inside.events.items c.self.inside.journal c.args.item c.self.invariant.0.counted, records-append) (omega (arith, length-append c.self.inside.journal (c.args.item ∷ []), length-append (records (deeds c.self.inside.events.items c.self.inside.journal)) (c.args.item ∷ []), ap length (records-deeds c.self.inside.events.items c.self.inside.journal c.self.invariant.0.counted)))
 
 pub returns-clause-legal : goal.returns-clause-legal
-returns-clause-legal c = (invariant_of-self-2 c).legal
-
-pub returns-then-is_err-clause-fault : goal.returns-then-is_err-clause-fault
-returns-then-is_err-clause-fault c = inl (refl, at_once-none _ c.args.item c.in-Ok.ensures.sound)
-
-pub returns-then-is_err-2-clause-fault : goal.returns-then-is_err-2-clause-fault
-returns-then-is_err-2-clause-fault c = inl (refl, at_once-none _ c.args.item c.in-Ok.ensures.sound)
-
-pub returns-in_default-clause-fault : goal.returns-in_default-clause-fault
-returns-in_default-clause-fault c = inl (refl, at_once-none _ c.args.item c.in-Ok.ensures.sound)
+returns-clause-legal g c = (invariant_of-self-2 g c).0.legal

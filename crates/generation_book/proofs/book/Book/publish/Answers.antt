@@ -1,33 +1,70 @@
--- The rows that changed are put among those of the generation, and the publication is told.
-use Rattle.std.proofs.Common.{◌≡◌, List, [], ◌∷◌, ◌++◌, refl, ap, ◌∙◌, arith}
+-- What changed is put among the rows, and the keeper has it last.
+use Rattle.std.proofs.Common.{◌≡◌, List, [], ◌∷◌, ◌++◌, length-append, ap, ◌∙◌, sym, subst, refl, arith}
 use Rattle.stock_nums.specs.declared.entry.Row.{Row}
+use Rattle.stock_keeper.specs.Changed.{CoversRecords}
+use Rattle.stock_keeper.specs.declared.tables.Tables.{Tables}
+use Rattle.stock_model.specs.History as history
+use Rattle.stock_model.specs.declared.deeds.Deed.{Deed}
+use Rattle.stock_model.specs.declared.deeds.Deed.TheVariants as deed
+use Rattle.kept_tables.specs.Kept.{IsKept}
+use Rattle.kept_tables.proofs.KeptRecords.{CoversRecords-accepted}
 use Rattle.generation_book.specs.State.{BookState}
 use Rattle.generation_book.specs.Book.{deeds}
 use Rattle.generation_book.specs.Merged.{merged}
 use Rattle.generation_book.specs.declared.events.Event.{Event}
 use Rattle.generation_book.specs.declared.events.Event.TheVariants.{Published}
-use Rattle.generation_book.proofs.Books.{history-records, history-accepted, history-covered, IsBook-changed, deeds-published}
+use Rattle.generation_book.proofs.Books.{history-records, history-accepted, history-covered, IsBook-changed, deeds-published, legal-published}
+use Rattle.generation_book.proofs.KeptBooks.{kept-published, kept-unpublished}
 use Rattle.generation_book.proofs.book.Book.publish.Goals as goal
 
-pub invariant_of-self-2 : goal.invariant_of-self-2
-invariant_of-self-2 c =
+pub publish-requires-clause-within : goal.publish-requires-clause-within
+publish-requires-clause-within g c t tells =
     let told : deeds c.self.inside.events.items c.self.inside.journal ≡ c.args.self.now.history = ap (λ (b : BookState). b.history) c.self.view_is in
-    let held = history-records _ _ _ _ _ c.args.self.now.history c.self.invariant told in
-    let all = history-accepted _ _ _ _ _ c.args.self.now.history c.self.invariant told in
-    let covers = history-covered _ _ _ _ _ c.args.self.now.history c.self.invariant told in
-    let events = c.push_reserved.ensures.items ∙ ap (λ (es : List Event). es ++ Published c.args.n ∷ []) c.in_ok-reserve.ensures.items in
+    let kept = subst (IsKept (g.K.Keeper.tells c.self.inside.keeper) (g.K.Keeper.may_leave c.self.inside.keeper)) told c.self.invariant.1 in
+    subst (λ (ts : Tables). CoversRecords ts c.args.n) (sym (kept.told t tells)) (CoversRecords-accepted c.args.self.now.history c.args.n c.requires.within)
+
+pub invariant_of-self-in_err-publish : goal.invariant_of-self-in_err-publish
+invariant_of-self-in_err-publish g c =
+    let told : deeds c.self.inside.events.items c.self.inside.journal ≡ c.args.self.now.history = ap (λ (b : BookState). b.history) c.self.view_is in
+    let kept = subst (IsKept (g.K.Keeper.tells c.self.inside.keeper) (g.K.Keeper.may_leave c.self.inside.keeper)) told c.self.invariant.1 in
+    let legal = subst history.IsLegal told c.self.invariant.0.legal in
+    let more = legal-published c.args.self.now.history c.args.n legal c.requires.later c.requires.within in
+    let now = kept-unpublished c.args.self.now.history (g.K.Keeper.tells c.self.inside.keeper) (g.K.Keeper.may_leave c.self.inside.keeper)
+        (g.K.Keeper.tells c.publish.new.self) (g.K.Keeper.may_leave c.publish.new.self) kept c.args.n c.args.changed.now
+        c.in_ok-changes.changes c.in_ok-changes.ensures c.requires.later c.requires.changed more c.in_err-publish.ensures.tables_kept
+        c.in_err-publish.ensures.crash in
+    rw c.reserve.ensures.items
+    (c.self.invariant.0, subst (IsKept (g.K.Keeper.tells c.publish.new.self) (g.K.Keeper.may_leave c.publish.new.self)) (sym told) now, c.self.invariant.2)
+
+pub invariant_of-self-2 : goal.invariant_of-self-2
+invariant_of-self-2 g c =
+    let told : deeds c.self.inside.events.items c.self.inside.journal ≡ c.args.self.now.history = ap (λ (b : BookState). b.history) c.self.view_is in
+    let held = history-records _ _ _ _ _ c.args.self.now.history c.self.invariant.0 told in
+    let all = history-accepted _ _ _ _ _ c.args.self.now.history c.self.invariant.0 told in
+    let covers = history-covered _ _ _ _ _ c.args.self.now.history c.self.invariant.0 told in
+    let kept = subst (IsKept (g.K.Keeper.tells c.self.inside.keeper) (g.K.Keeper.may_leave c.self.inside.keeper)) told c.self.invariant.1 in
+    let events = c.push_reserved.ensures.items ∙ ap (λ (es : List Event). es ++ Published c.args.n ∷ []) c.reserve.ensures.items in
     let rows : c.in_ok-renewed.renewed ≡ merged c.self.inside.rows c.args.changed.now =
     c.in_ok-renewed.ensures ∙ ap (λ (old : List Row). merged old c.args.changed.now) c.as_slice.ensures in
     let changed = rw (held, covers) at c.requires.changed in
-    rw (events, rows)
-    (IsBook-changed c.self.inside.events.items c.self.inside.journal c.self.inside.movements.entries c.self.inside.covered.0 c.self.inside.rows c.args.n c.args.changed.now c.self.invariant
-    (omega (arith, all, c.requires.within)) (omega (arith, covers, c.requires.later)) changed)
+    let now = kept-published c.args.self.now.history (g.K.Keeper.tells c.self.inside.keeper) (g.K.Keeper.may_leave c.self.inside.keeper)
+        (g.K.Keeper.tells c.publish.new.self) (g.K.Keeper.may_leave c.publish.new.self) kept c.args.n c.args.changed.now
+        c.in_ok-changes.changes c.in_ok-changes.ensures c.requires.later c.requires.changed c.in_ok-publish.ensures.made
+        c.in_ok-publish.ensures.durable in
+    let longer = ap (λ (h : List Deed). h ++ deed.Published c.args.n ∷ []) told in
+    rw (events, rows) (
+      IsBook-changed c.self.inside.events.items c.self.inside.journal c.self.inside.movements.entries c.self.inside.covered.0 c.self.inside.rows c.args.n c.args.changed.now c.self.invariant.0
+      (omega (arith, all, c.requires.within)) (omega (arith, covers, c.requires.later)) changed,
+      subst (IsKept (g.K.Keeper.tells c.publish.new.self) (g.K.Keeper.may_leave c.publish.new.self))
+      (sym (deeds-published c.self.inside.events.items c.self.inside.journal c.args.n c.self.invariant.0.counted ∙ longer)) now,
+      omega (arith, c.self.invariant.2, length-append c.self.inside.events.items (Published c.args.n ∷ [])),
+    )
 
 pub returns-clause-published : goal.returns-clause-published
-returns-clause-published c =
+returns-clause-published g c =
     let told : deeds c.self.inside.events.items c.self.inside.journal ≡ c.args.self.now.history = ap (λ (b : BookState). b.history) c.self.view_is in
-    let events = c.push_reserved.ensures.items ∙ ap (λ (es : List Event). es ++ Published c.args.n ∷ []) c.in_ok-reserve.ensures.items in
-    rw (events, deeds-published c.self.inside.events.items c.self.inside.journal c.args.n c.self.invariant.counted, told) refl
+    let events = c.push_reserved.ensures.items ∙ ap (λ (es : List Event). es ++ Published c.args.n ∷ []) c.reserve.ensures.items in
+    rw (events, deeds-published c.self.inside.events.items c.self.inside.journal c.args.n c.self.invariant.0.counted, told) refl
 
 pub returns-clause-legal : goal.returns-clause-legal
-returns-clause-legal c = (invariant_of-self-2 c).legal
+returns-clause-legal g c = (invariant_of-self-2 g c).0.legal

@@ -33,13 +33,13 @@ AreChanges-all journal n changed is =
     }
 
 pub rows_of-requires-clause-legal : goal.rows_of-requires-clause-legal
-rows_of-requires-clause-legal c = subst AreLegal (sym c.records.ensures.records) (IsBook-legal _ _ _ _ _ c.book.invariant)
+rows_of-requires-clause-legal c = subst AreLegal (sym c.records.ensures.records) (IsBook-legal _ _ _ _ _ c.book.invariant.0)
 
 pub publish-requires-clause-changed : goal.publish-requires-clause-changed
 publish-requires-clause-changed c =
     let told : deeds c.book.inside.events.items c.book.inside.journal ≡ c.args.book.now.history = ap (λ (b : BookState). b.history) c.book.view_is in
     let records : List Record = history.records c.args.book.now.history in
-    let held = history-records _ _ _ _ _ c.args.book.now.history c.book.invariant told in
+    let held = history-records _ _ _ _ _ c.args.book.now.history c.book.invariant.0 told in
     let all : take c.accepted-accepted.result.0 records ≡ records = take_all c.accepted-accepted.result.0 records (omega (arith, c.accepted-accepted.ensures.accepted)) in
     AreChanges-all (take c.accepted-accepted.result.0 records) (history.covered c.args.book.now.history) c.as_slice-2.result.now
     (c.as_slice-2.ensures ∙ c.in_ok-rows.ensures.rows ∙ ap replay (c.records.ensures.records ∙ sym held ∙ sym all))

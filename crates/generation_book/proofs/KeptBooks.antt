@@ -1,0 +1,46 @@
+-- The keeper of a book after an append or a publication, whether it was done or refused.
+use Rattle.std.proofs.Common.{◌≡◌, ◌<◌, ◌+◌, ℕ, List, [], ◌∷◌, ◌++◌, ap, ◌∙◌, take}
+use Rattle.stock_nums.specs.declared.entry.Row.{Row}
+use Rattle.stock_nums.specs.declared.numbers.RecordNo.{RecordNo}
+use Rattle.stock_model.specs.History.{records, accepted, covered, IsLegal}
+use Rattle.stock_model.specs.declared.deeds.Deed.{Deed}
+use Rattle.stock_model.specs.declared.deeds.Deed.TheVariants.{Kept, Published}
+use Rattle.stock_model.specs.declared.records.Record.{Record}
+use Rattle.stock_keeper.specs.Changed.{appended, published}
+use Rattle.stock_keeper.specs.Keeping.{Within, Makes, MayMake}
+use Rattle.stock_keeper.specs.declared.changes.Changes.{Changes}
+use Rattle.stock_keeper.specs.declared.tables.Tables.{Tables}
+use Rattle.repost_fetch.specs.Changes.{AreChanges}
+use Rattle.voucher_json.specs.RecordTexts.{record_text}
+use Rattle.kept_tables.specs.Kept.{IsKept}
+use Rattle.kept_tables.specs.TablesOf.{tables_of, changes_of}
+use Rattle.kept_tables.proofs.Keeping.{IsKept-done, IsKept-refused}
+use Rattle.kept_tables.proofs.KeptRecords.{tables_of-kept}
+use Rattle.kept_tables.proofs.Revalued.{tables_of-published}
+
+module _ (history : List Deed) (tells may_leave tells' may_leave' : Tables → Type 0) (kept : IsKept tells may_leave history) where
+  module _ (n : RecordNo) (changed : List Row) (changes : Changes) (is : changes ≡ changes_of changed) (more : covered history < n.0)
+      (are : AreChanges (take n.0 (records history)) (covered history) changed) where
+    published-is : published n changes (tables_of history) ≡ tables_of (history ++ Published n ∷ [])
+    published-is = ap (λ (c : Changes). published n c (tables_of history)) is ∙ tables_of-published history n changed more are
+
+    pub kept-published : Makes (published n changes) tells tells' → Within tells' may_leave' → IsKept tells' may_leave' (history ++ Published n ∷ [])
+    kept-published = IsKept-done history (Published n) (published n changes) published-is tells may_leave kept tells' may_leave'
+
+    pub kept-unpublished : IsLegal (history ++ Published n ∷ []) → Within tells tells'
+        → MayMake (published n changes) tells may_leave may_leave' → IsKept tells' may_leave' history
+    kept-unpublished = IsKept-refused history (Published n) (published n changes) published-is tells may_leave kept tells' may_leave'
+
+  module _ (n : RecordNo) (item : Record) (text : List ℕ) (next : n.0 ≡ accepted history + 1) (is : text ≡ record_text item)
+      (legal : IsLegal history) where
+    appended-is : appended n text (tables_of history) ≡ tables_of (history ++ Kept item ∷ [])
+    appended-is =
+        ap (λ (m : ℕ). appended (record { 0 = m }) text (tables_of history)) next
+        ∙ ap (λ (body : List ℕ). appended (record { 0 = accepted history + 1 }) body (tables_of history)) is ∙ tables_of-kept history item legal
+
+    pub kept-appended : Makes (appended n text) tells tells' → Within tells' may_leave' → IsKept tells' may_leave' (history ++ Kept item ∷ [])
+    kept-appended = IsKept-done history (Kept item) (appended n text) appended-is tells may_leave kept tells' may_leave'
+
+    pub kept-unappended : IsLegal (history ++ Kept item ∷ []) → Within tells tells' → MayMake (appended n text) tells may_leave may_leave'
+        → IsKept tells' may_leave' history
+    kept-unappended = IsKept-refused history (Kept item) (appended n text) appended-is tells may_leave kept tells' may_leave'

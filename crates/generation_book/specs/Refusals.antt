@@ -1,0 +1,26 @@
+-- Why a book refuses a record, and what a refusal leaves of its keeper.
+use Rattle.std.specs.Prelude.{◌≡◌, List, Some, None}
+use Rattle.stock_model.specs.Faults.{fault, fault_but_short}
+use Rattle.stock_model.specs.declared.faults.PostFault.{PostFault}
+use Rattle.stock_model.specs.declared.faults.PostFault.TheVariants as post_fault
+use Rattle.stock_model.specs.declared.records.Record.{Record}
+use Rattle.stock_keeper.specs.Calls.{KeeperState, IsRefused}
+use Rattle.stock_keeper.specs.declared.fault.KeepFault.{KeepFault}
+use Rattle.stock_keeper.specs.declared.fault.KeepFault.TheVariants.{Failed, NoMemory}
+
+-- why a post is refused that the keeper refused
+abbrev pub refusal_of : KeepFault → PostFault
+refusal_of Failed = post_fault.KeeperFailed
+refusal_of NoMemory = post_fault.NoMemory
+
+-- the keeper failed, or memory was wanting, for a record without a fault, or but a shortage; or it is the record's first fault
+abbrev pub IsRefusalOf : List Record → Record → PostFault → Type 0
+IsRefusalOf journal item post_fault.KeeperFailed = fault journal item ≡ None
+IsRefusalOf journal item post_fault.NoMemory = fault_but_short journal item ≡ None
+IsRefusalOf journal item f = fault journal item ≡ Some f
+
+-- the keeper was called and refused it, perhaps, or was not called
+abbrev pub IsAfterRefusal : PostFault → KeeperState → KeeperState → Type 0
+IsAfterRefusal post_fault.KeeperFailed old new = IsRefused Failed old new
+IsAfterRefusal post_fault.NoMemory old new = IsRefused NoMemory old new
+IsAfterRefusal f old new = new ≡ old
