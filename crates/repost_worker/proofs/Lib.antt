@@ -1,7 +1,9 @@
 pub mod FreshTurns
+pub mod OpenedBooks
 pub mod Paces
 pub mod RunLaws
 pub mod Running
+pub mod StoredPosts
 pub mod TurnsAhead
 pub mod Working
 pub mod Works

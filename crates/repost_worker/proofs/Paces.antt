@@ -1,7 +1,8 @@
 -- How the count of turns grows, and what it stays below.
 use Rattle.std.proofs.Common.{◌≡◌, ◌≢◌, ℕ, ◌+◌, ◌*◌, ◌<◌, ◌≤◌, List, [], ◌∷◌, length, Option, Some, None, IfSome, inl, inr, refl, sym, ap, ◌∙◌, subst, length-append, arith}
 use Rattle.std.proofs.Math.Nat.{mul-le-mul_left, mul_comm}
-use Rattle.stock_nums.specs.declared.memory.NoMemory.{NoMemory}
+use Rattle.stock_keeper.specs.declared.fault.KeepFault.{KeepFault}
+use Rattle.generation_book.specs.State.{BookState}
 use Rattle.stock_model.specs.History.{records, accepted, covered}
 use Rattle.stock_model.specs.PostingOrder.{posting_line}
 use Rattle.stock_model.specs.declared.deeds.Deed.{Deed}
@@ -80,39 +81,39 @@ few-counted history build work =
     )
 
 -- a build that works on a book is in pace
-pub in_pace-work : (history : List Deed) (build : Build) → IsWorkOf history build → IsInPace (pace_of history build)
-in_pace-work history build work =
+pub in_pace-work : (book : BookState) (build : Build) → IsWorkOf book.history build → IsInPace (pace_of book build)
+in_pace-work book build work =
     record {
       covered = omega (arith, work.base, work.of.fetched);
       known = work.within;
-      few = few-counted history build work;
+      few = few-counted book.history build work;
     }
 
 -- and a run of so many turns keeps the pace
-pub in_pace-run : (limit : ℕ) (history history' : List Deed) (build build' : Build) (steps steps' : ℕ) → IsWorkOf history build
-    → IsRun (Some limit) None history build steps history' build' steps'
-    → WorksInPace (pace_of history build) limit (pace_of history' build')
-in_pace-run limit history history' build build' steps steps' work run =
+pub in_pace-run : (limit : ℕ) (book book' : BookState) (build build' : Build) (steps steps' : ℕ) → IsWorkOf book.history build
+    → IsRun (Some limit) None book.history build steps book'.history build' steps'
+    → WorksInPace (pace_of book build) limit (pace_of book' build')
+in_pace-run limit book book' build build' steps steps' work run =
     record {
-      covers = covered-many limit history history' build build' steps steps' work run;
+      covers = covered-many limit book.history book'.history build build' steps steps' work run;
       waits =
           λ more same.
-          counted-run limit history build build' steps steps' more
-          (subst (λ (h : List Deed). IsRun (Some limit) None history build steps h build' steps') same run);
+          counted-run limit book.history build build' steps steps' more
+          (subst (λ (h : List Deed). IsRun (Some limit) None book.history build steps h build' steps') same run);
       fresh =
           λ more.
           omega (
             arith,
-            fresh-turns run.turns history build history' run.last (omega (arith, work.base, work.of.fetched)) run.run more,
+            fresh-turns run.turns book.history build book'.history run.last (omega (arith, work.base, work.of.fetched)) run.run more,
             run.within,
           );
     }
 
 -- so it does whatever the limit is said to be
-pub in_pace-limit : (limit : Option ℕ) (stopped : Option NoMemory) (history history' : List Deed) (build build' : Build) (steps steps' : ℕ)
-    → IsWorkOf history build → IsRun limit stopped history build steps history' build' steps'
-    → IfSome limit (λ n. stopped ≡ None → WorksInPace (pace_of history build) n (pace_of history' build'))
-in_pace-limit None stopped history history' build build' steps steps' work run = tt
-in_pace-limit (Some limit) stopped history history' build build' steps steps' work run = λ none.
-    in_pace-run limit history history' build build' steps steps' work
-    (subst (λ (s : Option NoMemory). IsRun (Some limit) s history build steps history' build' steps') none run)
+pub in_pace-limit : (limit : Option ℕ) (stopped : Option KeepFault) (book book' : BookState) (build build' : Build) (steps steps' : ℕ)
+    → IsWorkOf book.history build → IsRun limit stopped book.history build steps book'.history build' steps'
+    → IfSome limit (λ n. stopped ≡ None → WorksInPace (pace_of book build) n (pace_of book' build'))
+in_pace-limit None stopped book book' build build' steps steps' work run = tt
+in_pace-limit (Some limit) stopped book book' build build' steps steps' work run = λ none.
+    in_pace-run limit book book' build build' steps steps' work
+    (subst (λ (s : Option KeepFault). IsRun (Some limit) s book.history build steps book'.history build' steps') none run)

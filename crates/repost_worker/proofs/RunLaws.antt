@@ -1,6 +1,6 @@
 -- What holds of a run, whatever it was made of.
 use Rattle.std.proofs.Common.{◌≡◌, ℕ, ◌+◌, ◌*◌, ◌≤◌, List, [], ◌∷◌, ◌++◌, length, Option, Some, None, inl, inr, refl, sym, ap, ◌∙◌, subst, length-append, arith}
-use Rattle.stock_nums.specs.declared.memory.NoMemory.{NoMemory}
+use Rattle.stock_keeper.specs.declared.fault.KeepFault.{KeepFault}
 use Rattle.stock_model.specs.History.{records, accepted, covered}
 use Rattle.stock_model.specs.PostingOrder.{posting_line}
 use Rattle.stock_model.specs.declared.deeds.Deed.{Deed}
@@ -64,7 +64,7 @@ few-at_work turns history build history' build' work run at_work =
     let fewer = turns_ahead-run turns history build history' build' (between-work history build work) run at_work in
     omega (arith, fewer.1, turns_ahead-most history build)
 
-few-until : (stopped : Option NoMemory) (limit : Option ℕ) (turns : List Turned) (history : List Deed) (build : Build)
+few-until : (stopped : Option KeepFault) (limit : Option ℕ) (turns : List Turned) (history : List Deed) (build : Build)
     (history' : List Deed) (build' : Build) → IsWorkOf history build → AreTurnsTo turns history build history' build'
     → AreAllUntil stopped limit turns → length turns ≤ 2 * length (posting_line (records history)) + 4
 few-until None limit turns history build history' build' work run (inl idle) =
@@ -77,7 +77,7 @@ few-until None limit turns history build history' build' work run (inr full) =
 few-until (Some refusal) limit turns history build history' build' work run refused =
     omega (arith, few-at_work turns history build history' build' work run refused.at_work)
 
-module _ (limit : Option ℕ) (stopped : Option NoMemory) (history history' : List Deed) (build build' : Build) (steps steps' : ℕ)
+module _ (limit : Option ℕ) (stopped : Option KeepFault) (history history' : List Deed) (build build' : Build) (steps steps' : ℕ)
     (run : IsRun limit stopped history build steps history' build' steps') where
   pub records-run : records history' ≡ records history
   records-run = records-turns run.turns history build history' run.last run.run

@@ -1,5 +1,5 @@
 -- What turns add to a history are publications, and it stays legal.
-use Rattle.std.proofs.Common.{◌≡◌, ◌<◌, ◌≤◌, List, [], ◌∷◌, ◌++◌, length, Result, Ok, Err, OnOk, OnErr, sym, ap, ◌∙◌, subst, append-nil, append_assoc, arith}
+use Rattle.std.proofs.Common.{◌≡◌, ◌<◌, ◌≤◌, List, [], ◌∷◌, ◌++◌, length, Result, Ok, Err, OnOk, OnErr, Some, None, refl, sym, ap, ◌∙◌, subst, append-nil, append_assoc, arith}
 use Rattle.stock_nums.specs.declared.numbers.RecordNo.{RecordNo}
 use Rattle.generation_book.specs.State.{BookState}
 use Rattle.stock_model.specs.declared.faults.PostFault.{PostFault}
@@ -9,51 +9,82 @@ use Rattle.stock_model.specs.declared.deeds.Deed.{Deed}
 use Rattle.stock_model.specs.declared.deeds.Deed.TheVariants as deed
 use Rattle.stock_model.specs.declared.records.Record.{Record}
 use Rattle.stock_laws.proofs.Histories.{IsLegalAfter-append}
+use Rattle.stock_keeper.specs.Calls.{KeeperState, IsRefused, AreDone}
+use Rattle.stock_keeper.specs.declared.fault.KeepFault.{KeepFault}
+use Rattle.stock_keeper.proofs.Calls.{AreDone-append}
 use Rattle.repost_build.specs.Readings.{target_of}
 use Rattle.repost_build.specs.declared.build.Build.{Build}
 use Rattle.repost_worker.specs.Published.{Publishes}
 use Rattle.repost_worker.specs.Runs.{AreTurnsTo}
-use Rattle.repost_worker.specs.Turns.{IsWorkOf, IsTurnTo}
+use Rattle.repost_worker.specs.Turns.{IsWorkOf, IsTurnTo, publications}
 use Rattle.repost_worker.specs.declared.turn.Turned.{Turned}
 use Rattle.repost_worker.specs.declared.turn.Turned.TheVariants.{Valued, Fetched, Published, Idle}
 use Rattle.repost_worker.proofs.Works.{records-published, work-kept}
 
-pub publishes-none : (old new : List Deed) → new ≡ old → Publishes old new
-publishes-none old new same = ([], tt, same ∙ sym (append-nil old))
+-- nothing was published, and the keeper not called
+pub publishes-none : (history : List Deed) (keeper : KeeperState) → Publishes None history keeper history keeper
+publishes-none history keeper =
+    record { more = []; publications = tt; grows = sym (append-nil history); between = keeper; done = refl; last = refl }
 
 both-publish : (first second : List Deed) → ArePublications first → ArePublications second → ArePublications (first ++ second)
 both-publish [] second one other = other
 both-publish (deed.Kept item ∷ first) second one other = one
 both-publish (deed.Published n ∷ first) second one other = both-publish first second one other
 
-pub publishes-then : (a b c : List Deed) → Publishes a b → Publishes b c → Publishes a c
-publishes-then a b c first second = (
-  first.0 ++ second.0,
-  both-publish first.0 second.0 first.1 second.1,
-  second.2 ∙ ap (λ (h : List Deed). h ++ second.0) first.2 ∙ append_assoc a first.0 second.0,
-)
+-- what a turn adds to the history
+turn-publishes : (turned : Turned) → ArePublications (publications turned)
+turn-publishes (Valued place) = tt
+turn-publishes (Fetched n) = tt
+turn-publishes (Published n) = tt
+turn-publishes Idle = tt
 
-pub turn-publishes : (old new : List Deed) (build next : Build) (turned : Turned) → IsTurnTo old build turned new next → Publishes old new
-turn-publishes old new build next (Valued place) turn = publishes-none old new turn.0
-turn-publishes old new build next (Fetched n) turn = publishes-none old new turn.3
-turn-publishes old new build next (Published n) turn = (deed.Published n ∷ [], tt, turn.4)
-turn-publishes old new build next Idle turn = publishes-none old new turn.2
+turn-grows : (old new : List Deed) (build next : Build) (turned : Turned) → IsTurnTo old build turned new next
+    → new ≡ old ++ publications turned
+turn-grows old new build next (Valued place) turn = turn.0 ∙ sym (append-nil old)
+turn-grows old new build next (Fetched n) turn = turn.3 ∙ sym (append-nil old)
+turn-grows old new build next (Published n) turn = turn.4
+turn-grows old new build next Idle turn = turn.2 ∙ sym (append-nil old)
+
+module _ (old : List Deed) (keeper : KeeperState) (mid : List Deed) (keeper-mid : KeeperState) (before : Publishes None old keeper mid keeper-mid)
+  where
+    -- one more turn was made
+    pub publishes-more : (new : List Deed) (keeper' : KeeperState) (build next : Build) (turned : Turned) → IsTurnTo mid build turned new next
+        → AreDone (publications turned) keeper-mid keeper' → Publishes None old keeper new keeper'
+    publishes-more new keeper' build next turned turn done =
+        record {
+          more = before.more ++ publications turned;
+          publications = both-publish before.more (publications turned) before.publications (turn-publishes turned);
+          grows =
+              turn-grows mid new build next turned turn ∙ ap (λ (h : List Deed). h ++ publications turned) before.grows
+              ∙ append_assoc old before.more (publications turned);
+          between = keeper';
+          done =
+              AreDone-append before.more (publications turned) keeper keeper-mid keeper'
+              (subst (AreDone before.more keeper) (sym before.last) before.done) done;
+          last = refl;
+        }
+
+    -- one more turn was refused
+    pub publishes-refused : (new : List Deed) (keeper' : KeeperState) (fault : KeepFault) → new ≡ mid → IsRefused fault keeper-mid keeper'
+        → Publishes (Some fault) old keeper new keeper'
+    publishes-refused new keeper' fault same refused =
+        record {
+          more = before.more;
+          publications = before.publications;
+          grows = same ∙ before.grows;
+          between = before.between;
+          done = before.done;
+          last = subst (λ (k : KeeperState). IsRefused fault k keeper') before.last refused;
+        }
 
 -- a record was accepted, or nothing changed
 pub work-posted : (r : Result RecordNo PostFault) (old new : BookState) (item : Record) (build : Build)
-    → OnOk r (new.history ≡ old.history ++ deed.Kept item ∷ []) → OnErr r (new ≡ old) → IsWorkOf old.history build
+    → OnOk r (new.history ≡ old.history ++ deed.Kept item ∷ []) → OnErr r (new.history ≡ old.history) → IsWorkOf old.history build
     → IsWorkOf new.history build
 work-posted (Ok n) old new item build kept unchanged work =
     subst (λ (h : List Deed). IsWorkOf h build) (sym kept) (work-kept old.history build item work)
 work-posted (Err f) old new item build kept unchanged work =
-    subst (λ (h : List Deed). IsWorkOf h build) (ap (λ (b : BookState). b.history) (sym unchanged)) work
-
--- all turns of a list publish, and nothing else
-pub turns-publish : (turns : List Turned) (old new : List Deed) (build next : Build) → AreTurnsTo turns old build new next → Publishes old new
-turns-publish [] old new build next none = publishes-none old new none.0
-turns-publish (turned ∷ turns) old new build next are =
-    publishes-then old are.0 new (turn-publishes old are.0 build are.1 turned are.2)
-    (turns-publish turns are.0 new are.1 next are.3)
+    subst (λ (h : List Deed). IsWorkOf h build) (sym unchanged) work
 
 -- a turn keeps a history legal, and a build that has no more records than were accepted
 turn-legal : (old new : List Deed) (build next : Build) (turned : Turned) → IsTurnTo old build turned new next → target_of build ≤ accepted old

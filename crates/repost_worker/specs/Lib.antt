@@ -2,3 +2,4 @@ pub mod Turns
 pub mod Published
 pub mod Runs
 pub mod Paces
+pub mod Openings

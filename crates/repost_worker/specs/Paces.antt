@@ -4,24 +4,28 @@ use Rattle.std.specs.Prelude.{ℕ, ◌≡◌, ◌+◌, ◌*◌, ◌<◌, ◌≤�
 use Rattle.stock_model.specs.History.{records, accepted, covered}
 use Rattle.stock_model.specs.PostingOrder.{posting_line}
 use Rattle.stock_model.specs.declared.deeds.Deed.{Deed}
+use Rattle.stock_keeper.specs.Calls.{KeeperState, first_state}
+use Rattle.generation_book.specs.State.{BookState}
 use Rattle.repost_laws.specs.Touched.{is_new}
 use Rattle.repost_build.specs.Readings.{target_of, turns_of}
 use Rattle.repost_build.specs.declared.build.Build.{Build}
 use Rattle.repost_worker.specs.declared.turn.TheConstants.{MAX_FETCHES}
 
--- the history, how many records the worker has taken in, and how many turns it made since it last published
+-- the history of a book, what its keeper tells of its calls, how many records the worker has taken in, and how many turns it made
+-- since it last published
 pub record Pace : Type 0 where
   pub history : List Deed
+  pub keeper : KeeperState
   pub known : ℕ
   pub turns : ℕ
 
--- before anything was done
-abbrev pub first_pace : Pace
-first_pace = record { history = []; known = 0; turns = 0 }
+-- of a build that works for a book
+abbrev pub pace_of : BookState → Build → Pace
+pace_of book build = record { history = book.history; keeper = book.keeper; known = target_of build; turns = turns_of build }
 
--- of a build that works for a book with this history
-abbrev pub pace_of : List Deed → Build → Pace
-pace_of history build = record { history = history; known = target_of build; turns = turns_of build }
+-- before anything was done, over a keeper that never fails
+abbrev pub first_pace : Pace
+first_pace = record { history = []; keeper = first_state; known = 0; turns = 0 }
 
 -- how many movements the accepted records make, and how many of them those after the first n ones
 abbrev pub movements_of : List Deed → ℕ
@@ -37,7 +41,7 @@ pub record IsInPace (pace : Pace) : Type 0 where
   pub known : pace.known ≤ accepted pace.history
   pub few : pace.turns ≤ MAX_FETCHES * (movements_of pace.history + 1)
 
--- Nothing of it changed but perhaps the history.
+-- Nothing of it changed but perhaps the history, and what its keeper tells.
 pub record IsSamePace (old new : Pace) : Type 0 where
   pub known : new.known ≡ old.known
   pub turns : new.turns ≡ old.turns

@@ -1,7 +1,7 @@
 -- What turns one after another do to a book and a build.
 use Rattle.std.specs.Prelude.{ℕ, ◌≡◌, ◌≢◌, ◌+◌, ◌<◌, ◌≤◌, ◌⊎◌, List, [], ◌∷◌, ◌++◌, length, sum_by, Contains, Option, Some, None, IfSome}
-use Rattle.stock_nums.specs.declared.memory.NoMemory.{NoMemory}
 use Rattle.stock_model.specs.declared.deeds.Deed.{Deed}
+use Rattle.stock_keeper.specs.declared.fault.KeepFault.{KeepFault}
 use Rattle.repost_build.specs.Readings.{IsUnchanged}
 use Rattle.repost_build.specs.declared.build.Build.{Build}
 use Rattle.repost_worker.specs.Turns.{IsTurnTo, valuations}
@@ -34,14 +34,14 @@ pub record AreUntilRefused (limit : Option ℕ) (turns : List Turned) : Type 0 w
   pub more : IfSome limit (λ n. length turns < n)
   pub at_work : AreAtWork turns
 
--- after these turns no more were made, for want of nothing or of what one more was refused
-abbrev pub AreAllUntil : Option NoMemory → Option ℕ → List Turned → Type 0
+-- after these turns no more were made, for no refusal or for that of one more
+abbrev pub AreAllUntil : Option KeepFault → Option ℕ → List Turned → Type 0
 AreAllUntil None limit turns = AreUntilIdle turns ⊎ AreUntilLimit limit turns
 AreAllUntil (Some refusal) limit turns = AreUntilRefused limit turns
 
 -- turns were made, no more than the limit says, until one was idle, or as many were made as the limit says, or one was refused.
 -- The refused one changed nothing
-pub record IsRun (limit : Option ℕ) (stopped : Option NoMemory) (history : List Deed) (build : Build) (steps : ℕ)
+pub record IsRun (limit : Option ℕ) (stopped : Option KeepFault) (history : List Deed) (build : Build) (steps : ℕ)
     (history' : List Deed) (build' : Build) (steps' : ℕ) : Type 0 where
   pub turns : List Turned
   pub last : Build

@@ -69,6 +69,13 @@ IsTurnTo history build (Published n) history' build' =
 IsTurnTo history build Idle history' build' =
     IsCleanOf history build × (covered history ≡ accepted history) × (history' ≡ history) × IsUnchanged build build'
 
+-- what it published
+abbrev pub publications : Turned → List Deed
+publications (Valued place) = []
+publications (Fetched n) = []
+publications (Published n) = deed.Published n ∷ []
+publications Idle = []
+
 -- how many movements it valued
 abbrev pub valuations : Turned → ℕ
 valuations (Valued place) = 1

@@ -1,8 +1,11 @@
 //! A book that is revalued by turns of its own.
 ghost use Rattle.std.specs.Prelude.{◌≡◌, ◌⊎◌, ◌<◌, List, [], ◌∷◌, ◌++◌, IfOk, OnOk, OnErr, IfErr, IfSome, None};
 ghost use Rattle.stock_model.specs.declared.deeds.Deed.TheVariants as deed;
-ghost use Rattle.stock_model.specs.Faults.{fault_but_short, fault};
+ghost use Rattle.stock_model.specs.Faults.{fault};
 ghost use Rattle.stock_model.specs.History as history;
+ghost use Rattle.stock_keeper.specs.Calls.{IsDone};
+ghost use Rattle.kept_tables.specs.Kept.{IsKept};
+ghost use Rattle.generation_book.specs.Refusals.{IsRefusalOf, IsAfterRefusal};
 ghost use Rattle.repost_worker.specs.Paces.{pace_of, first_pace, IsInPace, IsSamePace, WorksInPace};
 ghost use Rattle.repost_worker.specs.Published.{Publishes};
 ghost use Rattle.repost_worker.specs.Turns.{IsWorkOf};
@@ -13,34 +16,35 @@ use repost_build::build::Build;
 use std::alloc::Global;
 use std::marker::{Brand, Model};
 use std::sync::ledger::{Blank, Ledger};
+use stock_keeper::keeper::Keeper;
+use stock_keeper::nowhere::Nowhere;
 use stock_model::faults::PostFault;
 use stock_model::records::Record;
-use stock_nums::memory::NoMemory;
 use stock_nums::numbers::RecordNo;
 use stock_nums::steps::Steps;
 
-/// A book, with a build that works for it. Contracts see the book's history and how far
-/// the build has come.
+/// A book, with a build that works for it. Contracts see the book's history, what its keeper tells of its calls, and how far the
+/// build has come.
 #[derive(Drop)]
-pub struct RevaluedBook {
-    book: Book,
+pub struct RevaluedBook<K: Keeper> {
+    book: Book<K>,
     build: Build,
 }
 
-impl Model for RevaluedBook {
+impl<K: Keeper> Model for RevaluedBook<K> {
     ghost use Rattle.repost_worker.specs.Paces.{Pace, pace_of};
     ghost use Rattle.repost_worker.specs.Turns.{IsWorkOf};
 
     ghost Value = { Pace };
 
-    ghost view = { λ revalued. pace_of revalued.book.history revalued.build };
+    ghost view = { λ revalued. pace_of revalued.book revalued.build };
 
     ghost invariant = { λ revalued. IsWorkOf revalued.book.history revalued.build };
 }
 
-impl RevaluedBook {
-    /// The empty book. It takes no memory.
-    pub fn start(alloc: Global) -> RevaluedBook
+impl RevaluedBook<Nowhere> {
+    /// The empty book, which is kept nowhere. It takes no memory.
+    pub fn start(alloc: Global) -> RevaluedBook<Nowhere>
         ensures { result ≡ first_pace }
     {
         RevaluedBook {
@@ -49,11 +53,40 @@ impl RevaluedBook {
         }
     }
 
+    /// The same book over a keeper of its history, which is its opening then.
+    pub fn with_keeper<K: Keeper>(self, keeper: K) -> RevaluedBook<K>
+        requires kept { IsKept (K.tells keeper) (K.may_leave keeper) self.history }
+        ensures history { result.history ≡ self.history }
+        ensures faults { result.keeper.faults ≡ K.faults keeper }
+        ensures plan { result.keeper.plan ≡ K.plan keeper }
+        ensures calls { result.keeper.calls ≡ K.calls keeper }
+        ensures pace { IsSamePace self result }
+    {
+        let RevaluedBook { book, build } = self;
+        RevaluedBook {
+            book: book.with_keeper(keeper),
+            build,
+        }
+    }
+}
+
+impl<K: Keeper> RevaluedBook<K> {
     /// The book itself, for reports.
-    pub fn book(&self) -> &Book
-        ensures { result.now.history ≡ self.now.history }
+    pub fn book(&self) -> &Book<K>
+        ensures history { result.now.history ≡ self.now.history }
+        ensures keeper { result.now.keeper ≡ self.now.keeper }
+        ensures in_pace { IsInPace self.now }
     {
         &self.book
+    }
+
+    /// The book, for good.
+    pub fn into_book(self) -> Book<K>
+        ensures history { result.history ≡ self.history }
+        ensures keeper { result.keeper ≡ self.keeper }
+    {
+        let RevaluedBook { book, build: _ } = self;
+        book
     }
 
     /// Accepts a record, or refuses it for its first fault, as `Book::post` does. No movement is revalued.
@@ -61,9 +94,10 @@ impl RevaluedBook {
         ensures sound { OnOk result (fault (history.records self.old.history) item ≡ None) }
         ensures kept { OnOk result (self.new.history ≡ self.old.history ++ deed.Kept item ∷ []) }
         ensures number { IfOk result (λ n. n.0 ≡ history.accepted self.new.history) }
-        ensures fault { IfErr result (λ f. (f ≡ PostFault.NoMemory) × (fault_but_short (history.records self.old.history) item ≡ None)
-            ⊎ (fault (history.records self.old.history) item ≡ Some f)) }
-        ensures unchanged { OnErr result (self.new ≡ self.old) }
+        ensures fault { IfErr result (IsRefusalOf (history.records self.old.history) item) }
+        ensures unchanged { OnErr result (self.new.history ≡ self.old.history) }
+        ensures done { OnOk result (IsDone self.old.keeper self.new.keeper) }
+        ensures refused { IfErr result (λ f. IsAfterRefusal f self.old.keeper self.new.keeper) }
         ensures pace { IsSamePace self.old self.new }
         ensures legal { OnOk result (history.IsLegal self.new.history) }
     {
@@ -71,32 +105,24 @@ impl RevaluedBook {
     }
 
     /// Makes so many turns of a worker, or fewer where there is no more to do, and all that there are where no number is given.
-    /// Answers how many records the reports cover then.
-    ///
-    /// # Errors
-    ///
-    /// `NoMemory`: memory was wanting for a turn. What turns before it published stands.
-    pub fn work(&mut self, alloc: Global, turns: Option<u32>) -> Result<RecordNo, NoMemory>
+    /// Answers how many records the reports cover then, or why a turn was refused; what turns before it published stands.
+    pub fn work(&mut self, alloc: Global, turns: Option<u32>) -> Ran
         requires some { IfSome turns (λ n. 0 < n) }
-        ensures pace { IfSome turns (λ n. OnOk result (WorksInPace self.old n self.new)) }
+        ensures publishes { Publishes result.stopped self.old.history self.old.keeper self.new.history self.new.keeper }
+        ensures covered { result.covered.0 ≡ history.covered self.new.history }
+        ensures pace { IfSome turns (λ n. result.stopped ≡ None → WorksInPace self.old n self.new) }
         ensures in_pace { IsInPace self.new }
-        ensures grows { Publishes self.old.history self.new.history }
-        ensures covered { IfOk result (λ n. n.0 ≡ history.covered self.new.history) }
-        ensures all { turns ≡ None → OnOk result (history.covered self.new.history ≡ history.accepted self.new.history) }
+        ensures all { turns ≡ None → result.stopped ≡ None → history.covered self.new.history ≡ history.accepted self.new.history }
         ensures legal { history.IsLegal self.old.history → history.IsLegal self.new.history }
     {
-        let ran = counted::<Brand>(alloc, &mut self.book, &mut self.build, turns, Blank::new(1));
-        match ran.stopped {
-            Some(none) => Err(none),
-            None => Ok(ran.covered),
-        }
+        counted::<K, Brand>(alloc, &mut self.book, &mut self.build, turns, Blank::new(1))
     }
 }
 
 // Makes the turns, and counts their steps.
-fn counted<L: Ledger>(
+fn counted<K: Keeper, L: Ledger>(
     alloc: Global,
-    book: &mut Book,
+    book: &mut Book<K>,
     build: &mut Build,
     turns: Option<u32>,
     blank: Blank,
@@ -107,9 +133,9 @@ fn counted<L: Ledger>(
     requires work { IsWorkOf book.old.history build.old }
     requires some { IfSome turns (λ n. 0 < n) }
     ensures work { IsWorkOf book.new.history build.new }
-    ensures pace { IfSome turns (λ n. result.stopped ≡ None → WorksInPace (pace_of book.old.history build.old) n (pace_of book.new.history build.new)) }
-    ensures in_pace { IsInPace (pace_of book.new.history build.new) }
-    ensures grows { Publishes book.old.history book.new.history }
+    ensures pace { IfSome turns (λ n. result.stopped ≡ None → WorksInPace (pace_of book.old build.old) n (pace_of book.new build.new)) }
+    ensures in_pace { IsInPace (pace_of book.new build.new) }
+    ensures publishes { Publishes result.stopped book.old.history book.old.keeper book.new.history book.new.keeper }
     ensures covered { result.covered.0 ≡ history.covered book.new.history }
     ensures all { turns ≡ None → result.stopped ≡ None → history.covered book.new.history ≡ history.accepted book.new.history }
     ensures legal { history.IsLegal book.old.history → history.IsLegal book.new.history }

@@ -3,6 +3,7 @@ ghost use Rattle.std.specs.Prelude.{◌≡◌, ◌-◌, ◌<◌, ◌↔◌, IsTr
 ghost use Rattle.std.specs.Option.{option_map};
 ghost use Rattle.std.specs.Result.{result_err};
 ghost use Rattle.stock_model.specs.History as history;
+ghost use Rattle.repost_worker.specs.Published.{Publishes};
 ghost use Rattle.repost_worker.specs.Runs.{IsRun};
 ghost use Rattle.repost_worker.specs.Turns.{IsWorkOf};
 
@@ -11,7 +12,8 @@ use generation_book::book::Book;
 use repost_build::build::Build;
 use std::alloc::Global;
 use std::sync::ledger::Ledger;
-use stock_nums::memory::NoMemory;
+use stock_keeper::fault::KeepFault;
+use stock_keeper::keeper::Keeper;
 use stock_nums::numbers::RecordNo;
 use stock_nums::steps::Steps;
 
@@ -20,15 +22,15 @@ use stock_nums::steps::Steps;
 pub struct Ran {
     /// How many records the reports cover now.
     pub covered: RecordNo,
-    /// For want of what a turn was refused. None exactly where none was.
-    pub stopped: Option<NoMemory>,
+    /// Why a turn was refused. None exactly where none was.
+    pub stopped: Option<KeepFault>,
 }
 
 /// Makes one turn after another until one is idle, one is refused, or so many were made as the limit says. The turns before a
 /// refused one stand.
-pub fn run_turns<L: Ledger>(
+pub fn run_turns<K: Keeper, L: Ledger>(
     alloc: Global,
-    book: &mut Book,
+    book: &mut Book<K>,
     build: &mut Build,
     limit: Option<u32>,
     steps: &mut Steps<L>,
@@ -37,6 +39,7 @@ pub fn run_turns<L: Ledger>(
     requires some { IfSome limit (λ n. 0 < n) }
     ensures work { IsWorkOf book.new.history build.new }
     ensures run { IsRun limit result.stopped book.old.history build.old steps.old book.new.history build.new steps.new }
+    ensures publishes { Publishes result.stopped book.old.history book.old.keeper book.new.history book.new.keeper }
     ensures covered { result.covered.0 ≡ history.covered book.new.history }
 {
     let made = make_turns(alloc, book, build, limit, steps);
@@ -47,16 +50,17 @@ pub fn run_turns<L: Ledger>(
 }
 
 // Makes the turns. The error is what the one after them was refused for.
-fn make_turns<L: Ledger>(
+fn make_turns<K: Keeper, L: Ledger>(
     alloc: Global,
-    book: &mut Book,
+    book: &mut Book<K>,
     build: &mut Build,
     limit: Option<u32>,
     steps: &mut Steps<L>,
-) -> Result<(), NoMemory>
+) -> Result<(), KeepFault>
     requires { IsWorkOf book.old.history build.old }
     ensures work { IsWorkOf book.new.history build.new }
     ensures run { IsRun limit (result_err result) book.old.history build.old steps.old book.new.history build.new steps.new }
+    ensures publishes { Publishes (result_err result) book.old.history book.old.keeper book.new.history book.new.keeper }
 {
     let mut left = limit;
     while is_one_left(left) {

@@ -1,15 +1,18 @@
 //! One turn of the policy: value the first suspect, else fetch what was accepted since, else publish, else idle.
-ghost use Rattle.std.specs.Prelude.{◌≡◌, ◌+◌, ◌<◌, ◌↔◌, ◌++◌, [], ◌∷◌, List, IsTrue, IfOk, OnOk, OnErr};
+ghost use Rattle.std.specs.Prelude.{◌≡◌, ◌+◌, ◌<◌, ◌↔◌, ◌++◌, [], ◌∷◌, List, IsTrue, IfOk, IfErr, OnOk, OnErr};
 ghost use Rattle.stock_model.specs.History.{records, accepted, covered};
 ghost use Rattle.stock_model.specs.declared.deeds.Deed.TheVariants as deed;
 ghost use Rattle.stock_model.specs.declared.records.Record.{Record};
+ghost use Rattle.stock_keeper.specs.Calls.{IsDone, IsRefused, AreDone};
 ghost use Rattle.repost_build.specs.Readings.{target_of, IsUnchanged};
-ghost use Rattle.repost_worker.specs.Turns.{IsWorkOf, IsCleanOf, CanFetch, IsFetched, IsPublished, IsTurnTo, valuations};
+ghost use Rattle.repost_worker.specs.Turns.{IsWorkOf, IsCleanOf, CanFetch, IsFetched, IsPublished, IsTurnTo, publications, valuations};
 
 use generation_book::book::Book;
 use repost_build::build::Build;
 use std::alloc::Global;
 use std::sync::ledger::Ledger;
+use stock_keeper::fault::KeepFault;
+use stock_keeper::keeper::Keeper;
 use stock_nums::memory::NoMemory;
 use stock_nums::numbers::RecordNo;
 use stock_nums::place::Place;
@@ -42,22 +45,24 @@ impl Turned {
 
 /// Does the first of these that there is: values the first suspect; fetches the records that were accepted since, where fewer
 /// than 4 fetches were made since the last publication; publishes what the build is of; and else nothing. A valuation counts one
-/// step and takes no memory. A refusal changes neither book nor build.
+/// step and takes no memory. A refusal changes neither the history nor the build.
 ///
 /// # Errors
 ///
-/// `NoMemory`: memory was wanting for a fetch or a publication.
-pub fn turn_on<L: Ledger>(
+/// `Failed`: the keeper failed at a publication. `NoMemory`: memory was wanting for a fetch or a publication.
+pub fn turn_on<K: Keeper, L: Ledger>(
     alloc: Global,
-    book: &mut Book,
+    book: &mut Book<K>,
     build: &mut Build,
     steps: &mut Steps<L>,
-) -> Result<Turned, NoMemory>
+) -> Result<Turned, KeepFault>
     requires work { IsWorkOf book.old.history build.old }
     ensures work { IsWorkOf book.new.history build.new }
     ensures turn { IfOk result (λ turned. IsTurnTo book.old.history build.old turned book.new.history build.new) }
     ensures steps { IfOk result (λ turned. steps.new ≡ steps.old + valuations turned) }
-    ensures book_stays { OnErr result (book.new ≡ book.old) }
+    ensures done { IfOk result (λ turned. AreDone (publications turned) book.old.keeper book.new.keeper) }
+    ensures refused { IfErr result (λ fault. IsRefused fault book.old.keeper book.new.keeper) }
+    ensures book_stays { OnErr result (book.new.history ≡ book.old.history) }
     ensures build_stays { OnErr result (IsUnchanged build.old build.new) }
     ensures no_steps { OnErr result (steps.new ≡ steps.old) }
 {
@@ -65,19 +70,21 @@ pub fn turn_on<L: Ledger>(
 }
 
 // The turn, of a book with these records.
-fn turn_of<L: Ledger>(
+fn turn_of<K: Keeper, L: Ledger>(
     alloc: Global,
-    book: &mut Book,
+    book: &mut Book<K>,
     build: &mut Build,
     steps: &mut Steps<L>,
-) -> Result<Turned, NoMemory>
+) -> Result<Turned, KeepFault>
     ghost all: { List Record }
     requires records { records book.old.history ≡ all }
     requires work { IsWorkOf book.old.history build.old }
     ensures work { IsWorkOf book.new.history build.new }
     ensures turn { IfOk result (λ turned. IsTurnTo book.old.history build.old turned book.new.history build.new) }
     ensures steps { IfOk result (λ turned. steps.new ≡ steps.old + valuations turned) }
-    ensures book_stays { OnErr result (book.new ≡ book.old) }
+    ensures done { IfOk result (λ turned. AreDone (publications turned) book.old.keeper book.new.keeper) }
+    ensures refused { IfErr result (λ fault. IsRefused fault book.old.keeper book.new.keeper) }
+    ensures book_stays { OnErr result (book.new.history ≡ book.old.history) }
     ensures build_stays { OnErr result (IsUnchanged build.old build.new) }
     ensures no_steps { OnErr result (steps.new ≡ steps.old) }
 {
@@ -96,14 +103,18 @@ fn turn_of<L: Ledger>(
 }
 
 // Whether records wait that the next turn may fetch.
-fn can_fetch(book: &Book, build: &Build) -> bool
+fn can_fetch<K: Keeper>(book: &Book<K>, build: &Build) -> bool
     ensures { IsTrue result ↔ CanFetch book.now.history build.now }
 {
     build.target().0 < book.accepted().0 && build.fetches() < MAX_FETCHES
 }
 
 // The build takes in all records that it has not, and it is answered how many there are.
-fn fetch_all(alloc: Global, book: &Book, build: &mut Build) -> Result<RecordNo, NoMemory>
+fn fetch_all<K: Keeper>(
+    alloc: Global,
+    book: &Book<K>,
+    build: &mut Build,
+) -> Result<RecordNo, NoMemory>
     ghost all: { List Record }
     requires records { records book.now.history ≡ all }
     requires work { IsWorkOf book.now.history build.old }
@@ -120,7 +131,11 @@ fn fetch_all(alloc: Global, book: &Book, build: &mut Build) -> Result<RecordNo, 
 }
 
 // All records of a build without a suspect are published, and it is answered how many they are.
-fn publish_all(alloc: Global, book: &mut Book, build: &mut Build) -> Result<RecordNo, NoMemory>
+fn publish_all<K: Keeper>(
+    alloc: Global,
+    book: &mut Book<K>,
+    build: &mut Build,
+) -> Result<RecordNo, KeepFault>
     ghost all: { List Record }
     requires records { records book.old.history ≡ all }
     requires work { IsWorkOf book.old.history build.old }
@@ -130,7 +145,9 @@ fn publish_all(alloc: Global, book: &mut Book, build: &mut Build) -> Result<Reco
     ensures number { IfOk result (λ n. n.0 ≡ target_of build.old) }
     ensures told { IfOk result (λ n. book.new.history ≡ book.old.history ++ deed.Published n ∷ []) }
     ensures published { OnOk result (IsPublished build.old build.new) }
-    ensures book_stays { OnErr result (book.new ≡ book.old) }
+    ensures done { OnOk result (IsDone book.old.keeper book.new.keeper) }
+    ensures refused { IfErr result (λ fault. IsRefused fault book.old.keeper book.new.keeper) }
+    ensures book_stays { OnErr result (book.new.history ≡ book.old.history) }
     ensures build_stays { OnErr result (build.new ≡ build.old) }
 {
     let target = build.target();

@@ -1,23 +1,18 @@
 -- What a run does to the history.
 use Rattle.std.proofs.Common.{ℕ, Option, None, subst}
-use Rattle.stock_nums.specs.declared.memory.NoMemory.{NoMemory}
+use Rattle.stock_keeper.specs.declared.fault.KeepFault.{KeepFault}
 use Rattle.repost_worker.specs.Runs.{IsRun}
 use Rattle.repost_worker.proofs.RunLaws.{covered-run}
 use Rattle.repost_worker.proofs.Paces.{in_pace-work, in_pace-limit}
-use Rattle.repost_worker.proofs.Working.{turns-publish, turns-legal}
+use Rattle.repost_worker.proofs.Working.{turns-legal}
 use Rattle.repost_worker.proofs.revalued_book.counted.Goals as goal
-
-pub returns-clause-grows : goal.returns-clause-grows
-returns-clause-grows g c =
-    let run = c.run_turns.ensures.run in
-    turns-publish run.turns c.args.book.now.history c.run_turns.new.book.history c.args.build.now run.last run.run
 
 pub returns-clause-all : goal.returns-clause-all
 returns-clause-all g c all done =
     let run = c.run_turns.ensures.run in
     covered-run c.args.book.now.history c.run_turns.new.book.history c.args.build.now c.run_turns.new.build c.new-steps.result
     c.run_turns.new.steps
-    (subst (λ (stopped : Option NoMemory). IsRun None stopped c.args.book.now.history c.args.build.now c.new-steps.result
+    (subst (λ (stopped : Option KeepFault). IsRun None stopped c.args.book.now.history c.args.build.now c.new-steps.result
     c.run_turns.new.book.history c.run_turns.new.build c.run_turns.new.steps) done
     (subst (λ (limit : Option ℕ). IsRun limit c.run_turns.result.stopped c.args.book.now.history c.args.build.now c.new-steps.result
     c.run_turns.new.book.history c.run_turns.new.build c.run_turns.new.steps) all run))
@@ -29,8 +24,8 @@ returns-clause-legal g c legal =
 
 pub returns-clause-pace : goal.returns-clause-pace
 returns-clause-pace g c =
-    in_pace-limit c.args.turns c.run_turns.result.stopped c.args.book.now.history c.run_turns.new.book.history c.args.build.now
+    in_pace-limit c.args.turns c.run_turns.result.stopped c.args.book.now c.run_turns.new.book c.args.build.now
     c.run_turns.new.build c.new-steps.result c.run_turns.new.steps c.requires.work c.run_turns.ensures.run
 
 pub returns-clause-in_pace : goal.returns-clause-in_pace
-returns-clause-in_pace g c = in_pace-work c.run_turns.new.book.history c.run_turns.new.build c.run_turns.ensures.work
+returns-clause-in_pace g c = in_pace-work c.run_turns.new.book c.run_turns.new.build c.run_turns.ensures.work

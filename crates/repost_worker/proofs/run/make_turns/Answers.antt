@@ -4,6 +4,7 @@ use Rattle.std.proofs.lemmas.Bool.{false≢true}
 use Rattle.repost_worker.specs.Turns.{IsTurnTo, valuations}
 use Rattle.repost_worker.specs.declared.turn.Turned.{Turned}
 use Rattle.repost_worker.proofs.Running.{AreMade, made-more, run-idle}
+use Rattle.repost_worker.proofs.Working.{publishes-more}
 use Rattle.repost_worker.proofs.TurnsAhead.{between-work, turns_ahead-less}
 use Rattle.repost_worker.proofs.run.make_turns.Goals as goal
 
@@ -37,4 +38,16 @@ loop-alloc-preserved g c =
           before.steps before.invariant.made c.in_ok-turn_on.field-0 after.book.history after.build after.steps
           (c.is_one_left.ensures.0 c.loop-alloc-test.true) c.in_ok-turn_on.ensures.turn c.in_ok-turn_on.ensures.steps
           (λ idle. false≢true (sym c.if-is_idle.false ∙ c.is_idle.ensures.1 idle)));
+      publishes =
+          publishes-more c.args.book.now.history c.args.book.now.keeper before.book.history before.book.keeper before.invariant.publishes
+          after.book.history after.book.keeper before.build after.build c.in_ok-turn_on.field-0 c.in_ok-turn_on.ensures.turn
+          c.in_ok-turn_on.ensures.done;
     }
+
+pub returns-then-is_idle-clause-publishes : goal.returns-then-is_idle-clause-publishes
+returns-then-is_idle-clause-publishes g c =
+    let before = c.loop-alloc in
+    let after = c.turn_on.new in
+    publishes-more c.args.book.now.history c.args.book.now.keeper before.book.history before.book.keeper before.invariant.publishes
+    after.book.history after.book.keeper before.build after.build c.in_ok-turn_on.field-0 c.in_ok-turn_on.ensures.turn
+    c.in_ok-turn_on.ensures.done

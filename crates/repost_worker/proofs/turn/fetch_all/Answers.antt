@@ -16,13 +16,13 @@ extend-requires g c =
     let history = c.args.book.now.history in
     let build = c.args.build.now in
     let fetched = c.in_ok-fetched.fetched in (
-      subst (λ (rs : List Record). IsOf (take (target_of build) rs) build) c.requires.0 c.requires.1.0.of,
+      subst (λ (rs : List Record). IsOf (take (target_of build) rs) build) c.requires.1.0 c.requires.1.1.0.of,
       (
-        subst (λ (rs : List Record). IsFetchedOf (take (target_of build) rs) (drop (target_of build) rs) fetched) c.requires.0
+        subst (λ (rs : List Record). IsFetchedOf (take (target_of build) rs) (drop (target_of build) rs) fetched) c.requires.1.0
             (subst (λ (n : ℕ). IsFetchedOf (take n (records history)) (drop n (records history)) fetched) c.target.ensures c.in_ok-fetched.ensures),
         (
-          omega (arith, ap length c.requires.0, c.requires.1.1.0),
-          subst AreLegal c.requires.0 (AreLegal-history history c.accepted-accepted.ensures.legal),
+          omega (arith, ap length c.requires.1.0, c.requires.1.1.1.0),
+          subst AreLegal c.requires.1.0 (AreLegal-history history c.accepted-accepted.ensures.legal),
         ),
       ),
     )
@@ -32,12 +32,12 @@ returns-clause-fetched g c =
     let old = c.args.build.now in
     let new = c.extend.new.self in
     record {
-      target = c.in_ok-extend.ensures.of.target ∙ ap length (sym c.requires.0);
+      target = c.in_ok-extend.ensures.of.target ∙ ap length (sym c.requires.1.0);
       touched = λ e held.
           subst (λ (rs : List Record). suspects_in new e.place
           ≡ (suspects_in old e.place || is_touched (target_of old) (is_charged_by (drop (target_of old) rs)) (posting_line rs) e))
-          (sym c.requires.0)
-          (c.in_ok-extend.ensures.touched e (subst (λ (rs : List Record). Contains (posting_line rs) e) c.requires.0 held));
+          (sym c.requires.1.0)
+          (c.in_ok-extend.ensures.touched e (subst (λ (rs : List Record). Contains (posting_line rs) e) c.requires.1.0 held));
       found = c.in_ok-extend.ensures.found;
       valued = c.in_ok-extend.ensures.valued;
       base = c.in_ok-extend.ensures.base;

@@ -13,17 +13,17 @@ use Rattle.repost_worker.proofs.turn.publish_all.Goals as goal
 pub published-requires : goal.published-requires
 published-requires g c =
     let build = c.args.build.now in (
-      subst (λ (rs : List Record). IsOf (take (target_of build) rs) build) c.requires.0 c.requires.1.0.of,
-      subst (λ (rs : List Record). IsClean (posting_line (take (target_of build) rs)) (suspects_in build)) c.requires.0 c.requires.1.1.0,
+      subst (λ (rs : List Record). IsOf (take (target_of build) rs) build) c.requires.1.0 c.requires.1.1.0.of,
+      subst (λ (rs : List Record). IsClean (posting_line (take (target_of build) rs)) (suspects_in build)) c.requires.1.0 c.requires.1.1.1.0,
     )
 
 pub returns-clause-published : goal.returns-clause-published
 returns-clause-published g c =
     let n = target_of c.args.build.now in
-    let same = ap (λ (rs : List Record). length (take n rs)) c.requires.0 in
+    let same = ap (λ (rs : List Record). length (take n rs)) c.requires.1.0 in
     record {
       base = c.published.ensures.base;
-      target = c.published.ensures.of.target ∙ sym same ∙ sym c.requires.1.0.of.target;
+      target = c.published.ensures.of.target ∙ sym same ∙ sym c.requires.1.1.0.of.target;
       fetches = c.published.ensures.fetches;
       turns = turns-none (take n g.all) c.published.new.self c.published.ensures.of c.published.ensures.fetches;
       found = c.published.ensures.found;
@@ -35,6 +35,6 @@ pub returns-clause-work : goal.returns-clause-work
 returns-clause-work g c =
     let old = c.args.build.now in
     let history = c.args.book.now.history in
-    let of = subst (λ (rs : List Record). IsOf (take (target_of old) rs) c.published.new.self) (sym c.requires.0) c.published.ensures.of in
+    let of = subst (λ (rs : List Record). IsOf (take (target_of old) rs) c.published.new.self) (sym c.requires.1.0) c.published.ensures.of in
     subst (λ (told : List Deed). IsWorkOf told c.published.new.self) (sym c.in_ok-publish.ensures.published)
-    (work-published history c.target-target.result old c.published.new.self c.requires.1.0 c.target-target.ensures (returns-clause-published g c) of)
+    (work-published history c.target-target.result old c.published.new.self c.requires.1.1.0 c.target-target.ensures (returns-clause-published g c) of)

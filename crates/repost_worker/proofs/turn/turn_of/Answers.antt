@@ -15,7 +15,7 @@ returns-then-can_fetch-clause-turn g c =
     let old = c.args.build.now in
     let mid = c.turn.new.self in
     let same = c.in_default.ensures.unchanged refl in
-    let clean = subst (λ (rs : List Record). IsClean (posting_line (take (target_of old) rs)) (suspects_in old)) (sym c.requires.1.0)
+    let clean = subst (λ (rs : List Record). IsClean (posting_line (take (target_of old) rs)) (suspects_in old)) (sym c.requires.1.1.0)
     (c.in_default.ensures.clean refl) in
     let can = c.can_fetch.ensures.0 c.if-can_fetch.true in (
       clean,
@@ -26,18 +26,21 @@ returns-then-can_fetch-clause-turn g c =
     )
 
 pub publish_all-requires : goal.publish_all-requires
-publish_all-requires g c =
+publish_all-requires g c κs lives =
     let history = c.args.book.now.history in
     let old = c.args.build.now in
     let mid = c.turn.new.self in
     let same = c.in_default.ensures.unchanged refl in
-    let clean = subst (λ (rs : List Record). IsClean (posting_line (take (target_of old) rs)) (suspects_in old)) (sym c.requires.1.0)
+    let clean = subst (λ (rs : List Record). IsClean (posting_line (take (target_of old) rs)) (suspects_in old)) (sym c.requires.1.1.0)
     (c.in_default.ensures.clean refl) in
-    let of = subst (λ (rs : List Record). IsOf (take (target_of old) rs) mid) (sym c.requires.1.0) c.in_default.ensures.of in (
-      c.requires.1.0,
+    let of = subst (λ (rs : List Record). IsOf (take (target_of old) rs) mid) (sym c.requires.1.1.0) c.in_default.ensures.of in (
+      lives,
       (
-        work-still history old mid same c.requires.1.1 of,
-        (clean-still history old mid same clean, omega (arith, c.covered.ensures.covered, c.target.ensures, c.if-covered-target.true)),
+        c.requires.1.1.0,
+        (
+          work-still history old mid same c.requires.1.1.1 of,
+          (clean-still history old mid same clean, omega (arith, c.covered.ensures.covered, c.target.ensures, c.if-covered-target.true)),
+        ),
       ),
     )
 
@@ -47,7 +50,7 @@ returns-then-covered-target-clause-turn g c =
     let old = c.args.build.now in
     let mid = c.turn.new.self in
     let same = c.in_default.ensures.unchanged refl in
-    let clean = subst (λ (rs : List Record). IsClean (posting_line (take (target_of old) rs)) (suspects_in old)) (sym c.requires.1.0)
+    let clean = subst (λ (rs : List Record). IsClean (posting_line (take (target_of old) rs)) (suspects_in old)) (sym c.requires.1.1.0)
     (c.in_default.ensures.clean refl) in (
       clean,
       (λ can. false≢true (sym c.if-can_fetch.false ∙ c.can_fetch.ensures.1 (can_fetch-then history old mid same can))),
