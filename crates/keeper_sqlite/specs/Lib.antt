@@ -1,3 +1,4 @@
+pub mod Files
 pub mod Texts
 pub mod Rows
 pub mod Running

@@ -1,6 +1,6 @@
 -- How records, worths and the head stand in rows.
-use Rattle.std.specs.Prelude.{◌≡◌, pos, [], ◌∷◌}
-use Rattle.sqlite_value.specs.declared.value.Value.TheVariants.{Int, Blob}
+use Rattle.std.specs.Prelude.{◌≡◌, List, map, codes, pos, [], ◌∷◌}
+use Rattle.sqlite_value.specs.declared.value.Value.TheVariants.{Int, Text, Blob}
 use Rattle.sqlite_value.specs.Order.{Row, column}
 use Rattle.stock_nums.specs.Places.{side_rank}
 use Rattle.stock_nums.specs.declared.place.Spot.{Spot}
@@ -28,3 +28,7 @@ pub record IsWorthOf (row : Row) (w : SpotWorth) : Type 0 where
   pub side : column row 2 ≡ Int (pos (side_rank w.spot.side))
   pub value : column row 3 ≡ Int w.worth.value.0
   pub share : column row 4 ≡ Int w.worth.share.0
+
+-- the rows name the tables of a ledger, in order
+abbrev pub AreLedger : List Row → Type 0
+AreLedger rows = map (λ row. column row 0) rows ≡ Text (codes "head") ∷ Text (codes "records") ∷ Text (codes "worths") ∷ []

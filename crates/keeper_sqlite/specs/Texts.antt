@@ -1,18 +1,25 @@
 -- The texts of the statements. A number after a question mark is the place of a parameter.
 use Rattle.std.specs.Prelude.{ℕ, List, codes}
 
--- they make the tables where they aren't there
+-- they tell what is in a database: all names, and the tables less those of SQLite's own
+abbrev pub select_names : List ℕ
+select_names = codes "SELECT name FROM sqlite_schema"
+
+abbrev pub select_tables : List ℕ
+select_tables = codes "SELECT name FROM sqlite_schema WHERE type = 'table' AND name NOT LIKE 'sqlite_%' ORDER BY name"
+
+-- they make the tables
 abbrev pub make_records : List ℕ
-make_records = codes "CREATE TABLE IF NOT EXISTS records(no INTEGER PRIMARY KEY, body BLOB NOT NULL) STRICT"
+make_records = codes "CREATE TABLE records(no INTEGER PRIMARY KEY, body BLOB NOT NULL) STRICT"
 
 abbrev pub make_worths : List ℕ
-make_worths = codes "CREATE TABLE IF NOT EXISTS worths(voucher INTEGER NOT NULL, line INTEGER NOT NULL, side INTEGER NOT NULL, value INTEGER NOT NULL, share INTEGER NOT NULL, PRIMARY KEY(voucher, line, side)) STRICT"
+make_worths = codes "CREATE TABLE worths(voucher INTEGER NOT NULL, line INTEGER NOT NULL, side INTEGER NOT NULL, value INTEGER NOT NULL, share INTEGER NOT NULL, PRIMARY KEY(voucher, line, side)) STRICT"
 
 abbrev pub make_head : List ℕ
-make_head = codes "CREATE TABLE IF NOT EXISTS head(id INTEGER PRIMARY KEY CHECK(id = 1), version INTEGER NOT NULL, covered INTEGER NOT NULL) STRICT"
+make_head = codes "CREATE TABLE head(id INTEGER PRIMARY KEY CHECK(id = 1), version INTEGER NOT NULL, covered INTEGER NOT NULL) STRICT"
 
 abbrev pub begin_head : List ℕ
-begin_head = codes "INSERT INTO head(id, version, covered) VALUES(1, 1, 0) ON CONFLICT(id) DO NOTHING"
+begin_head = codes "INSERT INTO head(id, version, covered) VALUES(1, 1, 0)"
 
 -- they change the tables
 abbrev pub insert_record : List ℕ

@@ -7,7 +7,6 @@ mod schema;
 mod sending;
 pub mod sqlite_keeper;
 pub mod sqlite_shelf;
+mod standing;
 mod statements;
-#[cfg(test)]
-mod tests;
 mod writing;

@@ -3,14 +3,16 @@ ghost use Rattle.std.specs.Prelude.{◌≡◌, false, pos, IfOk};
 ghost use Rattle.sqlite_value.specs.declared.value.Value.TheVariants.{Int};
 ghost use Rattle.sqlite_value.specs.Order.{column};
 ghost use Rattle.stock_nums.specs.Places.{side_rank};
+ghost use Rattle.stock_keeper.specs.Worths.{AreInOrder};
 ghost use Rattle.keeper_sqlite.specs.Rows.{IsRecordOf, IsWorthOf};
 ghost use Rattle.keeper_sqlite.specs.Running.{HasShown};
 ghost use Rattle.keeper_sqlite.specs.Texts as texts;
 
-use sqlite::{Alter, Connection, Error, Row, Transaction};
+use sqlite::{Alter, Connection, Error, ErrorCode, Row, Transaction};
 use std::alloc::Global;
 use stock_keeper::changes::SpotWorth;
 use stock_keeper::tables::{StoredRecord, Tables};
+use stock_keeper::worths::are_in_order;
 use stock_nums::entry::Worth;
 use stock_nums::lines::Lines;
 use stock_nums::numbers::{Minor, RecordNo};
@@ -28,10 +30,12 @@ struct Head {
 /// # Errors
 ///
 /// `QueryReturnedNoRows` where the head has no row. `IntegralValueOutOfRange` where a number of a worth is
-/// none that its field can have. All others are those of the database.
+/// none that its field can have. `DatabaseCorrupt` where the worths come out of order, or two at one spot. All
+/// others are those of the database.
 pub(crate) fn load<S: Alter>(alloc: Global, conn: &mut Connection<S>) -> Result<Tables, Error>
     requires { conn.old.in_transaction ≡ false }
     ensures ended { conn.new.in_transaction ≡ false }
+    ensures in_order { IfOk result (λ copy. AreInOrder copy.worths) }
 {
     let mut tx = conn.transaction();
     let records = record_rows(&mut tx)?;
@@ -94,10 +98,16 @@ fn record_of(row: &Row) -> Result<StoredRecord, Error>
     })
 }
 
-fn worths_of(alloc: Global, rows: &[Row]) -> Result<Lines<SpotWorth>, Error> {
+// The worths of these rows, which the database was asked for in order. A table that others made may hold a spot twice.
+fn worths_of(alloc: Global, rows: &[Row]) -> Result<Lines<SpotWorth>, Error>
+    ensures { IfOk result AreInOrder }
+{
     let mut worths = Vec::with_capacity(alloc, rows.len())?;
     for row in rows {
         worths.push(worth_of(row)?)?;
+    }
+    if !are_in_order(worths.as_slice()) {
+        return Err(Error::SqliteFailure(ErrorCode::DatabaseCorrupt));
     }
     Ok(Lines::from_vec(worths))
 }

@@ -1,7 +1,9 @@
-//! A keeper over a database. It tells no tables yet, so no clause says what a publication writes or a load reads.
-ghost use Rattle.std.specs.Prelude.{◌≡◌, false, Err, IfOk, OnOk};
+//! A keeper over a database. It tells no tables yet, so no clause says what a publication writes, and of what a load
+//! reads one says only that the worths stand in order.
+ghost use Rattle.std.specs.Prelude.{◌≡◌, false, Err, IfOk, IfErr, OnOk};
 ghost use Rattle.stock_io.specs.Counts.{NeverFalls, raised};
 ghost use Rattle.stock_keeper.specs.declared.fault.KeepFault.TheVariants as fault;
+ghost use Rattle.stock_keeper.specs.Worths.{AreInOrder};
 ghost use Rattle.keeper_sqlite.specs.Running.{HasAppended};
 
 use crate::refusing::counted;
@@ -26,22 +28,29 @@ pub struct SqliteKeeper<S: Alter> {
 }
 
 impl<S: Alter + Drop> SqliteKeeper<S> {
-    /// A keeper over this database, which had no fault yet. The tables are made where they aren't there, all in
-    /// one transaction.
+    /// A keeper over this database, which had no fault yet. Where the database has nothing in it, the tables are made, in one
+    /// transaction.
     ///
     /// # Errors
     ///
-    /// What the database refuses: the tables that weren't there still aren't, and the database is closed as it is.
-    pub fn over(alloc: Global, mut conn: Connection<S>) -> Result<SqliteKeeper<S>, Error>
+    /// `NotADatabase` where the database has something in it, and not exactly the tables of a ledger: nothing is changed. What
+    /// the database refuses else: the tables that weren't there still aren't. The database is given back, still open.
+    pub fn over(
+        alloc: Global,
+        mut conn: Connection<S>,
+    ) -> Result<SqliteKeeper<S>, (Error, Connection<S>)>
         requires { conn.in_transaction ≡ false }
         ensures fresh { IfOk result (λ keeper. keeper.faults ≡ 0) }
+        ensures ended { IfErr result (λ refused. refused.1.in_transaction ≡ false) }
     {
-        schema::make_tables(&mut conn)?;
-        Ok(SqliteKeeper {
-            alloc,
-            conn,
-            faults: 0,
-        })
+        match schema::make_ready(&mut conn) {
+            Ok(()) => Ok(SqliteKeeper {
+                alloc,
+                conn,
+                faults: 0,
+            }),
+            Err(error) => Err((error, conn)),
+        }
     }
 }
 
@@ -97,6 +106,7 @@ impl<S: Alter> Keeper for SqliteKeeper<S> {
     }
 
     fn load(&mut self) -> Result<Tables, KeepFault>
+        ensures in_order { IfOk result (λ copy. AreInOrder copy.worths) }
         ensures faults_kept { OnOk result (self.new.faults ≡ self.old.faults) }
         ensures fault { result ≡ Err fault.Failed → self.new.faults ≡ raised self.old.faults }
         ensures free { result ≡ Err fault.NoMemory → self.new.faults ≡ self.old.faults }

@@ -1,9 +1,10 @@
 //! A shelf whose keepers are files.
-ghost use Rattle.std.specs.Prelude.{◌≡◌, IfOk};
+ghost use Rattle.std.specs.Prelude.{◌≡◌, false, IfOk};
 
 use crate::refusing::counted;
 use crate::sqlite_keeper::SqliteKeeper;
-use sqlite::{Connection, Error, File, FileStore};
+use crate::standing;
+use sqlite::{Alter, Connection, Error, File, FileStore, Unknown};
 use stock_keeper::fault::KeepFault;
 use stock_keeper::shelf::Shelf;
 
@@ -57,8 +58,10 @@ impl Shelf for SqliteShelf {
 
     ghost kept_faults = { λ s. s.kept_faults };
 
-    // The file is made where it isn't there. One that another process has open, that can't be opened or isn't a
-    // database fails at once.
+    // The file is made where it isn't there. One that another process has open fails at once, and so does one that can't be
+    // opened or written, that isn't a database, or that has something in it and not exactly a ledger's tables: nothing is
+    // changed there, and no file is left that wasn't there; of another database that a crash left with a log, what stands in
+    // the log behind the last commit may be cut. Tables of these names with other columns are refused by `load`.
     fn open_keeper(&mut self, path: &str) -> Result<SqliteKeeper<FileStore<File>>, KeepFault> {
         counted(opened(&self.rt, path), &mut self.faults)
     }
@@ -71,10 +74,37 @@ impl Shelf for SqliteShelf {
     }
 }
 
-// A keeper over the file, which is made if it isn't there.
+// A keeper over the file, which is made if it isn't there. A refusal leaves no file that wasn't there.
 fn opened(rt: &HostRuntime, path: &str) -> Result<SqliteKeeper<FileStore<File>>, Error>
     ensures fresh { IfOk result (λ keeper. keeper.faults ≡ 0) }
 {
-    let conn = Connection::open(rt, path)?;
-    SqliteKeeper::over(rt.alloc(), conn)
+    let log = standing::log_to_add(rt, path)?;
+    match Connection::open_from(rt, path, false, Unknown) {
+        Ok(conn) => kept_in(rt, conn, &log),
+        Err((error, left)) => {
+            if left.is_some() {
+                standing::take_away(rt, &log);
+            }
+            Err(error)
+        }
+    }
+}
+
+// A keeper over an open file. The log that the opening added goes while the file is locked, where the keeper is refused.
+fn kept_in<S: Alter + Drop>(
+    rt: &HostRuntime,
+    conn: Connection<S>,
+    log: &Option<String>,
+) -> Result<SqliteKeeper<S>, Error>
+    requires { conn.in_transaction ≡ false }
+    ensures fresh { IfOk result (λ keeper. keeper.faults ≡ 0) }
+{
+    match SqliteKeeper::over(rt.alloc(), conn) {
+        Ok(keeper) => Ok(keeper),
+        Err((error, conn)) => {
+            standing::take_away(rt, log);
+            drop(conn);
+            Err(error)
+        }
+    }
 }
