@@ -1,18 +1,19 @@
 //! Vouchers are posted to a book.
 ghost use Rattle.std.specs.Prelude.{◌≡◌, ◌∷◌, ◌++◌, [], OnOk, OnErr};
 ghost use Rattle.stock_model.specs.History as history;
-ghost use Rattle.late_bench.specs.Works.{IsWorkOf};
+ghost use Rattle.repost_worker.specs.Turns.{IsWorkOf};
 
 use crate::vouchers::{ITEM, LINES, OTHER, Vouchers, item, late_receipt, store};
 use generation_book::book::Book;
 use repost_build::build::Build;
 use std::alloc::Global;
+use stock_keeper::nowhere::Nowhere;
 use stock_model::records::Record;
 use stock_nums::cause::Method;
 use stock_nums::memory::NoMemory;
 
 // Posts a record. What is posted here has no fault, so it is refused for want of memory alone.
-fn post(alloc: Global, book: &mut Book, record: Record) -> Result<(), NoMemory>
+fn post(alloc: Global, book: &mut Book<Nowhere>, record: Record) -> Result<(), NoMemory>
     requires none { history.covered book.old.history ≡ 0 }
     ensures none { history.covered book.new.history ≡ 0 }
 {
@@ -25,7 +26,7 @@ fn post(alloc: Global, book: &mut Book, record: Record) -> Result<(), NoMemory>
 /// Posts two items and a warehouse, and then so many movements of the first item in vouchers of 100 lines.
 pub(crate) fn post_all(
     alloc: Global,
-    book: &mut Book,
+    book: &mut Book<Nowhere>,
     method: Method,
     count: u32,
 ) -> Result<(), NoMemory>
@@ -48,7 +49,7 @@ pub(crate) fn post_all(
 /// Posts a receipt of the item that comes before all other vouchers.
 pub(crate) fn post_late(
     alloc: Global,
-    book: &mut Book,
+    book: &mut Book<Nowhere>,
     build: &Build,
     item: &str,
 ) -> Result<(), NoMemory>

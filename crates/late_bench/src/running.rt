@@ -1,7 +1,7 @@
 //! What is asked for is run and printed.
 ghost use Rattle.std.specs.Prelude.{◌≡◌, ◌<◌};
 ghost use Rattle.stock_model.specs.History as history;
-ghost use Rattle.late_bench.specs.Works.{IsWorkOf};
+ghost use Rattle.repost_worker.specs.Turns.{IsWorkOf};
 
 use crate::posting::{post_all, post_late};
 use crate::revaluing::{Revalued, revalue};
@@ -13,6 +13,7 @@ use std::io;
 use std::io::Print;
 use std::sync::ledger::{Blank, Ledger};
 use std::time::CpuClock;
+use stock_keeper::nowhere::Nowhere;
 use stock_nums::cause::Method;
 use stock_nums::steps::Steps;
 
@@ -43,7 +44,7 @@ pub(crate) struct Task {
 // Revalues, and prints what was found. Whether memory was enough.
 fn report<L: Ledger>(
     rt: &(impl Print + CpuClock + AllocGlobal),
-    book: &mut Book,
+    book: &mut Book<Nowhere>,
     build: &mut Build,
     steps: &mut Steps<L>,
     timed: bool,
@@ -51,7 +52,7 @@ fn report<L: Ledger>(
     requires work { IsWorkOf book.old.history build.old }
     ensures work { IsWorkOf book.new.history build.new }
 {
-    let Ok(Some(found)) = revalue(rt, rt.alloc(), book, build, steps) else {
+    let Some(found) = revalue(rt, rt.alloc(), book, build, steps) else {
         return Ok(false);
     };
     print(rt, &found, timed)?;
@@ -79,7 +80,7 @@ fn late_item(then: Then) -> Option<&'static str> {
 // The movements are valued and published, and then what comes late. Whether memory was enough.
 fn run_build<L: Ledger>(
     rt: &(impl Print + CpuClock + AllocGlobal),
-    book: &mut Book,
+    book: &mut Book<Nowhere>,
     steps: &mut Steps<L>,
     task: &Task,
 ) -> io::Result<bool>
