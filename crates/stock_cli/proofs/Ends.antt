@@ -5,11 +5,12 @@ use Rattle.std.proofs.KnownBytes.{Appends-nil, Appends-trans, Consumes-nil, Cons
 use Rattle.std.specs.Io.KnownBytes.{Consumes, Keeps, IsAtEnd}
 use Rattle.stock_io.specs.Counts.{Rose, NeverFalls}
 use Rattle.stock_io.specs.Streams.{AppendsFront}
+use Rattle.stock_model.specs.History.{IsLegal}
 use Rattle.stock_model.specs.InputLines.{lines_of, whole_lines_of}
 use Rattle.stock_cli.specs.declared.batch.Batch.{Batch}
 use Rattle.stock_cli.specs.declared.end.End.{End}
-use Rattle.stock_cli.specs.declared.end.End.TheVariants.{Done, NoMemory, ReadFailed, WriteFailed, TooLong}
-use Rattle.repost_worker.specs.Paces.{first_pace}
+use Rattle.stock_cli.specs.declared.end.End.TheVariants.{Done, NoMemory, ReadFailed, WriteFailed, TooLong, StoreFailed, Damaged}
+use Rattle.repost_worker.specs.Paces.{Pace}
 use Rattle.stock_cli.specs.Statuses.{HasCause, IsReadToEnd, max_input}
 use Rattle.stock_cli.specs.Replies.{Answered}
 use Rattle.std.proofs.lemmas.List.Elements.{All-nil}
@@ -19,57 +20,66 @@ use Rattle.stock_cli.specs.Ran.{Ran, UnderWay, TakesPiece, Stops, Finishes, IsOu
 use Rattle.stock_cli.proofs.Batches.{Answered-whole}
 
 -- where nothing waits, what was written are the replies to all whole lines
-pub Answered-written : (batch : Batch) (taken written : List ℕ) → StandsFor batch taken written → batch.waiting.items ≡ [] → Answered (whole_lines_of taken) written
-Answered-written batch taken written stands waits =
-    subst (Answered (whole_lines_of taken)) (ap (λ (text : List ℕ). written ++ text) waits ∙ append-nil written) (Answered-whole batch taken written stands)
+pub Answered-written : {K : Type 0} (first : Pace) (batch : Batch K) (taken written : List ℕ) → StandsFor first batch taken written → batch.waiting.items ≡ []
+    → Answered first (whole_lines_of taken) written batch.book
+Answered-written first batch taken written stands waits =
+    subst (λ (text : List ℕ). Answered first (whole_lines_of taken) text batch.book) (ap (λ (text : List ℕ). written ++ text) waits ∙ append-nil written) (Answered-whole first batch taken written stands)
 
 -- and they still are where nothing more is written
-Answered-unwritten : (batch : Batch) (taken written : List ℕ) → StandsFor batch taken written → batch.waiting.items ≡ [] → Answered (whole_lines_of taken) (written ++ [])
-Answered-unwritten batch taken written stands waits = subst (Answered (whole_lines_of taken)) (sym (append-nil written)) (Answered-written batch taken written stands waits)
+Answered-unwritten : {K : Type 0} (first : Pace) (batch : Batch K) (taken written : List ℕ) → StandsFor first batch taken written
+    → batch.waiting.items ≡ [] → Answered first (whole_lines_of taken) (written ++ []) batch.book
+Answered-unwritten first batch taken written stands waits =
+    subst (λ (text : List ℕ). Answered first (whole_lines_of taken) text batch.book) (sym (append-nil written))
+    (Answered-written first batch taken written stands waits)
 
 -- for want of memory what waits is dropped
-pub Stops-memory : {O : Type 0} (written : O → Option (List ℕ)) (batch : Batch) (piece : List ℕ) (output : O) → Stops written batch piece output output NoMemory
-Stops-memory written batch piece output =
+pub Stops-memory : {O K : Type 0} (written : O → Option (List ℕ)) (batch : Batch K) (last : Pace) (piece : List ℕ) (output : O)
+    → Stops written batch last piece output output NoMemory
+Stops-memory written batch last piece output =
     record {
       text = [];
       wrote = Appends-nil (written output);
-      says = λ left bytes before stands waits. (bytes, piece, refl, Answered-unwritten batch bytes before stands waits);
+      says = λ left first bytes before stands waits. (bytes, piece, batch.book, refl, Answered-unwritten first batch bytes before stands waits);
     }
 
-pub Finishes-memory : {O : Type 0} (written : O → Option (List ℕ)) (batch : Batch) (output : O) → Finishes written batch output output NoMemory
-Finishes-memory written batch output =
+pub Finishes-memory : {O K : Type 0} (written : O → Option (List ℕ)) (batch : Batch K) (last : Pace) (output : O)
+    → Finishes written batch last output output NoMemory
+Finishes-memory written batch last output =
     record {
       text = [];
       wrote = Appends-nil (written output);
-      says = λ left bytes before to_end stands waits. (bytes, [], append-nil bytes, Answered-unwritten batch bytes before stands waits);
+      says = λ left first bytes before to_end stands waits. (bytes, [], batch.book, append-nil bytes, Answered-unwritten first batch bytes before stands waits);
     }
 
 front_text : (before front rest waiting : List ℕ) → front ++ rest ≡ waiting → before ++ waiting ≡ (before ++ front) ++ rest
 front_text before front rest waiting is = ap (λ (text : List ℕ). before ++ text) (sym is) ∙ sym (append_assoc before front rest)
 
 -- where the output fails after a piece, a front of the replies to its lines was written
-pub Stops-write : {O : Type 0} (written : O → Option (List ℕ)) (old mid : Batch) (piece : List ℕ) (before after : O) → GoesOn old piece mid
-    → AppendsFront (written before) (written after) mid.waiting.items → Stops written old piece before after WriteFailed
+pub Stops-write : {O K : Type 0} (written : O → Option (List ℕ)) (old mid : Batch K) (piece : List ℕ) (before after : O) → GoesOn old piece mid
+    → AppendsFront (written before) (written after) mid.waiting.items → Stops written old mid.book piece before after WriteFailed
 Stops-write written old mid piece before after goes wrote =
     record {
       text = wrote.0;
       wrote = wrote.3;
       says =
-          λ left bytes text stands waits.
-          (wrote.1, inl (subst (Answered (whole_lines_of (bytes ++ piece))) (front_text text wrote.0 wrote.1 mid.waiting.items wrote.2) (Answered-whole mid (bytes ++ piece) text (goes bytes text stands))));
+          λ left first bytes text stands waits.
+          (wrote.1, inl (subst (λ (all : List ℕ). Answered first (whole_lines_of (bytes ++ piece)) all mid.book)
+          (front_text text wrote.0 wrote.1 mid.waiting.items wrote.2)
+          (Answered-whole first mid (bytes ++ piece) text (goes first bytes text stands))));
     }
 
 -- and where it fails at the end of the source
-pub Finishes-write : {O : Type 0} (written : O → Option (List ℕ)) (old mid : Batch) (before after : O)
-    → ((taken text : List ℕ) → StandsFor old taken text → Answered (lines_of taken) (text ++ mid.waiting.items))
-    → AppendsFront (written before) (written after) mid.waiting.items → Finishes written old before after WriteFailed
+pub Finishes-write : {O K : Type 0} (written : O → Option (List ℕ)) (old mid : Batch K) (before after : O)
+    → ((first : Pace) (taken text : List ℕ) → StandsFor first old taken text → Answered first (lines_of taken) (text ++ mid.waiting.items) mid.book)
+    → AppendsFront (written before) (written after) mid.waiting.items → Finishes written old mid.book before after WriteFailed
 Finishes-write written old mid before after answered wrote =
     record {
       text = wrote.0;
       wrote = wrote.3;
       says =
-          λ left bytes text to_end stands waits.
-          (wrote.1, inr (to_end, subst (Answered (lines_of bytes)) (front_text text wrote.0 wrote.1 mid.waiting.items wrote.2) (answered bytes text stands)));
+          λ left first bytes text to_end stands waits.
+          (wrote.1, inr (to_end, subst (λ (all : List ℕ). Answered first (lines_of bytes) all mid.book)
+          (front_text text wrote.0 wrote.1 mid.waiting.items wrote.2) (answered first bytes text stands)));
     }
 
 -- a fault that is counted late in a run
@@ -83,6 +93,8 @@ HasCause-output NoMemory read_before read_after before now after taken most read
 HasCause-output ReadFailed read_before read_after before now after taken most reads kept cause = absurd cause
 HasCause-output WriteFailed read_before read_after before now after taken most reads kept cause = (most, reads, Rose-later before now after kept cause)
 HasCause-output TooLong read_before read_after before now after taken most reads kept cause = absurd cause
+HasCause-output StoreFailed read_before read_after before now after taken most reads kept cause = absurd cause
+HasCause-output (Damaged damage) read_before read_after before now after taken most reads kept cause = absurd cause
 
 HasCause-last : (end : End) (read_before read_after before now after taken : ℕ) → taken < max_input → read_after ≡ read_before → now ≡ before → IsLastEnd now after end
     → HasCause end read_before read_after before after taken
@@ -91,6 +103,8 @@ HasCause-last NoMemory read_before read_after before now after taken few reads k
 HasCause-last ReadFailed read_before read_after before now after taken few reads kept cause = absurd cause
 HasCause-last WriteFailed read_before read_after before now after taken few reads kept cause = (omega arith, reads, Rose-later before now after kept cause)
 HasCause-last TooLong read_before read_after before now after taken few reads kept cause = absurd cause
+HasCause-last StoreFailed read_before read_after before now after taken few reads kept cause = absurd cause
+HasCause-last (Damaged damage) read_before read_after before now after taken few reads kept cause = absurd cause
 
 -- what was taken up to the end of a source is all that it had
 consumed_all : (before now : Option (List ℕ)) (taken : List ℕ) → Consumes before now taken → IsAtEnd now → IsReadToEnd before taken
@@ -99,75 +113,76 @@ consumed_all (Some xs) None taken took at_end = absurd took
 consumed_all (Some xs) (Some ys) taken took at_end = sym (took ∙ ap (λ (rest : List ℕ). taken ++ rest) at_end ∙ append-nil taken)
 
 -- nothing is answered where nothing was taken
-pub Answered-nothing : Answered [] []
-Answered-nothing = record { answers = []; last = first_pace; run = refl; paced = refl; legal = tt; keeps = All-nil ShowsKeptStock; text_is = refl }
+pub Answered-nothing : (first : Pace) → IsLegal first.history → Answered first [] [] first
+Answered-nothing first legal = record { answers = []; run = refl; paced = refl; legal = legal; keeps = All-nil ShowsKeptStock; text_is = refl }
 
 module _ {S O : Type 0} (left : S → Option (List ℕ)) (taken read_faults : S → ℕ) (written : O → Option (List ℕ)) (write_faults : O → ℕ) where
   -- a run for which memory is wanting before it begins
-  pub Ran-no_memory : (input : S) (output : O) → Ran left taken read_faults written write_faults input input output output NoMemory
-  Ran-no_memory input output =
+  pub Ran-no_memory : (input : S) (output : O) (first last : Pace) → IsLegal first.history
+      → Ran left taken read_faults written write_faults input input output output first last NoMemory
+  Ran-no_memory input output first last legal =
       record {
         bytes = [];
         text = [];
         took = Consumes-nil (left input);
         counted = omega arith;
         wrote = Appends-nil (written output);
-        says = ([], [], refl, Answered-nothing);
+        says = ([], [], first, refl, Answered-nothing first legal);
         cause = (omega arith, refl, refl);
         reads = omega arith;
         writes = omega arith;
       }
 
   -- the source fails
-  pub Ran-read_failed : (input now after : S) (output out_now : O) (batch : Batch) (count : ℕ)
-      → UnderWay left taken read_faults written write_faults input now output out_now batch count → count < max_input
+  pub Ran-read_failed : {K : Type 0} (input now after : S) (output out_now : O) (first : Pace) (batch : Batch K) (count : ℕ)
+      → UnderWay left taken read_faults written write_faults input now output out_now first batch count → count < max_input
       → Keeps (left now) (left after) → taken after ≡ taken now → NeverFalls (read_faults now) (read_faults after) → Rose (read_faults now) (read_faults after)
-      → Ran left taken read_faults written write_faults input after output out_now ReadFailed
-  Ran-read_failed input now after output out_now batch count so_far few kept same falls rose =
+      → Ran left taken read_faults written write_faults input after output out_now first batch.book ReadFailed
+  Ran-read_failed input now after output out_now first batch count so_far few kept same falls rose =
       record {
         bytes = so_far.bytes;
         text = so_far.text;
         took = Consumes-kept (left input) (left now) (left after) so_far.bytes so_far.took kept;
         counted = same ∙ so_far.counted;
         wrote = so_far.wrote;
-        says = Answered-written batch so_far.bytes so_far.text so_far.stands so_far.nothing_waits;
+        says = Answered-written first batch so_far.bytes so_far.text so_far.stands so_far.nothing_waits;
         cause = (omega (arith, so_far.count_is), Rose-later (read_faults input) (read_faults now) (read_faults after) so_far.reads rose, so_far.writes);
         reads = omega (arith, so_far.reads, falls);
         writes = omega (arith, so_far.writes);
       }
 
   -- all bytes that may be taken were taken
-  pub Ran-too_long : (input now : S) (output out_now : O) (batch : Batch) (count : ℕ)
-      → UnderWay left taken read_faults written write_faults input now output out_now batch count → count ≡ max_input
-      → Ran left taken read_faults written write_faults input now output out_now TooLong
-  Ran-too_long input now output out_now batch count so_far all =
+  pub Ran-too_long : {K : Type 0} (input now : S) (output out_now : O) (first : Pace) (batch : Batch K) (count : ℕ)
+      → UnderWay left taken read_faults written write_faults input now output out_now first batch count → count ≡ max_input
+      → Ran left taken read_faults written write_faults input now output out_now first batch.book TooLong
+  Ran-too_long input now output out_now first batch count so_far all =
       record {
         bytes = so_far.bytes;
         text = so_far.text;
         took = so_far.took;
         counted = so_far.counted;
         wrote = so_far.wrote;
-        says = Answered-written batch so_far.bytes so_far.text so_far.stands so_far.nothing_waits;
+        says = Answered-written first batch so_far.bytes so_far.text so_far.stands so_far.nothing_waits;
         cause = (sym so_far.count_is ∙ all, so_far.reads, so_far.writes);
         reads = omega (arith, so_far.reads);
         writes = omega (arith, so_far.writes);
       }
 
   -- memory or the output ends the run over a piece
-  pub Ran-stopped : (input now after : S) (output out_now out_after : O) (batch : Batch) (count n : ℕ) (piece : List ℕ) (end : End)
-      → UnderWay left taken read_faults written write_faults input now output out_now batch count → count + n ≤ max_input
+  pub Ran-stopped : {K : Type 0} (input now after : S) (output out_now out_after : O) (first : Pace) (batch : Batch K) (last : Pace) (count n : ℕ) (piece : List ℕ) (end : End)
+      → UnderWay left taken read_faults written write_faults input now output out_now first batch count → count + n ≤ max_input
       → Consumes (left now) (left after) piece → taken after ≡ taken now + n → n ≡ length piece → read_faults after ≡ read_faults now
-      → Stops written batch piece out_now out_after end → NeverFalls (write_faults out_now) (write_faults out_after)
+      → Stops written batch last piece out_now out_after end → NeverFalls (write_faults out_now) (write_faults out_after)
       → IsOutputEnd (write_faults out_now) (write_faults out_after) end
-      → Ran left taken read_faults written write_faults input after output out_after end
-  Ran-stopped input now after output out_now out_after batch count n piece end so_far most consumed counted size kept stops writes cause =
+      → Ran left taken read_faults written write_faults input after output out_after first last end
+  Ran-stopped input now after output out_now out_after first batch last count n piece end so_far most consumed counted size kept stops writes cause =
       record {
         bytes = so_far.bytes ++ piece;
         text = so_far.text ++ stops.text;
         took = Consumes-trans (left input) (left now) (left after) so_far.bytes piece so_far.took consumed;
         counted = omega (arith, so_far.counted, counted, size, length-append so_far.bytes piece);
         wrote = Appends-trans (written output) (written out_now) (written out_after) so_far.text stops.text so_far.wrote stops.wrote;
-        says = stops.says (left input) so_far.bytes so_far.text so_far.stands so_far.nothing_waits;
+        says = stops.says (left input) first so_far.bytes so_far.text so_far.stands so_far.nothing_waits;
         cause =
             HasCause-output end (read_faults input) (read_faults after) (write_faults output) (write_faults out_now) (write_faults out_after) (length (so_far.bytes ++ piece))
             (omega (arith, most, so_far.count_is, size, length-append so_far.bytes piece)) (kept ∙ so_far.reads) so_far.writes cause;
@@ -176,13 +191,13 @@ module _ {S O : Type 0} (left : S → Option (List ℕ)) (taken read_faults : S 
       }
 
   -- the source came to its end
-  pub Ran-ended : (input now after : S) (output out_now out_after : O) (batch : Batch) (count : ℕ) (end : End)
-      → UnderWay left taken read_faults written write_faults input now output out_now batch count → count < max_input
+  pub Ran-ended : {K : Type 0} (input now after : S) (output out_now out_after : O) (first : Pace) (batch : Batch K) (last : Pace) (count : ℕ) (end : End)
+      → UnderWay left taken read_faults written write_faults input now output out_now first batch count → count < max_input
       → Consumes (left now) (left after) [] → taken after ≡ taken now + 0 → IsAtEnd (left now) → read_faults after ≡ read_faults now
-      → Finishes written batch out_now out_after end → NeverFalls (write_faults out_now) (write_faults out_after)
+      → Finishes written batch last out_now out_after end → NeverFalls (write_faults out_now) (write_faults out_after)
       → IsLastEnd (write_faults out_now) (write_faults out_after) end
-      → Ran left taken read_faults written write_faults input after output out_after end
-  Ran-ended input now after output out_now out_after batch count end so_far few consumed counted at_end kept finishes writes cause =
+      → Ran left taken read_faults written write_faults input after output out_after first last end
+  Ran-ended input now after output out_now out_after first batch last count end so_far few consumed counted at_end kept finishes writes cause =
       record {
         bytes = so_far.bytes;
         text = so_far.text ++ finishes.text;
@@ -192,7 +207,7 @@ module _ {S O : Type 0} (left : S → Option (List ℕ)) (taken read_faults : S 
         counted = omega (arith, so_far.counted, counted);
         wrote = Appends-trans (written output) (written out_now) (written out_after) so_far.text finishes.text so_far.wrote finishes.wrote;
         says =
-            finishes.says (left input) so_far.bytes so_far.text (consumed_all (left input) (left now) so_far.bytes so_far.took at_end)
+            finishes.says (left input) first so_far.bytes so_far.text (consumed_all (left input) (left now) so_far.bytes so_far.took at_end)
             so_far.stands so_far.nothing_waits;
         cause =
             HasCause-last end (read_faults input) (read_faults after) (write_faults output) (write_faults out_now) (write_faults out_after) (length so_far.bytes)
@@ -202,12 +217,12 @@ module _ {S O : Type 0} (left : S → Option (List ℕ)) (taken read_faults : S 
       }
 
   -- a piece was taken, and the replies to its lines written
-  pub UnderWay-piece : (input now after : S) (output out_now out_after : O) (old new : Batch) (count n : ℕ) (piece : List ℕ)
-      → UnderWay left taken read_faults written write_faults input now output out_now old count
+  pub UnderWay-piece : {K : Type 0} (input now after : S) (output out_now out_after : O) (first : Pace) (old new : Batch K) (count n : ℕ) (piece : List ℕ)
+      → UnderWay left taken read_faults written write_faults input now output out_now first old count
       → Consumes (left now) (left after) piece → taken after ≡ taken now + n → n ≡ length piece → read_faults after ≡ read_faults now
       → TakesPiece written old new piece out_now out_after → write_faults out_after ≡ write_faults out_now
-      → UnderWay left taken read_faults written write_faults input after output out_after new (count + n)
-  UnderWay-piece input now after output out_now out_after old new count n piece so_far consumed counted size reads takes writes =
+      → UnderWay left taken read_faults written write_faults input after output out_after first new (count + n)
+  UnderWay-piece input now after output out_now out_after first old new count n piece so_far consumed counted size reads takes writes =
       record {
         bytes = so_far.bytes ++ piece;
         text = so_far.text ++ takes.text;
@@ -215,7 +230,7 @@ module _ {S O : Type 0} (left : S → Option (List ℕ)) (taken read_faults : S 
         counted = omega (arith, so_far.counted, counted, size, length-append so_far.bytes piece);
         count_is = omega (arith, so_far.count_is, size, length-append so_far.bytes piece);
         wrote = Appends-trans (written output) (written out_now) (written out_after) so_far.text takes.text so_far.wrote takes.wrote;
-        stands = takes.stands so_far.bytes so_far.text so_far.stands;
+        stands = takes.stands first so_far.bytes so_far.text so_far.stands;
         nothing_waits = takes.nothing_waits;
         reads = reads ∙ so_far.reads;
         writes = writes ∙ so_far.writes;

@@ -2,5 +2,8 @@ pub mod PacedRuns
 pub mod Parts
 pub mod Runs
 pub mod Batches
-pub mod Words
+pub mod WordsLemmas
 pub mod Ends
+pub mod KeeperCalls
+pub mod Told
+pub mod FiledRuns

@@ -1,5 +1,5 @@
 -- How a run that keeps the pace goes on, and which lines make its steps.
-use Rattle.std.proofs.Common.{◌≡◌, ℕ, ◌⊎◌, false, List, [], ◌∷◌, ◌++◌, refl, ap, ◌∙◌, subst, inl, inr, Result, Ok, Err, IfOk}
+use Rattle.std.proofs.Common.{◌≡◌, ℕ, ◌⊎◌, false, List, [], ◌∷◌, ◌++◌, refl, sym, ap, ◌∙◌, subst, inl, inr, Result, Ok, Err, IfOk}
 use Rattle.stock_nums.specs.declared.memory.NoMemory as memory
 use Rattle.stock_model.specs.declared.answers.Answer.{Answer}
 use Rattle.stock_model.specs.declared.answers.Answer.TheVariants.{Told}
@@ -11,8 +11,9 @@ use Rattle.stock_model.specs.Run.{Run, IsAnswerTo}
 use Rattle.repost_worker.specs.Paces.{Pace}
 use Rattle.stock_cli.specs.Answers.{HasText}
 use Rattle.stock_cli.specs.OpenLines.{StandsForLine}
-use Rattle.stock_cli.specs.Paces.{state_of, KeepsPace, PacedStep, PacedRun}
+use Rattle.stock_cli.specs.Paces.{state_of, KeepsPace, CallsKeeper, PacedStep, PacedRun}
 use Rattle.stock_cli.specs.declared.open_line.OpenLine.{OpenLine}
+use Rattle.stock_cli.proofs.KeeperCalls.{calls-none}
 use Rattle.stock_cli.proofs.Runs.{fits, bad_memory}
 
 -- a run over more lines from where one ended
@@ -40,9 +41,9 @@ HasOneReading reads = (text : List ℕ) (a b : Result Request ReadFault) → rea
 module _ (reads : List ℕ → Result Request ReadFault → Type 0) (one : HasOneReading reads) (line : OpenLine) (whole : line.long ≡ false) (old : Pace) where
   -- a line that is a request, and is answered
   step-request : (request : Request) (answer : Answer) (new : Pace) (bytes : List ℕ) → bytes ≡ line.bytes.items → reads bytes (Ok request)
-      → IsAnswerTo old.history request answer new.history → KeepsPace old request new
+      → IsAnswerTo old.history request answer new.history → KeepsPace old request answer new → CallsKeeper old answer new
       → (text : List ℕ) → StandsForLine line text → PacedStep reads old text answer new
-  step-request request answer new bytes same read answers pace text stands =
+  step-request request answer new bytes same read answers pace calls text stands =
       let is : reads text (Ok request) = subst (λ (t : List ℕ). reads t (Ok request)) (same ∙ stands.whole whole) read in
       record {
         step = inr (fits text line.long stands.long whole, inl (request, is, answers));
@@ -50,15 +51,17 @@ module _ (reads : List ℕ → Result Request ReadFault → Type 0) (one : HasOn
             λ short other read_so.
             let found : Ok request ≡ Ok other = one text (Ok request) (Ok other) is read_so in
             let found_so : request ≡ other = cc found in
-            subst (λ (r : Request). KeepsPace old r new) found_so pace;
+            subst (λ (r : Request). KeepsPace old r answer new) found_so pace;
+        calls = calls;
       }
 
   pub PacedStep-request : (r : Result Answer memory.NoMemory) (request : Request) (new : Pace) (bytes : List ℕ) → bytes ≡ line.bytes.items
       → reads bytes (Ok request) → IfOk r (λ answer. IsAnswerTo old.history request answer new.history)
-      → IfOk r (λ _. KeepsPace old request new)
+      → IfOk r (λ answer. KeepsPace old request answer new) → IfOk r (λ answer. CallsKeeper old answer new)
       → IfOk r (λ answer. (text : List ℕ) → StandsForLine line text → PacedStep reads old text answer new)
-  PacedStep-request (Err e) request new bytes same read answers pace = tt
-  PacedStep-request (Ok answer) request new bytes same read answers pace = step-request request answer new bytes same read answers pace
+  PacedStep-request (Err e) request new bytes same read answers pace calls = tt
+  PacedStep-request (Ok answer) request new bytes same read answers pace calls =
+      step-request request answer new bytes same read answers pace calls
 
   -- a line that is none
   step-bad : (f : ReadFault) (answer : Answer) (bytes : List ℕ) → bytes ≡ line.bytes.items → reads bytes (Err f)
@@ -68,6 +71,7 @@ module _ (reads : List ℕ → Result Request ReadFault → Type 0) (one : HasOn
       record {
         step = inr (fits text line.long stands.long whole, inr (f, bad, is, refl));
         keeps = λ short other read_so. let found : Err f ≡ Ok other = one text (Err f) (Ok other) bad read_so in cc;
+        calls = subst (λ (a : Answer). CallsKeeper old a old) (sym is) (calls-none old (Told (Bad f) []) refl);
       }
 
   pub PacedStep-bad : (r : Result Answer memory.NoMemory) (f : ReadFault) (bytes : List ℕ) → bytes ≡ line.bytes.items

@@ -1,5 +1,5 @@
 -- How a run goes on, and which answers make its steps.
-use Rattle.std.proofs.Common.{◌≡◌, ℕ, ◌+◌, ◌≤◌, Bool, false, ltb, List, [], ◌∷◌, ◌++◌, length, refl, sym, ap, ◌∙◌, subst, length-append, arith, inl, inr, ◌⊎◌, None, Some, Result, Ok, Err, IfOk}
+use Rattle.std.proofs.Common.{◌≡◌, ℕ, ◌+◌, ◌≤◌, Bool, false, ltb, List, [], ◌∷◌, ◌++◌, length, refl, sym, ap, ◌∙◌, subst, length-append, arith, inl, inr, Option, None, Some, Result, Ok, Err, IfOk}
 use Rattle.std.proofs.lemmas.Bool.{ltb-false}
 use Rattle.stock_nums.specs.declared.numbers.RecordNo.{RecordNo}
 use Rattle.stock_model.specs.declared.records.Record.{Record}
@@ -7,7 +7,7 @@ use Rattle.stock_model.specs.declared.deeds.Deed.{Deed}
 use Rattle.stock_model.specs.declared.deeds.Deed.TheVariants.{Kept}
 use Rattle.stock_nums.specs.declared.memory.NoMemory as memory
 use Rattle.stock_model.specs.declared.faults.PostFault.{PostFault}
-use Rattle.stock_model.specs.declared.faults.PostFault.TheVariants.{NoMemory}
+use Rattle.stock_model.specs.declared.faults.PostFault.TheVariants.{CodeTaken, CodeShape, AccountRange, UnknownItem, UnknownStore, SameStore, UnknownTarget, LinkLater, RepeatedTarget, OverReturn, NoBasis, Full, Short, KeeperFailed, NoMemory}
 use Rattle.stock_model.specs.declared.requests.Request.TheVariants.{Post}
 use Rattle.stock_model.specs.declared.answers.Answer.{Answer}
 use Rattle.stock_model.specs.declared.answers.Answer.TheVariants.{Told}
@@ -18,12 +18,18 @@ use Rattle.stock_model.specs.declared.queries.Query.{Query}
 use Rattle.stock_model.specs.declared.queries.SelectFault.TheVariants as unmet
 use Rattle.stock_model.specs.Reports.{unmet_need, report_by}
 use Rattle.stock_model.specs.PostReplies.{refusal}
-use Rattle.stock_model.specs.Faults.{fault, fault_but_short}
+use Rattle.stock_model.specs.Faults.{fault}
 use Rattle.stock_model.specs.History.{records, accepted, covered}
 use Rattle.stock_model.specs.declared.read_faults.ReadFault.{ReadFault}
 use Rattle.stock_model.specs.declared.read_faults.ReadFault.TheVariants as read_fault
 use Rattle.stock_model.specs.Run.{max_line, IsAnswerTo, Settles, Works}
+use Rattle.stock_keeper.specs.Calls.{KeeperState}
+use Rattle.stock_keeper.specs.declared.fault.KeepFault.{KeepFault}
+use Rattle.stock_keeper.specs.declared.fault.KeepFault.TheVariants as keep_fault
+use Rattle.stock_keeper.specs.declared.fault.KeepFault.TheVariants.{Failed}
+use Rattle.generation_book.specs.Refusals.{IsRefusalOf}
 use Rattle.repost_worker.specs.Published.{Publishes}
+use Rattle.stock_cli.specs.Paces.{IsAfterTurns}
 use Rattle.stock_cli.specs.Answers.{HasText}
 use Rattle.stock_laws.proofs.Histories.{records-append}
 
@@ -33,26 +39,42 @@ pub IsAnswerTo-accepted : (old new : List Deed) (item : Record) (n : RecordNo) �
 IsAnswerTo-accepted old new item n desk sound kept is =
     let count : n.0 ≡ accepted old + 1 =
     is ∙ ap accepted kept ∙ ap length (records-append old (Kept item ∷ [])) ∙ omega (arith, length-append (records old) (item ∷ [])) in
-    (item, refl, record { desk = desk; answers = rw sound (ap (λ (k : ℕ). Told (Accepted (record { 0 = k })) []) count, kept) })
+    (item, refl, record { desk = desk; answers = rw sound (inl (ap (λ (k : ℕ). Told (Accepted (record { 0 = k })) []) count, kept)) })
 
 -- a record that was refused has that fault first, and nothing changed
 pub IsAnswerTo-refused : (old new : List Deed) (item : Record) (f : PostFault) → item.desk.0 ≡ 0 → fault (records old) item ≡ Some f
     → new ≡ old → IsAnswerTo old (Post item.what) (refusal (records old) f) new
 IsAnswerTo-refused old new item f desk is same = (item, refl, record { desk = desk; answers = rw is (refl, same) })
 
--- want of memory has no text
-no_text : (journal : List Record) (f : PostFault) (answer : Answer) → answer ≡ refusal journal f → HasText answer → f ≡ NoMemory → ⊥
-no_text journal f answer is told memory =
-    subst HasText (is ∙ ap (refusal journal) memory) told
+-- where a refusal is told, the record has that fault first, or what keeps the records failed; want of memory is not told
+pub IsAnswerTo-told : (old new : List Deed) (item : Record) (f : PostFault) → item.desk.0 ≡ 0 → IsRefusalOf (records old) item f → new ≡ old
+    → HasText (refusal (records old) f) → IsAnswerTo old (Post item.what) (refusal (records old) f) new
+IsAnswerTo-told old new item CodeTaken desk is same told = IsAnswerTo-refused old new item CodeTaken desk is same
+IsAnswerTo-told old new item CodeShape desk is same told = IsAnswerTo-refused old new item CodeShape desk is same
+IsAnswerTo-told old new item AccountRange desk is same told = IsAnswerTo-refused old new item AccountRange desk is same
+IsAnswerTo-told old new item (UnknownItem n) desk is same told = IsAnswerTo-refused old new item (UnknownItem n) desk is same
+IsAnswerTo-told old new item (UnknownStore n) desk is same told = IsAnswerTo-refused old new item (UnknownStore n) desk is same
+IsAnswerTo-told old new item (SameStore n) desk is same told = IsAnswerTo-refused old new item (SameStore n) desk is same
+IsAnswerTo-told old new item (UnknownTarget n) desk is same told = IsAnswerTo-refused old new item (UnknownTarget n) desk is same
+IsAnswerTo-told old new item (LinkLater n) desk is same told = IsAnswerTo-refused old new item (LinkLater n) desk is same
+IsAnswerTo-told old new item (RepeatedTarget n) desk is same told = IsAnswerTo-refused old new item (RepeatedTarget n) desk is same
+IsAnswerTo-told old new item (OverReturn n asked left) desk is same told = IsAnswerTo-refused old new item (OverReturn n asked left) desk is same
+IsAnswerTo-told old new item NoBasis desk is same told = IsAnswerTo-refused old new item NoBasis desk is same
+IsAnswerTo-told old new item (Full held entries) desk is same told = IsAnswerTo-refused old new item (Full held entries) desk is same
+IsAnswerTo-told old new item (Short place item' store lacking) desk is same told = IsAnswerTo-refused old new item (Short place item' store lacking) desk is same
+IsAnswerTo-told old new item KeeperFailed desk none same told =
+    (item, refl, record { desk = desk; answers = rw none (inr (refl, same)) })
+IsAnswerTo-told old new item NoMemory desk is same told = absurd told
 
--- where a refusal is told, it tells the first fault, since want of memory is not told
-pub IsAnswerTo-told : (old new : List Deed) (item : Record) (f : PostFault) (r : Result Answer memory.NoMemory) → item.desk.0 ≡ 0
-    → (f ≡ NoMemory) × (fault_but_short (records old) item ≡ None) ⊎ (fault (records old) item ≡ Some f) → new ≡ old → IfOk r (λ answer. answer ≡ refusal (records new) f) → IfOk r HasText
+-- so it is of any answer that is this refusal
+pub IsAnswerTo-refusal : (old new : List Deed) (item : Record) (f : PostFault) (r : Result Answer memory.NoMemory) → item.desk.0 ≡ 0
+    → IsRefusalOf (records old) item f → new ≡ old → IfOk r (λ answer. answer ≡ refusal (records new) f) → IfOk r HasText
     → IfOk r (λ answer. IsAnswerTo old (Post item.what) answer new)
-IsAnswerTo-told old new item f (Err e) desk first same is told = tt
-IsAnswerTo-told old new item f (Ok answer) desk (inl memory) same is told = absurd (no_text (records new) f answer is told memory.0)
-IsAnswerTo-told old new item f (Ok answer) desk (inr first) same is told =
-    subst (λ (a : Answer). IsAnswerTo old (Post item.what) a new) (sym (is ∙ ap (λ (history : List Deed). refusal (records history) f) same)) (IsAnswerTo-refused old new item f desk first same)
+IsAnswerTo-refusal old new item f (Err e) desk first same is told = tt
+IsAnswerTo-refusal old new item f (Ok answer) desk first same is told =
+    let is_so : answer ≡ refusal (records old) f = is ∙ ap (λ (history : List Deed). refusal (records history) f) same in
+    subst (λ (a : Answer). IsAnswerTo old (Post item.what) a new) (sym is_so)
+    (IsAnswerTo-told old new item f desk first same (subst HasText is_so told))
 
 -- a report whose need isn't met tells why
 pub report-pending : (n : Need) (history : List Deed) (query : Query) (c w : RecordNo) → unmet_need n ≡ Some (unmet.Pending c w) → report_by n history query ≡ Told (Pending c w) []
@@ -65,27 +87,34 @@ report-none need.Ready history query a w is = cc
 report-none (need.Pending covered wanted) history query a w is = cc
 report-none (need.NoSuchRecord accepted wanted) history query a w is = cc
 
--- turns after which all is covered settle
-pub Settles-published : (old new : List Deed) (n : RecordNo) → Publishes old new → covered new ≡ accepted new → n.0 ≡ covered new
-    → Settles old (Told (Settled n) []) new
-Settles-published old new n published all is =
+-- turns after which all is covered settle, unless what keeps the records failed
+pub Settles-made : (stopped : Option KeepFault) (old new : List Deed) (keeper keeper' : KeeperState) (n : RecordNo) (answer : Answer)
+    → Publishes stopped old keeper new keeper' → (stopped ≡ None → covered new ≡ accepted new) → n.0 ≡ covered new
+    → IsAfterTurns stopped (Settled n) answer → Settles old answer new
+Settles-made None old new keeper keeper' n answer published all is after =
     record {
-      more = published.0;
-      publications = published.1;
-      grows = published.2;
-      covers = all;
-      told = ap (λ (k : ℕ). Told (Settled (record { 0 = k })) []) (is ∙ all);
+      more = published.more;
+      publications = published.publications;
+      grows = published.grows;
+      told = inl (all refl, after ∙ ap (λ (k : ℕ). Told (Settled (record { 0 = k })) []) (is ∙ all refl));
     }
+Settles-made (Some Failed) old new keeper keeper' n answer published all is after =
+    record { more = published.more; publications = published.publications; grows = published.grows; told = inr after }
+Settles-made (Some keep_fault.NoMemory) old new keeper keeper' n answer published all is after = absurd after
 
--- turns are answered with how many records are covered
-pub Works-published : (old new : List Deed) (n : RecordNo) → Publishes old new → n.0 ≡ covered new → Works old (Told (Worked n) []) new
-Works-published old new n published is =
+-- turns are answered with how many records are covered, unless what keeps the records failed
+pub Works-made : (stopped : Option KeepFault) (old new : List Deed) (keeper keeper' : KeeperState) (n : RecordNo) (answer : Answer)
+    → Publishes stopped old keeper new keeper' → n.0 ≡ covered new → IsAfterTurns stopped (Worked n) answer → Works old answer new
+Works-made None old new keeper keeper' n answer published is after =
     record {
-      more = published.0;
-      publications = published.1;
-      grows = published.2;
-      told = ap (λ (k : ℕ). Told (Worked (record { 0 = k })) []) is;
+      more = published.more;
+      publications = published.publications;
+      grows = published.grows;
+      told = inl (after ∙ ap (λ (k : ℕ). Told (Worked (record { 0 = k })) []) is);
     }
+Works-made (Some Failed) old new keeper keeper' n answer published is after =
+    record { more = published.more; publications = published.publications; grows = published.grows; told = inr after }
+Works-made (Some keep_fault.NoMemory) old new keeper keeper' n answer published is after = absurd after
 
 -- a line that is not too long
 pub fits : (line : List ℕ) (long : Bool) → long ≡ ltb max_line (length line) → long ≡ false → length line ≤ max_line

@@ -3,30 +3,30 @@ use Rattle.std.specs.Prelude.{ℕ, ◌≡◌, List, All, ◌++◌}
 use Rattle.std.specs.List.{flat_map}
 use Rattle.stock_model.specs.declared.answers.Answer.{Answer}
 use Rattle.stock_model.specs.History.{IsLegal}
-use Rattle.repost_worker.specs.Paces.{first_pace}
+use Rattle.repost_worker.specs.Paces.{Pace}
 use Rattle.stock_cli.specs.Answers.{answer_line, ShowsKeptStock}
 use Rattle.stock_cli.specs.declared.batch.Batch.{Batch}
 use Rattle.stock_cli.specs.InputParts.{Parted}
 use Rattle.stock_cli.specs.OpenLines.{StandsForLine}
 use Rattle.stock_cli.specs.Replies.{PacedOver}
 
--- these bytes were taken and this text was written: the whole lines are answered, by what was written and by
--- what waits, and the open line stands for the rest
-pub record StandsFor (batch : Batch) (taken written : List ℕ) : Type 0 where
+-- from the first state of the book on these bytes were taken and this text was written: the whole lines are answered, by what was
+-- written and by what waits, and the open line stands for the rest
+pub record StandsFor {K : Type 0} (first : Pace) (batch : Batch K) (taken written : List ℕ) : Type 0 where
   pub whole : List (List ℕ)
   pub rest : List ℕ
   pub answers : List Answer
   pub parted : Parted taken whole rest
   pub under_way : StandsForLine batch.line rest
-  pub paced : PacedOver whole first_pace answers batch.book
+  pub paced : PacedOver whole first answers batch.book
   pub legal : IsLegal batch.book.history
   pub keeps : All ShowsKeptStock answers
   pub text_is : written ++ batch.waiting.items ≡ flat_map answer_line answers
 
 -- after these further bytes were taken, and nothing written
-abbrev pub GoesOn : Batch → List ℕ → Batch → Type 0
-GoesOn old piece new = (taken written : List ℕ) → StandsFor old taken written → StandsFor new (taken ++ piece) written
+abbrev pub GoesOn : {K : Type 0} → Batch K → List ℕ → Batch K → Type 0
+GoesOn old piece new = (first : Pace) (taken written : List ℕ) → StandsFor first old taken written → StandsFor first new (taken ++ piece) written
 
 -- after all that waited was written
-abbrev pub WritesOut : Batch → Batch → Type 0
-WritesOut old new = (taken written : List ℕ) → StandsFor old taken written → StandsFor new taken (written ++ old.waiting.items)
+abbrev pub WritesOut : {K : Type 0} → Batch K → Batch K → Type 0
+WritesOut old new = (first : Pace) (taken written : List ℕ) → StandsFor first old taken written → StandsFor first new taken (written ++ old.waiting.items)

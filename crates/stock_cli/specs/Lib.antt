@@ -6,3 +6,6 @@ pub mod Batches
 pub mod Statuses
 pub mod Ran
 pub mod Paces
+pub mod Damages
+pub mod Filed
+pub mod Words

@@ -8,7 +8,7 @@ use Rattle.stock_model.specs.declared.answers.Answer.{Answer}
 use Rattle.stock_model.specs.History.{IsLegal}
 use Rattle.stock_model.specs.InputLines.{is_asked}
 use Rattle.stock_model.specs.Run.{Run}
-use Rattle.repost_worker.specs.Paces.{Pace, first_pace}
+use Rattle.repost_worker.specs.Paces.{Pace}
 use Rattle.voucher_json.specs.Requests.{IsReadAs}
 use Rattle.stock_cli.specs.Answers.{answer_line, ShowsKeptStock}
 use Rattle.stock_cli.specs.Paces.{state_of, PacedRun}
@@ -22,13 +22,12 @@ RunsOver lines old answers new = Run (IsReadAs false) (state_of old) (filter is_
 abbrev pub PacedOver : List (List ℕ) → Pace → List Answer → Pace → Type 0
 PacedOver lines old answers new = PacedRun (IsReadAs false) old (filter is_asked lines) answers new
 
--- the text is that of the answers to these lines, from the empty book on, over one legal history; the worker keeps its pace;
--- and whatever a sheet shows, the ledger keeps the stock
-pub record Answered (lines : List (List ℕ)) (text : List ℕ) : Type 0 where
+-- the text is that of the answers to these lines, from the first state of the book to the last, over one legal history; the
+-- worker keeps its pace; and whatever a sheet shows, the ledger keeps the stock
+pub record Answered (first : Pace) (lines : List (List ℕ)) (text : List ℕ) (last : Pace) : Type 0 where
   pub answers : List Answer
-  pub last : Pace
-  pub run : RunsOver lines [] answers last.history
-  pub paced : PacedOver lines first_pace answers last
+  pub run : RunsOver lines first.history answers last.history
+  pub paced : PacedOver lines first answers last
   pub legal : IsLegal last.history
   pub keeps : All ShowsKeptStock answers
   pub text_is : text ≡ flat_map answer_line answers

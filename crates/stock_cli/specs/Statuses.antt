@@ -6,7 +6,9 @@ use Rattle.stock_io.specs.Counts.{Rose}
 use Rattle.stock_io.specs.Streams.{AppendsFront}
 use Rattle.stock_model.specs.InputLines.{lines_of, whole_lines_of}
 use Rattle.stock_cli.specs.declared.end.End.{End}
-use Rattle.stock_cli.specs.declared.end.End.TheVariants.{Done, NoMemory, ReadFailed, WriteFailed, TooLong}
+use Rattle.stock_cli.specs.declared.end.End.TheVariants.{Done, NoMemory, ReadFailed, WriteFailed, TooLong, StoreFailed, Damaged}
+use Rattle.repost_worker.specs.Paces.{Pace}
+use Rattle.stock_cli.specs.Damages.{damage_note}
 use Rattle.stock_cli.specs.Replies.{Answered}
 
 -- the words are exactly the one word `batch`
@@ -20,6 +22,8 @@ status_of NoMemory = 3
 status_of ReadFailed = 4
 status_of WriteFailed = 5
 status_of TooLong = 8
+status_of StoreFailed = 6
+status_of (Damaged damage) = 7
 
 -- the line that notes this end; a run that is done needs none
 abbrev pub note_text : End → List ℕ
@@ -28,6 +32,18 @@ note_text NoMemory = codes "stockd: memory\n"
 note_text ReadFailed = codes "stockd: read failed\n"
 note_text WriteFailed = codes "stockd: write failed\n"
 note_text TooLong = codes "stockd: input too long\n"
+note_text StoreFailed = codes "stockd: store failed\n"
+note_text (Damaged damage) = damage_note damage
+
+-- the end that is told: the same, or want of memory where a damage could not be noted for want of it
+abbrev pub IsToldAs : End → End → Type 0
+IsToldAs (Damaged damage) told = (told ≡ Damaged damage) ⊎ (told ≡ NoMemory)
+IsToldAs end told = told ≡ end
+
+-- the text is the line of this end, but for a damage
+abbrev pub IsNote : End → List ℕ → Type 0
+IsNote (Damaged damage) text = Unit {0}
+IsNote end text = text ≡ note_text end
 
 -- the line that notes other words
 abbrev pub usage_text : List ℕ
@@ -51,19 +67,24 @@ max_input = 2 ^ 32
 abbrev pub IsReadToEnd : Option (List ℕ) → List ℕ → Type 0
 IsReadToEnd left taken = IfSome left (λ all. taken ≡ all)
 
--- what is written in the end, of the bytes that were taken from what the source had left
-abbrev pub Says : End → Option (List ℕ) → List ℕ → List ℕ → Type 0
+-- what is written in the end, of the bytes that were taken from what the source had left, from the first state of the book to the
+-- last
+abbrev pub Says : End → Pace → Pace → Option (List ℕ) → List ℕ → List ℕ → Type 0
 -- the replies to all lines, a last one without a line feed included
-Says Done left taken text = IsReadToEnd left taken × Answered (lines_of taken) text
--- the replies to the whole lines of a front of them
-Says NoMemory left taken text = (front rest : List ℕ) × (front ++ rest ≡ taken) × Answered (whole_lines_of front) text
+Says Done first last left taken text = IsReadToEnd left taken × Answered first (lines_of taken) text last
+-- the replies to the whole lines of a front of them, after which the book may have gone on
+Says NoMemory first last left taken text =
+    (front rest : List ℕ) × (mid : Pace) × (front ++ rest ≡ taken) × Answered first (whole_lines_of front) text mid
 -- the replies to all whole lines
-Says ReadFailed left taken text = Answered (whole_lines_of taken) text
-Says TooLong left taken text = Answered (whole_lines_of taken) text
+Says ReadFailed first last left taken text = Answered first (whole_lines_of taken) text last
+Says TooLong first last left taken text = Answered first (whole_lines_of taken) text last
 -- a front of the replies to all whole lines, or at the end of the source to all lines
-Says WriteFailed left taken text =
-    (rest : List ℕ) × (Answered (whole_lines_of taken) (text ++ rest)
-    ⊎ (IsReadToEnd left taken × Answered (lines_of taken) (text ++ rest)))
+Says WriteFailed first last left taken text =
+    (rest : List ℕ) × (Answered first (whole_lines_of taken) (text ++ rest) last
+    ⊎ (IsReadToEnd left taken × Answered first (lines_of taken) (text ++ rest) last))
+-- these come before the first read
+Says StoreFailed first last left taken text = ⊥
+Says (Damaged damage) first last left taken text = ⊥
 
 -- Each end comes only with its cause, and the first fault ends a run: no other end has a count that rose.
 abbrev pub HasCause : End → ℕ → ℕ → ℕ → ℕ → ℕ → Type 0
@@ -77,3 +98,5 @@ HasCause WriteFailed read_before read_after write_before write_after taken =
     (taken ≤ max_input) × (read_after ≡ read_before) × Rose write_before write_after
 HasCause TooLong read_before read_after write_before write_after taken =
     (taken ≡ max_input) × (read_after ≡ read_before) × (write_after ≡ write_before)
+HasCause StoreFailed read_before read_after write_before write_after taken = ⊥
+HasCause (Damaged damage) read_before read_after write_before write_after taken = ⊥

@@ -1,20 +1,23 @@
 //! The answer to a request, over the book.
-ghost use Rattle.std.specs.Prelude.{◌≡◌, ◌<◌, ℕ, List, [], IfOk, OnErr, IsTrue, false};
+ghost use Rattle.std.specs.Prelude.{◌≡◌, ◌<◌, ℕ, List, [], Some, IfOk, OnErr, IsTrue, false};
 ghost use Rattle.stock_model.specs.Limits.{is_within_limits};
 ghost use Rattle.stock_model.specs.declared.replies.Reply.TheVariants as reply;
 ghost use Rattle.stock_model.specs.History.{IsLegal};
 ghost use Rattle.stock_model.specs.Run.{IsAnswerTo};
 ghost use Rattle.repost_worker.specs.Paces.{IsSamePace};
-ghost use Rattle.repost_worker.specs.Published.{Publishes};
+ghost use Rattle.stock_keeper.specs.declared.fault.KeepFault.TheVariants as keep_fault;
 ghost use Rattle.voucher_json.specs.Requests.{IsReadAs, IsWithinLimits};
+ghost use Rattle.voucher_json.specs.ReplyText.{IsPrinted};
 ghost use Rattle.stock_cli.specs.Answers.{HasText, ShowsKeptStock};
 ghost use Rattle.stock_cli.specs.OpenLines.{StandsForLine};
-ghost use Rattle.stock_cli.specs.Paces.{KeepsPace, PacedStep};
+ghost use Rattle.stock_cli.specs.Paces.{KeepsPace, CallsKeeper, IsStopped, IsAfterTurns, PacedStep};
 
 use crate::open_line::OpenLine;
 use crate::refusing::{bad, refused, told};
 use repost_worker::revalued_book::RevaluedBook;
 use std::alloc::Global;
+use stock_keeper::fault::KeepFault;
+use stock_keeper::keeper::Keeper;
 use stock_laws::selected_laws::the_ledger_keeps_the_stock;
 use stock_model::answers::Answer;
 use stock_model::queries::{Query, SelectFault};
@@ -32,16 +35,16 @@ use voucher_json::reading::{read_request, requests_have_one_reading};
 /// # Errors
 ///
 /// `NoMemory`: no record was accepted. What turns had published by then stands.
-pub fn answer_to(
+pub fn answer_to<K: Keeper>(
     alloc: Global,
-    book: &mut RevaluedBook,
+    book: &mut RevaluedBook<K>,
     line: &OpenLine,
 ) -> Result<Answer, NoMemory>
     ensures step { IfOk result (λ answer. (text : List ℕ) → StandsForLine line.now text → PacedStep (IsReadAs false) book.old text answer book.new) }
     ensures text { IfOk result HasText }
     ensures keeps { IfOk result ShowsKeptStock }
     ensures legal { IfOk result (λ _. IsLegal book.old.history → IsLegal book.new.history) }
-    ensures grows { OnErr result (Publishes book.old.history book.new.history) }
+    ensures stopped { OnErr result (IsStopped book.old book.new) }
     ensures long { IsTrue line.now.long → result ≡ Ok (Answer.Told reply.Long []) }
 {
     requests_have_one_reading();
@@ -54,14 +57,15 @@ pub fn answer_to(
     }
 }
 
-fn answer(alloc: Global, book: &mut RevaluedBook, request: Request) -> Result<Answer, NoMemory>
+fn answer<K: Keeper>(alloc: Global, book: &mut RevaluedBook<K>, request: Request) -> Result<Answer, NoMemory>
     requires { IsWithinLimits request }
     ensures answers { IfOk result (λ answer. IsAnswerTo book.old.history request answer book.new.history) }
-    ensures pace { IfOk result (λ _. KeepsPace book.old request book.new) }
+    ensures pace { IfOk result (λ answer. KeepsPace book.old request answer book.new) }
+    ensures calls { IfOk result (λ answer. CallsKeeper book.old answer book.new) }
     ensures text { IfOk result HasText }
     ensures keeps { IfOk result ShowsKeptStock }
     ensures legal { IfOk result (λ _. IsLegal book.old.history → IsLegal book.new.history) }
-    ensures grows { OnErr result (Publishes book.old.history book.new.history) }
+    ensures stopped { OnErr result (IsStopped book.old book.new) }
 {
     match request {
         Request::Post(what) => post(alloc, book, what),
@@ -71,14 +75,15 @@ fn answer(alloc: Global, book: &mut RevaluedBook, request: Request) -> Result<An
     }
 }
 
-fn post(alloc: Global, book: &mut RevaluedBook, what: What) -> Result<Answer, NoMemory>
+fn post<K: Keeper>(alloc: Global, book: &mut RevaluedBook<K>, what: What) -> Result<Answer, NoMemory>
     requires { IsTrue (is_within_limits what) }
     ensures answers { IfOk result (λ answer. IsAnswerTo book.old.history (Request.Post what) answer book.new.history) }
     ensures pace { IsSamePace book.old book.new }
+    ensures calls { IfOk result (λ answer. CallsKeeper book.old answer book.new) }
     ensures text { IfOk result HasText }
     ensures keeps { IfOk result ShowsKeptStock }
     ensures legal { IfOk result (λ _. IsLegal book.old.history → IsLegal book.new.history) }
-    ensures unchanged { OnErr result (book.new ≡ book.old) }
+    ensures stopped { OnErr result (IsStopped book.old book.new) }
 {
     let item = Record {
         desk: DeskNo(0),
@@ -91,33 +96,53 @@ fn post(alloc: Global, book: &mut RevaluedBook, what: What) -> Result<Answer, No
 }
 
 /// Makes so many turns.
-fn work(alloc: Global, book: &mut RevaluedBook, turns: u32) -> Result<Answer, NoMemory>
+fn work<K: Keeper>(alloc: Global, book: &mut RevaluedBook<K>, turns: u32) -> Result<Answer, NoMemory>
     requires { 0 < turns }
     ensures answers { IfOk result (λ answer. IsAnswerTo book.old.history (Request.Work turns) answer book.new.history) }
-    ensures pace { IfOk result (λ _. KeepsPace book.old (Request.Work turns) book.new) }
+    ensures pace { IfOk result (λ answer. KeepsPace book.old (Request.Work turns) answer book.new) }
+    ensures calls { IfOk result (λ answer. CallsKeeper book.old answer book.new) }
     ensures text { IfOk result HasText }
     ensures keeps { IfOk result ShowsKeptStock }
     ensures legal { IfOk result (λ _. IsLegal book.old.history → IsLegal book.new.history) }
-    ensures grows { Publishes book.old.history book.new.history }
+    ensures stopped { OnErr result (IsStopped book.old book.new) }
 {
-    let covered = book.work(alloc, Some(turns))?;
-    Ok(told(alloc, Reply::Worked(covered)))
+    let ran = book.work(alloc, Some(turns));
+    after_turns(alloc, ran.stopped, Reply::Worked(ran.covered))
 }
 
 /// Makes all turns that there are.
-fn settle(alloc: Global, book: &mut RevaluedBook) -> Result<Answer, NoMemory>
+fn settle<K: Keeper>(alloc: Global, book: &mut RevaluedBook<K>) -> Result<Answer, NoMemory>
     ensures answers { IfOk result (λ answer. IsAnswerTo book.old.history Request.Settle answer book.new.history) }
-    ensures pace { IfOk result (λ _. KeepsPace book.old Request.Settle book.new) }
+    ensures pace { IfOk result (λ answer. KeepsPace book.old Request.Settle answer book.new) }
+    ensures calls { IfOk result (λ answer. CallsKeeper book.old answer book.new) }
     ensures text { IfOk result HasText }
     ensures keeps { IfOk result ShowsKeptStock }
     ensures legal { IfOk result (λ _. IsLegal book.old.history → IsLegal book.new.history) }
-    ensures grows { Publishes book.old.history book.new.history }
+    ensures stopped { OnErr result (IsStopped book.old book.new) }
 {
-    let covered = book.work(alloc, None)?;
-    Ok(told(alloc, Reply::Settled(covered)))
+    let ran = book.work(alloc, None);
+    after_turns(alloc, ran.stopped, Reply::Settled(ran.covered))
 }
 
-fn report(alloc: Global, book: &RevaluedBook, query: Query) -> Result<Answer, NoMemory>
+/// The answer after turns: the reply, or that the store failed at the last of them.
+///
+/// # Errors
+///
+/// `NoMemory` where the last of them was refused for that.
+fn after_turns(alloc: Global, stopped: Option<KeepFault>, reply: Reply) -> Result<Answer, NoMemory>
+    requires { IsPrinted reply }
+    ensures answer { IfOk result (IsAfterTurns stopped reply) }
+    ensures text { IfOk result HasText }
+    ensures memory { OnErr result (stopped ≡ Some keep_fault.NoMemory) }
+{
+    match stopped {
+        None => Ok(told(alloc, reply)),
+        Some(KeepFault::Failed) => Ok(told(alloc, Reply::StoreFailed)),
+        Some(KeepFault::NoMemory) => Err(NoMemory),
+    }
+}
+
+fn report<K: Keeper>(alloc: Global, book: &RevaluedBook<K>, query: Query) -> Result<Answer, NoMemory>
     ensures answers { IfOk result (λ answer. IsAnswerTo book.now.history (Request.Report query) answer book.now.history) }
     ensures text { IfOk result HasText }
     ensures keeps { IfOk result ShowsKeptStock }

@@ -6,36 +6,40 @@ use crate::split::split_line;
 use crate::waiting::append_answer;
 use repost_worker::revalued_book::RevaluedBook;
 use std::alloc::Global;
+use stock_keeper::keeper::Keeper;
 use stock_io::failed::Failed;
 use stock_io::sink::{Sink, write_all};
 use stock_nums::memory::NoMemory;
 
 /// A batch under way: the book, the line under way, and the replies that wait to be written.
 #[derive(Drop)]
-pub struct Batch {
-    pub book: RevaluedBook,
+pub struct Batch<K: Keeper> {
+    pub book: RevaluedBook<K>,
     pub line: OpenLine,
     pub waiting: Vec<u8>,
 }
 
-impl Batch {
+impl<K: Keeper> Batch<K> {
     ghost use Rattle.std.specs.Prelude.{◌≡◌, ℕ, List, [], ◌∷◌, ◌++◌, IsOk, IsTrue, OnOk, OnErr};
     ghost use Rattle.std.specs.Io.KnownBytes.{Appends};
     ghost use Rattle.stock_io.specs.Counts.{Rose, NeverFalls};
     ghost use Rattle.stock_io.specs.Streams.{AppendsFront};
     ghost use Rattle.stock_model.specs.InputLines.{lines_of};
     ghost use Rattle.stock_model.specs.History.{IsLegal};
+    ghost use Rattle.repost_worker.specs.Paces.{Pace};
     ghost use Rattle.stock_cli.specs.OpenLines.{StandsForLine};
     ghost use Rattle.stock_cli.specs.Replies.{Answered, AnswersLine};
     ghost use Rattle.stock_cli.specs.Batches.{StandsFor, GoesOn, WritesOut};
 
-    /// The batch before its first byte: an empty book and no line. It takes no memory.
-    pub fn start(alloc: Global) -> Batch
-        ensures stands { StandsFor result [] [] }
+    /// The batch before its first byte: a book and no line. It takes no memory.
+    pub fn new(alloc: Global, book: RevaluedBook<K>) -> Batch<K>
+        requires { IsLegal book.history }
+        ensures book { result.book ≡ book }
+        ensures stands { StandsFor book result [] [] }
         ensures nothing_waits { result.waiting.items ≡ [] }
     {
         Batch {
-            book: RevaluedBook::start(alloc),
+            book,
             line: OpenLine::new(alloc),
             waiting: Vec::new(alloc),
         }
@@ -65,7 +69,8 @@ impl Batch {
     ///
     /// `NoMemory`, and not where that line is blank: the batch stands for nothing then.
     pub fn end_input(&mut self, alloc: Global) -> Result<(), NoMemory>
-        ensures answered { OnOk result ((taken written : List ℕ) → StandsFor self.old taken written → Answered (lines_of taken) (written ++ self.new.waiting.items)) }
+        ensures answered { OnOk result ((first : Pace) (taken written : List ℕ) → StandsFor first self.old taken written
+            → Answered first (lines_of taken) (written ++ self.new.waiting.items) self.new.book) }
         ensures blank { IsTrue self.old.line.blank → IsOk result }
     {
         self.answer_line(alloc)
@@ -80,6 +85,7 @@ impl Batch {
         ensures stands { OnOk result (WritesOut self.old self.new) }
         ensures nothing_waits { OnOk result (self.new.waiting.items ≡ []) }
         ensures written { OnOk result (Appends (O.written output.old) (O.written output.new) self.old.waiting.items) }
+        ensures book { self.new.book ≡ self.old.book }
         ensures faults_kept { OnOk result (O.faults output.new ≡ O.faults output.old) }
         ensures front { OnErr result (AppendsFront (O.written output.old) (O.written output.new) self.old.waiting.items) }
         ensures never_falls { NeverFalls (O.faults output.old) (O.faults output.new) }
@@ -110,5 +116,17 @@ impl Batch {
         }
         let answer = answer_to(alloc, &mut self.book, &self.line)?;
         append_answer(alloc, &mut self.waiting, &answer)
+    }
+
+    /// The book, for good.
+    pub fn into_book(self) -> RevaluedBook<K>
+        ensures { result ≡ self.book }
+    {
+        let Batch {
+            book,
+            line: _,
+            waiting: _,
+        } = self;
+        book
     }
 }

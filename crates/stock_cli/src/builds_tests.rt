@@ -5,7 +5,7 @@ use generation_book::book::Book;
 use repost_worker::revalued_book::RevaluedBook;
 use std::alloc::Global;
 use std::test::Fail;
-use stock_model::queries::{Format, Query, Sheet};
+use stock_keeper::nowhere::Nowhere;
 use stock_model::records::Record;
 use stock_model::requests::Request;
 use stock_nums::entry::Row;
@@ -89,8 +89,8 @@ struct Counts {
 /// A book that is revalued turn by turn, and one that is replayed.
 #[derive(Drop)]
 struct Books {
-    revalued: RevaluedBook,
-    plain: Book,
+    revalued: RevaluedBook<Nowhere>,
+    plain: Book<Nowhere>,
     counts: Counts,
 }
 
@@ -141,42 +141,27 @@ fn post(alloc: Global, books: &mut Books, line: &str) {
     books.counts.last = 0;
 }
 
-/// All rows of the generation.
-fn rows(alloc: Global, book: &Book) -> Result<Lines<Row>, Fail> {
-    let query = Query {
-        sheet: Sheet::Ledger,
-        need: RecordNo(0),
-        until: None,
-        item: None,
-        store: None,
-        format: Format::Json,
-    };
-    let selected = book.select(alloc, &query)?;
-    Ok(selected.rows)
-}
-
-/// A book of the first records, settled at once.
-fn replayed(alloc: Global, book: &Book, count: RecordNo) -> Result<Book, Fail> {
+/// The plain replay of the first records.
+fn replayed(alloc: Global, book: &Book<Nowhere>, count: RecordNo) -> Result<Lines<Row>, Fail> {
     let mut plain = Book::start(alloc);
     for index in 0..count.0 {
         if let Some(record) = book.at(RecordNo(index + 1)) {
             plain.post(alloc, record.copy(alloc)?)?;
         }
     }
-    plain.settle_all(alloc)?;
-    Ok(plain)
+    Ok(plain.replayed(alloc)?)
 }
 
 /// Whether the generation is the plain replay of the records that it covers.
-fn is_replay(alloc: Global, book: &Book) -> Result<bool, Fail> {
-    let plain = replayed(alloc, book, book.covered())?;
-    Ok(rows(alloc, book)?.as_slice() == rows(alloc, &plain)?.as_slice())
+fn is_replay(alloc: Global, book: &Book<Nowhere>) -> Result<bool, Fail> {
+    let replay = replayed(alloc, book, book.covered())?;
+    Ok(book.rows() == replay.as_slice())
 }
 
 /// Makes a turn, and compares what it publishes.
 fn turn(alloc: Global, books: &mut Books) -> Result<(), Fail> {
     let before = books.revalued.book().covered();
-    let after = books.revalued.work(alloc, Some(1))?;
+    let after = books.revalued.work(alloc, Some(1)).covered;
     books.counts.turns = counted(books.counts.turns, true);
     books.counts.last = counted(books.counts.last, true);
     if before != after {
@@ -187,7 +172,7 @@ fn turn(alloc: Global, books: &mut Books) -> Result<(), Fail> {
     Ok(())
 }
 
-fn is_behind(book: &Book) -> bool {
+fn is_behind(book: &Book<Nowhere>) -> bool {
     book.covered() < book.accepted()
 }
 
@@ -203,12 +188,12 @@ fn turns(alloc: Global, books: &mut Books, most: u64) -> Result<(), Fail> {
 
 /// Makes the turns that are left, as many as are enough, and compares with the plain book.
 fn finish(alloc: Global, books: &mut Books) -> Result<(), Fail> {
-    books.counts.accepted = u64::from(books.plain.settle_all(alloc)?.0);
-    let replay = rows(alloc, &books.plain)?;
+    books.counts.accepted = u64::from(books.plain.accepted().0);
+    let replay = books.plain.replayed(alloc)?;
     books.counts.movements = replay.len() as u64;
     books.counts.bound = books.counts.movements.saturating_mul(2).saturating_add(4);
     turns(alloc, books, books.counts.bound)?;
-    let same = rows(alloc, books.revalued.book())?.as_slice() == replay.as_slice();
+    let same = books.revalued.book().rows() == replay.as_slice();
     let wrong = !same || is_behind(books.revalued.book());
     books.counts.wrong = counted(books.counts.wrong, wrong);
     Ok(())

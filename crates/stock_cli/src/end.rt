@@ -1,4 +1,6 @@
 //! The ends of a run. Each has a status and a note of its own, in `top`.
+use crate::damage::Damage;
+
 /// How a run ends: at the end of its input, or before.
 #[derive(Clone, Copy, Debug, PartialEq, Eq)]
 pub enum End {
@@ -12,4 +14,8 @@ pub enum End {
     WriteFailed,
     /// 2^32 bytes of input were taken. The whole lines among them were answered.
     TooLong,
+    /// The ledger's file could not be opened or loaded. Nothing was taken or written.
+    StoreFailed,
+    /// What the file holds is none of a ledger. Nothing was taken or written.
+    Damaged(Damage),
 }

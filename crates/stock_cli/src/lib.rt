@@ -6,7 +6,11 @@ pub mod batch;
 mod blank;
 #[cfg(test)]
 mod builds_tests;
+pub mod damage;
 pub mod end;
+#[cfg(test)]
+mod file_tests;
+mod filed;
 pub mod open_line;
 mod refusing;
 mod split;
@@ -14,3 +18,4 @@ mod split;
 mod tests;
 pub mod top;
 mod waiting;
+mod words;

@@ -7,6 +7,7 @@ ghost use Rattle.stock_cli.specs.Replies.{TellsCodes};
 
 use generation_book::book::Book;
 use std::alloc::Global;
+use stock_keeper::keeper::Keeper;
 use stock_model::answers::Answer;
 use stock_model::faults::PostFault;
 use stock_model::masters::head_made;
@@ -33,7 +34,7 @@ pub fn told(alloc: Global, reply: Reply) -> Answer
 /// # Errors
 ///
 /// `NoMemory` where the fault is that, which is not told, or where the codes of a shortage want memory.
-pub fn refused(alloc: Global, book: &Book, fault: PostFault) -> Result<Answer, NoMemory>
+pub fn refused<K: Keeper>(alloc: Global, book: &Book<K>, fault: PostFault) -> Result<Answer, NoMemory>
     ensures answer { IfOk result (λ answer. answer ≡ refusal (records book.now.history) fault) }
     ensures text { IfOk result HasText }
     ensures memory { OnErr result ((fault ≡ PostFault.NoMemory) ⊎ TellsCodes fault) }
@@ -49,7 +50,7 @@ pub fn refused(alloc: Global, book: &Book, fault: PostFault) -> Result<Answer, N
 }
 
 /// The item and the warehouse that a fault names. Only a shortage names any, and takes memory.
-fn heads_named(alloc: Global, book: &Book, fault: PostFault) -> Result<Lines<Head>, NoMemory>
+fn heads_named<K: Keeper>(alloc: Global, book: &Book<K>, fault: PostFault) -> Result<Lines<Head>, NoMemory>
     ensures heads { IfOk result (λ heads. heads ≡ filter_map (head_at (records book.now.history)) (named fault)) }
     ensures memory { OnErr result (TellsCodes fault) }
 {
@@ -68,9 +69,9 @@ fn heads_named(alloc: Global, book: &Book, fault: PostFault) -> Result<Lines<Hea
 }
 
 /// Adds the item or warehouse with this number, if there is one.
-fn push_head(
+fn push_head<K: Keeper>(
     alloc: Global,
-    book: &Book,
+    book: &Book<K>,
     number: u32,
     heads: &mut Lines<Head>,
 ) -> Result<(), NoMemory>

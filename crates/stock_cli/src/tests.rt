@@ -4,6 +4,8 @@ use std::process::Abort;
 use std::test::Fail;
 use stock_io::memory_sink::MemSink;
 use stock_io::memory_source::MemSource;
+use stock_keeper::memory_keeper::MemKeeper;
+use stock_keeper::memory_shelf::MemShelf;
 use stock_nums::lines::Lines;
 use stock_nums::memory::NoMemory;
 
@@ -161,6 +163,11 @@ const LIMITED: &str = r#"{"record":1,"status":"accepted"}
 /// The most bytes that a test writes.
 const ROOM: usize = 2000;
 
+/// A shelf with a new keeper.
+fn shelf(alloc: Global) -> MemShelf {
+    MemShelf::new(MemKeeper::new(alloc), Lines::new(alloc))
+}
+
 /// A sink of which the call with this number fails, from 1, or none.
 fn sink(alloc: Global, failing: Option<u64>) -> Result<MemSink, NoMemory> {
     MemSink::new(alloc, ROOM, calls(alloc, failing)?)
@@ -183,7 +190,14 @@ fn check(rt: &impl Abort, alloc: Global, input: &[u8], want: &str) -> Result<(),
     let mut input = MemSource::new(bytes, 50_000, Lines::new(alloc));
     let mut output = sink(alloc, None)?;
     let mut notes = sink(alloc, None)?;
-    let status = top::stockd(alloc, words.as_slice(), &mut input, &mut output, &mut notes);
+    let status = top::stockd(
+        alloc,
+        words.as_slice(),
+        &mut shelf(alloc),
+        &mut input,
+        &mut output,
+        &mut notes,
+    );
     assert_eq!(rt; status, 0);
     assert!(rt; output.bytes() == want.as_bytes());
     Ok(())
@@ -234,7 +248,14 @@ fn run_failing(alloc: Global, failing: Failing) -> Result<Ended, NoMemory> {
     let mut input = MemSource::new(Lines::from_vec(bytes), piece, calls(alloc, failing.read)?);
     let mut output = sink(alloc, failing.write)?;
     let mut notes = sink(alloc, failing.note)?;
-    let status = top::stockd(alloc, words.as_slice(), &mut input, &mut output, &mut notes);
+    let status = top::stockd(
+        alloc,
+        words.as_slice(),
+        &mut shelf(alloc),
+        &mut input,
+        &mut output,
+        &mut notes,
+    );
     Ok(Ended {
         status,
         output,

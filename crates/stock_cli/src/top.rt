@@ -1,23 +1,32 @@
 //! The top call: what the words ask for, over an input, an output and notes.
-ghost use Rattle.std.specs.Prelude.{◌≡◌, ◌+◌, ◌^◌, ◌<◌, ◌≤◌, ◌⊎◌, ◌↔◌, ℕ, List, [], ◌∷◌, Contains, length, OnOk, OnErr, IfErr, IsTrue};
+ghost use Rattle.std.specs.Prelude.{◌≡◌, ◌≢◌, ◌+◌, ◌^◌, ◌<◌, ◌≤◌, ◌⊎◌, ◌↔◌, ℕ, List, [], ◌∷◌, Contains, length, OnOk, OnErr, IfErr, IsTrue};
 ghost use Rattle.stock_io.specs.Counts.{NeverFalls};
+ghost use Rattle.repost_worker.specs.Paces.{Pace, first_pace};
 ghost use Rattle.stock_cli.specs.declared.end.End.{End};
 ghost use Rattle.stock_cli.specs.Batches.{StandsFor};
-ghost use Rattle.stock_cli.specs.Statuses.{IsBatch, status_of, note_text, usage_text, WritesOrFails, CountsNoFault, max_input};
+ghost use Rattle.stock_cli.specs.Statuses.{IsBatch, status_of, note_text, usage_text, IsToldAs, IsNote, WritesOrFails, CountsNoFault, max_input};
+ghost use Rattle.stock_cli.specs.Filed.{RunsOverShelf};
+ghost use Rattle.stock_cli.specs.Words.{IsBatchOver};
 ghost use Rattle.stock_cli.specs.Ran.{Ran, TakesPiece, Stops, Finishes, IsOutputEnd, IsLastEnd};
 
 use crate::batch::Batch;
+use crate::damage::{Damage, damage_note};
 use crate::end::End;
+use crate::filed::run_over;
+use crate::words::{Asked, asked_by};
 use generation_book::book::Book;
+use repost_worker::revalued_book::RevaluedBook;
 use std::alloc::Global;
 use stock_io::sink::{Sink, write_all};
 use stock_io::source::Source;
+use stock_keeper::keeper::Keeper;
+use stock_keeper::shelf::Shelf;
 
 /// The most bytes of input that a run takes.
 const MAX_INPUT: u64 = 1 << 32;
 
 /// The most bytes that a read takes.
-const BUFFER: usize = 65_536;
+pub(crate) const BUFFER: usize = 65_536;
 
 /// With so many records a report may be long.
 const MANY_RECORDS: u32 = 100;
@@ -29,25 +38,36 @@ const SHORT_READ: usize = 512;
 const USAGE: &str =
     "stockd: words: batch [--file P] | serve --file P --port N --desks D | load N\n";
 
-/// Does what the words ask for, and answers the status: 0, 2, 3, 4, 5 or 8. `batch` answers the lines of
-/// the input on the output, and ends at the first fault of either. Other words have status 2. A status
-/// other than 0 is told by a line of the notes, whose own faults change no status.
-pub fn stockd<S: Source, O: Sink, N: Sink>(
+/// What is noted where memory is wanting.
+const MEMORY: &str = "stockd: memory\n";
+
+/// Does what the words ask for, and answers the status: 0, 2, 3, 4, 5, 6, 7 or 8. `batch` answers the lines of
+/// the input on the output, and ends at the first fault of either; with a file over the ledger that the shelf has there, and
+/// else over a new one that is kept nowhere. Other words have status 2. A status other than 0 is told by a line of the notes,
+/// whose own faults change no status.
+pub fn stockd<H: Shelf, S: Source, O: Sink, N: Sink>(
     alloc: Global,
     words: &[String],
+    shelf: &mut H,
     input: &mut S,
     output: &mut O,
     notes: &mut N,
 ) -> u8
     // The words are no batch exactly where the status is 2. Then nothing is taken or written, and the usage is noted.
-    ensures words { (result ≡ 2) ↔ (IsBatch words.now → ⊥) }
+    ensures words { (result ≡ 2) ↔ ((IsBatch words.now → ⊥) × ((path : List ℕ) → IsBatchOver words.now path → ⊥)) }
     ensures nothing_taken { result ≡ 2 → input.new ≡ input.old }
     ensures nothing_written { result ≡ 2 → output.new ≡ output.old }
+    ensures nothing_opened { (result ≡ 2) ⊎ IsBatch words.now → shelf.new ≡ shelf.old }
     ensures usage { result ≡ 2 → WritesOrFails N.written N.faults notes.old notes.new usage_text }
 
     // A batch ends in one of five ways, each with its status: what was read and written then, and why.
     ensures run { IsBatch words.now → (end : End) × (result ≡ status_of end)
-        × Ran S.left S.taken S.faults O.written O.faults input.old input.new output.old output.new end }
+        × (last : Pace) × Ran S.left S.taken S.faults O.written O.faults input.old input.new output.old output.new first_pace last end }
+
+    // So does one over a file that was opened, and its ledger is that of the run; or it could not be opened, and why.
+    ensures over { (path : List ℕ) → IsBatchOver words.now path → (end : End) × (result ≡ status_of end)
+        × RunsOverShelf H.Kept.tells H.tells H.plan H.faults H.kept_faults S.left S.taken S.faults O.written O.faults
+            shelf.old shelf.new input.old input.new output.old output.new end }
 
     // Without a fault, and with fewer bytes than are too many, only want of memory keeps it from being done.
     ensures complete { IsBatch words.now
@@ -57,18 +77,25 @@ pub fn stockd<S: Source, O: Sink, N: Sink>(
         → (result ≡ 0) ⊎ (result ≡ 3) }
 
     // The line of the status is noted, or a front of it where the notes fail. Status 0 has none.
-    ensures noted { IsBatch words.now → (end : End) × (result ≡ status_of end)
+    ensures noted { (result ≡ 2 → ⊥) → (end : End) × (result ≡ status_of end)
         × WritesOrFails N.written N.faults notes.old notes.new (note_text end) }
     ensures silent { result ≡ 0 → notes.new ≡ notes.old }
     ensures notes_never_fall { NeverFalls (N.faults notes.old) (N.faults notes.new) }
 {
-    if !is_batch(words) {
-        note(notes, USAGE);
-        return 2;
+    match asked_by(words) {
+        Some(Asked::Batch) => {
+            let end = run(alloc, input, output);
+            tell(alloc, notes, end)
+        }
+        Some(Asked::BatchOver(path)) => {
+            let end = run_over(alloc, shelf, path, input, output);
+            tell(alloc, notes, end)
+        }
+        None => {
+            note(notes, USAGE.as_bytes());
+            2
+        }
     }
-    let end = run(alloc, input, output);
-    tell(notes, end);
-    status_of(end)
 }
 
 /// Notes that memory was wanting before the words were known, and answers the status of that, 3.
@@ -77,48 +104,61 @@ pub fn without_memory<N: Sink>(notes: &mut N) -> u8
     ensures noted { WritesOrFails N.written N.faults notes.old notes.new (note_text End.NoMemory) }
     ensures never_falls { NeverFalls (N.faults notes.old) (N.faults notes.new) }
 {
-    tell(notes, End::NoMemory);
+    note(notes, MEMORY.as_bytes());
     status_of(End::NoMemory)
 }
 
-fn is_batch(words: &[String]) -> bool
-    ensures { IsTrue result ↔ IsBatch words.now }
+/// Notes how a run ended, unless it is done, and answers its status. Where memory is wanting for a note, it ended for that.
+fn tell<N: Sink>(alloc: Global, notes: &mut N, end: End) -> u8
+    ensures told { (told : End) × IsToldAs end told × (result ≡ status_of told)
+        × WritesOrFails N.written N.faults notes.old notes.new (note_text told) }
+    ensures silent { result ≡ 0 → notes.new ≡ notes.old }
+    ensures never_falls { NeverFalls (N.faults notes.old) (N.faults notes.new) }
 {
-    match words {
-        [word] => word.as_str() == "batch",
-        _ => false,
+    match end {
+        End::Done => 0,
+        End::Damaged(damage) => tell_damage(alloc, notes, &damage),
+        _ => {
+            note(notes, note_of(end).as_bytes());
+            status_of(end)
+        }
     }
 }
 
-/// Notes how a run ended, unless it is done.
-fn tell<N: Sink>(notes: &mut N, end: End)
-    ensures noted { WritesOrFails N.written N.faults notes.old notes.new (note_text end) }
-    ensures silent { end ≡ End.Done → notes.new ≡ notes.old }
+/// Notes a damage, and answers its status; or notes that memory was wanting for that, and answers the status of that.
+fn tell_damage<N: Sink>(alloc: Global, notes: &mut N, damage: &Damage) -> u8
+    ensures told { (told : End) × IsToldAs (End.Damaged damage.now) told × (result ≡ status_of told)
+        × WritesOrFails N.written N.faults notes.old notes.new (note_text told) }
+    ensures some { result ≢ 0 }
     ensures never_falls { NeverFalls (N.faults notes.old) (N.faults notes.new) }
 {
-    if end != End::Done {
-        note(notes, note_of(end));
+    let Ok(text) = damage_note(alloc, damage) else {
+        return without_memory(notes);
+    };
+    note(notes, text.as_slice());
+    status_of(End::Damaged(*damage))
+}
+
+/// The line that notes an end, but for a damage, of which the line is made.
+fn note_of(end: End) -> &'static str
+    ensures { IsNote end result.now }
+{
+    match end {
+        End::Done | End::Damaged(_) => "",
+        End::NoMemory => MEMORY,
+        End::ReadFailed => "stockd: read failed\n",
+        End::WriteFailed => "stockd: write failed\n",
+        End::TooLong => "stockd: input too long\n",
+        End::StoreFailed => "stockd: store failed\n",
     }
 }
 
 /// Writes a line to the notes. Whatever comes of it changes no status.
-fn note<N: Sink>(notes: &mut N, text: &str)
+fn note<N: Sink>(notes: &mut N, text: &[u8])
     ensures noted { WritesOrFails N.written N.faults notes.old notes.new text.now }
     ensures never_falls { NeverFalls (N.faults notes.old) (N.faults notes.new) }
 {
-    let _ = write_all(notes, text.as_bytes());
-}
-
-fn note_of(end: End) -> &'static str
-    ensures { result.now ≡ note_text end }
-{
-    match end {
-        End::Done => "",
-        End::NoMemory => "stockd: memory\n",
-        End::ReadFailed => "stockd: read failed\n",
-        End::WriteFailed => "stockd: write failed\n",
-        End::TooLong => "stockd: input too long\n",
-    }
+    let _ = write_all(notes, text);
 }
 
 fn status_of(end: End) -> u8
@@ -130,22 +170,24 @@ fn status_of(end: End) -> u8
         End::ReadFailed => 4,
         End::WriteFailed => 5,
         End::TooLong => 8,
+        End::StoreFailed => 6,
+        End::Damaged(_) => 7,
     }
 }
 
-/// Answers the lines of the input on the output, over a new book.
+/// Answers the lines of the input on the output, over a new book that is kept nowhere.
 fn run<S: Source, O: Sink>(alloc: Global, input: &mut S, output: &mut O) -> End
-    ensures { Ran S.left S.taken S.faults O.written O.faults input.old input.new output.old output.new result }
+    ensures { (last : Pace) × Ran S.left S.taken S.faults O.written O.faults input.old input.new output.old output.new first_pace last result }
 {
     let Ok(mut buffer) = vec![in alloc; 0; BUFFER] else {
         return End::NoMemory;
     };
-    let mut batch = Batch::start(alloc);
+    let mut batch = Batch::new(alloc, RevaluedBook::start(alloc));
     pump(alloc, &mut batch, buffer.as_mut_slice(), input, output)
 }
 
 /// The most bytes that the next read takes: as many as the buffer has, and fewer once reports may be long.
-fn piece_size(book: &Book, buffer: usize) -> usize
+fn piece_size<K: Keeper>(book: &Book<K>, buffer: usize) -> usize
     requires { 0 < buffer }
     ensures some { 0 < result }
     ensures within { result ≤ buffer }
@@ -158,17 +200,17 @@ fn piece_size(book: &Book, buffer: usize) -> usize
 }
 
 /// Takes the input in pieces. The replies to all whole lines of a piece are written before the next is read.
-fn pump<S: Source, O: Sink>(
+pub(crate) fn pump<K: Keeper, S: Source, O: Sink>(
     alloc: Global,
-    batch: &mut Batch,
+    batch: &mut Batch<K>,
     buffer: &mut [u8],
     input: &mut S,
     output: &mut O,
 ) -> End
     requires room { 0 < length buffer.old }
-    requires stands { StandsFor batch.old [] [] }
+    requires stands { StandsFor batch.old.book batch.old [] [] }
     requires nothing_waits { batch.old.waiting.items ≡ [] }
-    ensures { Ran S.left S.taken S.faults O.written O.faults input.old input.new output.old output.new result }
+    ensures { Ran S.left S.taken S.faults O.written O.faults input.old input.new output.old output.new batch.old.book batch.new.book result }
 {
     let mut taken = 0;
     while taken < MAX_INPUT {
@@ -189,10 +231,15 @@ fn pump<S: Source, O: Sink>(
 }
 
 /// Takes a piece of the input, and writes the replies to the lines that are whole now.
-fn step<O: Sink>(alloc: Global, batch: &mut Batch, piece: &[u8], output: &mut O) -> Result<(), End>
+fn step<K: Keeper, O: Sink>(
+    alloc: Global,
+    batch: &mut Batch<K>,
+    piece: &[u8],
+    output: &mut O,
+) -> Result<(), End>
     ensures takes { OnOk result (TakesPiece O.written batch.old batch.new piece.now output.old output.new) }
     ensures faults_kept { OnOk result (O.faults output.new ≡ O.faults output.old) }
-    ensures stops { IfErr result (Stops O.written batch.old piece.now output.old output.new) }
+    ensures stops { IfErr result (Stops O.written batch.old batch.new.book piece.now output.old output.new) }
     ensures never_falls { NeverFalls (O.faults output.old) (O.faults output.new) }
     ensures cause { IfErr result (IsOutputEnd (O.faults output.old) (O.faults output.new)) }
 {
@@ -206,8 +253,8 @@ fn step<O: Sink>(alloc: Global, batch: &mut Batch, piece: &[u8], output: &mut O)
 }
 
 /// Takes the end of the input, and writes the last reply.
-fn finish<O: Sink>(alloc: Global, batch: &mut Batch, output: &mut O) -> End
-    ensures finishes { Finishes O.written batch.old output.old output.new result }
+fn finish<K: Keeper, O: Sink>(alloc: Global, batch: &mut Batch<K>, output: &mut O) -> End
+    ensures finishes { Finishes O.written batch.old batch.new.book output.old output.new result }
     ensures never_falls { NeverFalls (O.faults output.old) (O.faults output.new) }
     ensures cause { IsLastEnd (O.faults output.old) (O.faults output.new) result }
 {

@@ -1,6 +1,8 @@
-//! `stockd`: a stock ledger. `stockd batch` answers the lines of standard input on standard output.
+//! `stockd`: a stock ledger. `stockd batch` answers the lines of standard input on standard output, with `--file P` over the ledger
+//! that is kept in the file P.
 #![tactic(auto)]
 
+use keeper_sqlite::sqlite_shelf::SqliteShelf;
 use std::env::Env;
 use std::process::ExitCode;
 use std::{env, io};
@@ -28,7 +30,15 @@ fn main(rt: HostRuntime) -> ExitCode {
         // Words that are no text are no form of words.
         Err(_) => Vec::new(alloc),
     };
+    let mut shelf = SqliteShelf::new(&rt);
     let mut output = StdSink::output(rt);
-    let status = top::stockd(alloc, words.as_slice(), &mut input, &mut output, &mut notes);
+    let status = top::stockd(
+        alloc,
+        words.as_slice(),
+        &mut shelf,
+        &mut input,
+        &mut output,
+        &mut notes,
+    );
     ExitCode::from(status)
 }

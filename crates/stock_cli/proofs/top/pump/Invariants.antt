@@ -6,7 +6,7 @@ use Rattle.stock_cli.proofs.top.pump.Given as goal
 
 abbrev pub invariant-loop-taken : goal.invariant-loop-taken
 invariant-loop-taken g l =
-    UnderWay g.S.Source.left g.S.Source.taken g.S.Source.faults g.O.Sink.written g.O.Sink.faults l.fn.input l.input l.fn.output l.output l.batch l.taken
+    UnderWay g.S.Source.left g.S.Source.taken g.S.Source.faults g.O.Sink.written g.O.Sink.faults l.fn.input l.input l.fn.output l.output l.fn.batch.book l.batch l.taken
     × (l.taken ≤ max_input) × (0 < length l.buffer)
 
 abbrev pub decreases-loop-taken : goal.decreases-loop-taken

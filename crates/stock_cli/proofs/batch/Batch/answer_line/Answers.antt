@@ -5,7 +5,7 @@ use Rattle.stock_cli.proofs.Batches.{AnswersLine-asked}
 use Rattle.stock_cli.proofs.batch.Batch.answer_line.Goals as goal
 
 pub returns-clause-answers : goal.returns-clause-answers
-returns-clause-answers c =
+returns-clause-answers g c =
     on_ok_weaker c.append_answer.result
     (λ e line stands. AnswersLine-asked line _ _ _ _ c.in_ok-answer.answer (sym stands.blank ∙ c.if-self.false) (c.in_ok-answer.ensures.step line stands) c.in_ok-answer.ensures.keeps e)
     c.append_answer.ensures

@@ -4,7 +4,7 @@ use Rattle.stock_cli.proofs.Batches.{HasFed}
 use Rattle.stock_cli.proofs.batch.Batch.feed.Given as goal
 
 abbrev pub invariant-loop-line : goal.invariant-loop-line
-invariant-loop-line l = HasFed l.fn.self l.self l.piece l.rest
+invariant-loop-line g l = HasFed l.fn.self l.self l.piece l.rest
 
 abbrev pub decreases-loop-line : goal.decreases-loop-line
-decreases-loop-line l = length l.rest
+decreases-loop-line g l = length l.rest

@@ -1,0 +1,111 @@
+-- A batch over the ledger that a shelf has at a path.
+use Rattle.std.specs.Prelude.{◌≡◌, ◌⊎◌, ℕ, Option, Some, List, IfSome}
+use Rattle.stock_io.specs.Counts.{Rose}
+use Rattle.stock_model.specs.History.{IsLegal}
+use Rattle.stock_keeper.specs.Calls.{IsDone}
+use Rattle.stock_keeper.specs.Keeping.{TellSame}
+use Rattle.stock_keeper.specs.declared.tables.Tables.{Tables}
+use Rattle.kept_tables.specs.TablesOf.{tables_of}
+use Rattle.kept_tables.specs.declared.open_fault.OpenFault.{OpenFault}
+use Rattle.kept_tables.specs.declared.open_fault.OpenFault.TheVariants as open_fault
+use Rattle.repost_worker.specs.Openings.{state_of}
+use Rattle.repost_worker.specs.Paces.{Pace}
+use Rattle.stock_cli.specs.Damages.{HasDamage}
+use Rattle.stock_cli.specs.Ran.{Ran}
+use Rattle.stock_cli.specs.declared.damage.Damage.TheVariants.{Head, Record, Worth}
+use Rattle.stock_cli.specs.declared.end.End.{End}
+use Rattle.stock_cli.specs.declared.end.End.TheVariants.{NoMemory, StoreFailed, Damaged}
+
+-- an end before the first read: the file could not be opened, or memory was wanting
+abbrev pub IsUnopened : {Kt : Type 0} → (Kt → Tables → Type 0) → End → (Tables → Type 0) → ℕ → ℕ → ℕ → Type 0
+IsUnopened kept_tells NoMemory told faults faults' kept_faults' = Unit {0}
+-- the shelf counted a fault, or the keeper that is back on it
+IsUnopened kept_tells StoreFailed told faults faults' kept_faults' = Rose faults faults' ⊎ Rose 0 kept_faults'
+-- the keeper that was handed out tells tables that are damaged so, which are those of the shelf, where both tell them
+IsUnopened {Kt} kept_tells (Damaged damage) told faults faults' kept_faults' =
+    (kept : Kt) × TellSame told (kept_tells kept) × ((t : Tables) → kept_tells kept t → HasDamage t damage)
+IsUnopened kept_tells end told faults faults' kept_faults' = ⊥
+
+-- the book was opened over a keeper whose tables are those of its history, and those of the shelf, where both tell them, by the
+-- first call of the keeper, which has the plan that the shelf tells
+pub record IsOpenedAs {Kt : Type 0} (kept_tells : Kt → Tables → Type 0) (told : Tables → Type 0) (plan : Option (List ℕ)) (first : Pace) : Type 0 where
+  pub kept : Kt
+  pub same : TellSame told (kept_tells kept)
+  pub tables : (t : Tables) → kept_tells kept t → t ≡ tables_of first.history
+  pub legal : IsLegal first.history
+  pub plan_is : IfSome plan (λ numbers. first.keeper.plan ≡ Some numbers)
+  pub calls : IfSome plan (λ numbers. first.keeper.calls ≡ 1)
+
+-- the keeper that is back on the shelf has the tables of the last history, and its faults
+pub record IsPutBack (told : Tables → Type 0) (kept_faults : ℕ) (last : Pace) : Type 0 where
+  pub tables : (t : Tables) → told t → t ≡ tables_of last.history
+  pub faults : kept_faults ≡ last.keeper.faults
+
+-- how a run ends over tables with this fault
+abbrev pub end_of : OpenFault → End
+end_of open_fault.KeeperFailed = StoreFailed
+end_of (open_fault.BadHead version covered records) = Damaged Head
+end_of (open_fault.BadStored number) = Damaged (Record number)
+end_of (open_fault.StoredDiffers difference) = Damaged (Worth difference.spot)
+end_of open_fault.NoMemory = NoMemory
+
+-- a keeper could not be begun with: it failed, what it tells is damaged so, or memory was wanting
+abbrev pub IsUnbegunFor : End → (Tables → Type 0) → ℕ → ℕ → Type 0
+IsUnbegunFor NoMemory told faults faults' = Unit {0}
+IsUnbegunFor StoreFailed told faults faults' = Rose faults faults'
+IsUnbegunFor (Damaged damage) told faults faults' = (t : Tables) → told t → HasDamage t damage
+IsUnbegunFor end told faults faults' = ⊥
+
+-- nothing was taken or written then
+pub record IsUnbegun {Kt S O : Type 0} (tells : Kt → Tables → Type 0) (faults : Kt → ℕ) (keeper_before keeper_after : Kt)
+    (input_before input_after : S) (output_before output_after : O) (end : End) : Type 0 where
+  pub nothing_taken : input_after ≡ input_before
+  pub nothing_written : output_after ≡ output_before
+  pub cause : IsUnbegunFor end (tells keeper_before) (faults keeper_before) (faults keeper_after)
+
+-- or the lines were answered, from the history that its tables are of to the one that they are of then
+pub record IsRunKept {Kt S O : Type 0} (tells : Kt → Tables → Type 0) (faults : Kt → ℕ) (plan : Kt → Option (List ℕ)) (calls : Kt → ℕ)
+    (left : S → Option (List ℕ)) (taken read_faults : S → ℕ) (written : O → Option (List ℕ)) (write_faults : O → ℕ)
+    (keeper_before keeper_after : Kt) (input_before input_after : S) (output_before output_after : O) (end : End) : Type 0 where
+  pub first : Pace
+  pub last : Pace
+  pub tables : (t : Tables) → tells keeper_before t → t ≡ tables_of first.history
+  pub legal : IsLegal first.history
+  pub begun : IsDone (state_of (faults keeper_before) (plan keeper_before) (calls keeper_before)) first.keeper
+  pub kept : (t : Tables) → tells keeper_after t → t ≡ tables_of last.history
+  pub faults_are : faults keeper_after ≡ last.keeper.faults
+  pub ran : Ran left taken read_faults written write_faults input_before input_after output_before output_after first last end
+
+abbrev pub RunsOverKeeper : {Kt S O : Type 0} (tells : Kt → Tables → Type 0) (faults : Kt → ℕ) (plan : Kt → Option (List ℕ)) (calls : Kt → ℕ)
+    (left : S → Option (List ℕ)) (taken read_faults : S → ℕ) (written : O → Option (List ℕ)) (write_faults : O → ℕ)
+    (keeper_before keeper_after : Kt) (input_before input_after : S) (output_before output_after : O) (end : End) → Type 0
+RunsOverKeeper tells faults plan calls left taken read_faults written write_faults keeper_before keeper_after input_before input_after
+    output_before output_after end =
+    IsUnbegun tells faults keeper_before keeper_after input_before input_after output_before output_after end
+    ⊎ IsRunKept tells faults plan calls left taken read_faults written write_faults keeper_before keeper_after input_before input_after
+        output_before output_after end
+
+-- it was not opened, and nothing was taken or written; or it was, and the lines were answered
+pub record IsNotOpened {H Kt S O : Type 0} (kept_tells : Kt → Tables → Type 0) (tells : H → Tables → Type 0) (faults kept_faults : H → ℕ) (shelf_before shelf_after : H)
+    (input_before input_after : S) (output_before output_after : O) (end : End) : Type 0 where
+  pub nothing_taken : input_after ≡ input_before
+  pub nothing_written : output_after ≡ output_before
+  pub cause : IsUnopened kept_tells end (tells shelf_before) (faults shelf_before) (faults shelf_after) (kept_faults shelf_after)
+
+pub record IsRunOver {H Kt S O : Type 0} (kept_tells : Kt → Tables → Type 0) (tells : H → Tables → Type 0) (plan : H → Option (List ℕ)) (kept_faults : H → ℕ)
+    (left : S → Option (List ℕ)) (taken read_faults : S → ℕ) (written : O → Option (List ℕ)) (write_faults : O → ℕ)
+    (shelf_before shelf_after : H) (input_before input_after : S) (output_before output_after : O) (end : End) : Type 0 where
+  pub first : Pace
+  pub last : Pace
+  pub opened : IsOpenedAs kept_tells (tells shelf_before) (plan shelf_before) first
+  pub put_back : IsPutBack (tells shelf_after) (kept_faults shelf_after) last
+  pub ran : Ran left taken read_faults written write_faults input_before input_after output_before output_after first last end
+
+abbrev pub RunsOverShelf : {H Kt S O : Type 0} (kept_tells : Kt → Tables → Type 0) (tells : H → Tables → Type 0) (plan : H → Option (List ℕ)) (faults kept_faults : H → ℕ)
+    (left : S → Option (List ℕ)) (taken read_faults : S → ℕ) (written : O → Option (List ℕ)) (write_faults : O → ℕ)
+    (shelf_before shelf_after : H) (input_before input_after : S) (output_before output_after : O) (end : End) → Type 0
+RunsOverShelf kept_tells tells plan faults kept_faults left taken read_faults written write_faults shelf_before shelf_after input_before input_after
+    output_before output_after end =
+    IsNotOpened kept_tells tells faults kept_faults shelf_before shelf_after input_before input_after output_before output_after end
+    ⊎ IsRunOver kept_tells tells plan kept_faults left taken read_faults written write_faults shelf_before shelf_after input_before input_after
+        output_before output_after end

@@ -1,0 +1,108 @@
+//! A batch over a ledger that is kept.
+ghost use Rattle.std.specs.Prelude.{◌≡◌, ◌<◌, length};
+ghost use Rattle.stock_keeper.specs.Keeping.{Within};
+ghost use Rattle.kept_tables.specs.Kept.{IsKept};
+ghost use Rattle.stock_cli.specs.Filed.{RunsOverShelf, RunsOverKeeper, end_of};
+
+use crate::batch::Batch;
+use crate::damage::Damage;
+use crate::end::End;
+use crate::top::{BUFFER, pump};
+use kept_tables::open_fault::OpenFault;
+use repost_worker::opening::NotOpened;
+use repost_worker::revalued_book::RevaluedBook;
+use std::alloc::Global;
+use stock_io::sink::Sink;
+use stock_io::source::Source;
+use stock_keeper::fault::KeepFault;
+use stock_keeper::keeper::Keeper;
+use stock_keeper::shelf::Shelf;
+
+/// How a batch over a keeper ended, and the keeper.
+struct Ended<K> {
+    end: End,
+    keeper: K,
+}
+
+/// Answers the lines of the input on the output, over the ledger that the shelf has at this path. Each keeper that is handed out
+/// is put back.
+pub(crate) fn run_over<H: Shelf, S: Source, O: Sink>(
+    alloc: Global,
+    shelf: &mut H,
+    path: &str,
+    input: &mut S,
+    output: &mut O,
+) -> End
+    ensures { RunsOverShelf H.Kept.tells H.tells H.plan H.faults H.kept_faults S.left S.taken S.faults O.written O.faults
+        shelf.old shelf.new input.old input.new output.old output.new result }
+{
+    let Ok(mut buffer) = vec![in alloc; 0; BUFFER] else {
+        return End::NoMemory;
+    };
+    let keeper = match shelf.open_keeper(path) {
+        Ok(keeper) => keeper,
+        Err(KeepFault::Failed) => return End::StoreFailed,
+        Err(KeepFault::NoMemory) => return End::NoMemory,
+    };
+    let Ended { end, keeper } = run_kept(alloc, keeper, buffer.as_mut_slice(), input, output);
+    shelf.put_back(keeper);
+    end
+}
+
+// Answers the lines of the input on the output, over the ledger that the keeper keeps.
+fn run_kept<K: Keeper, S: Source, O: Sink>(
+    alloc: Global,
+    keeper: K,
+    buffer: &mut [u8],
+    input: &mut S,
+    output: &mut O,
+) -> Ended<K>
+    requires room { 0 < length buffer.old }
+    requires settled { Within (K.tells keeper) (K.may_leave keeper) }
+    ensures { RunsOverKeeper K.tells K.faults K.plan K.calls S.left S.taken S.faults O.written O.faults
+        keeper result.keeper input.old input.new output.old output.new result.end }
+{
+    match RevaluedBook::begin(alloc, keeper) {
+        Ok(book) => {
+            let mut batch = Batch::new(alloc, book);
+            let end = pump(alloc, &mut batch, buffer, input, output);
+            Ended {
+                end,
+                keeper: keeper_of(batch),
+            }
+        }
+        Err(NotOpened { fault, keeper }) => Ended {
+            end: end_of(fault),
+            keeper,
+        },
+    }
+}
+
+// The keeper of a batch, for good.
+fn keeper_of<K: Keeper>(batch: Batch<K>) -> K
+    ensures kept { IsKept (K.tells result) (K.may_leave result) batch.book.history }
+    ensures faults { K.faults result ≡ batch.book.keeper.faults }
+{
+    batch.into_book().into_book().into_keeper()
+}
+
+// How a run ends over tables with this fault.
+fn end_of(fault: OpenFault) -> End
+    ensures { result ≡ end_of fault }
+{
+    match fault {
+        OpenFault::KeeperFailed => End::StoreFailed,
+        OpenFault::BadHead {
+            version: _,
+            covered: _,
+            records: _,
+        } => End::Damaged(Damage::Head),
+        OpenFault::BadStored { number } => End::Damaged(Damage::Record { number }),
+        OpenFault::StoredDiffers(difference) => {
+            End::Damaged(Damage::Worth {
+                spot: difference.spot,
+            })
+        }
+        OpenFault::NoMemory => End::NoMemory,
+    }
+}
