@@ -87,9 +87,16 @@ own-voucher journal what =
     (own-map UnknownItem (λ n. tt) _, (own-map UnknownStore (λ n. tt) _, (own-map SameStore (λ n. tt) _, tt))) in
     let targets =
     own-first
-    (unknown_target journal what ∷ link_later journal what ∷ repeated_target what ∷ over_return journal what ∷ no_basis journal what ∷ [])
-    (own-map UnknownTarget (λ n. tt) _, (own-map LinkLater (λ n. tt) _, (own-map RepeatedTarget (λ n. tt) _,
-    (own-map (over_return_at journal (lines_of what)) (λ n. tt) _, (own-if _ NoBasis tt, tt))))) in
+    (unknown_target journal what ∷ link_later journal what ∷ repeated_target what ∷ over_return journal what ∷ no_basis journal what ∷ []) (
+      own-map UnknownTarget (λ n. tt) _,
+      (
+        own-map LinkLater (λ n. tt) _,
+        (
+          own-map RepeatedTarget (λ n. tt) _,
+          (own-map (over_return_at journal (lines_of what)) (λ n. tt) _, (own-if _ NoBasis tt, tt)),
+        ),
+      ),
+    ) in
     own-first (master_fault journal what ∷ lines_fault journal what ∷ targets_fault journal what ∷ []) (masters, (lines, (targets, tt)))
 
 own-fault : (journal : List Record) (item : Record) → IfSome (fault journal item) IsOwn

@@ -67,9 +67,9 @@ impl<K: Keeper> Model for Book<K> {
     ghost Value = { BookState };
 
     ghost view = { λ book. record {
-        history = deeds book.events.items book.journal;
-        opened = book.opened;
-        keeper = record { faults = K.faults book.keeper; plan = K.plan book.keeper; calls = K.calls book.keeper };
+      history = deeds book.events.items book.journal;
+      opened = book.opened;
+      keeper = record { faults = K.faults book.keeper; plan = K.plan book.keeper; calls = K.calls book.keeper };
     } };
 
     ghost invariant = { λ book. IsBook book.events.items book.journal book.movements.entries book.covered.0 book.rows

@@ -175,6 +175,6 @@ pub Answered-end : {K : Type 0} (old new : Batch K) (r : Result (Unit {0}) NoMem
     → OnOk r ((bytes : List ℕ) → StandsForLine old.line bytes → AnswersLine bytes old.book new.book old.waiting.items new.waiting.items)
     → OnOk r (IsLegal old.book.history → IsLegal new.book.history)
     → OnOk r ((first : Pace) (taken written : List ℕ) → StandsFor first old taken written
-      → Answered first (lines_of taken) (written ++ new.waiting.items) new.book)
+    → Answered first (lines_of taken) (written ++ new.waiting.items) new.book)
 Answered-end old new (Err e) answers legal = tt
 Answered-end old new (Ok done) answers legal = λ first taken written stands. Answered-ended first old new taken written answers legal stands

@@ -62,10 +62,12 @@ Stops-write written old mid piece before after goes wrote =
       text = wrote.0;
       wrote = wrote.3;
       says =
-          λ left first bytes text stands waits.
-          (wrote.1, inl (subst (λ (all : List ℕ). Answered first (whole_lines_of (bytes ++ piece)) all mid.book)
-          (front_text text wrote.0 wrote.1 mid.waiting.items wrote.2)
-          (Answered-whole first mid (bytes ++ piece) text (goes first bytes text stands))));
+          λ left first bytes text stands waits. (
+            wrote.1,
+            inl (subst (λ (all : List ℕ). Answered first (whole_lines_of (bytes ++ piece)) all mid.book)
+                (front_text text wrote.0 wrote.1 mid.waiting.items wrote.2)
+                (Answered-whole first mid (bytes ++ piece) text (goes first bytes text stands))),
+          );
     }
 
 -- and where it fails at the end of the source
@@ -77,9 +79,14 @@ Finishes-write written old mid before after answered wrote =
       text = wrote.0;
       wrote = wrote.3;
       says =
-          λ left first bytes text to_end stands waits.
-          (wrote.1, inr (to_end, subst (λ (all : List ℕ). Answered first (lines_of bytes) all mid.book)
-          (front_text text wrote.0 wrote.1 mid.waiting.items wrote.2) (answered first bytes text stands)));
+          λ left first bytes text to_end stands waits. (
+            wrote.1,
+            inr (
+              to_end,
+              subst (λ (all : List ℕ). Answered first (lines_of bytes) all mid.book)
+                  (front_text text wrote.0 wrote.1 mid.waiting.items wrote.2) (answered first bytes text stands),
+            ),
+          );
     }
 
 -- a fault that is counted late in a run

@@ -41,9 +41,9 @@ module _ {H Kt S O : Type 0} (kept_tells : Kt → Tables → Type 0) (k_faults :
       → TellSame (tells shelf) (kept_tells keeper) → k_faults keeper ≡ 0 → IfSome (plan shelf) (λ numbers. k_plan keeper ≡ Some numbers)
       → OnSome (plan shelf) (k_calls keeper ≡ 0) → Within (kept_tells keeper') (tells shelf') → kept_faults shelf' ≡ k_faults keeper'
       → RunsOverKeeper kept_tells k_faults k_plan k_calls left taken read_faults written write_faults keeper keeper' input input' output
-          output' end
+      output' end
       → RunsOverShelf kept_tells tells plan faults kept_faults left taken read_faults written write_faults shelf shelf' input input' output
-          output' end
+      output' end
   over-kept shelf shelf' keeper keeper' input input' output output' end same fresh planned uncalled back counted (inl unbegun) =
       inl (record {
         nothing_taken = unbegun.nothing_taken;

@@ -83,7 +83,7 @@ RunsOverKeeper tells faults plan calls left taken read_faults written write_faul
     output_before output_after end =
     IsUnbegun tells faults keeper_before keeper_after input_before input_after output_before output_after end
     ⊎ IsRunKept tells faults plan calls left taken read_faults written write_faults keeper_before keeper_after input_before input_after
-        output_before output_after end
+    output_before output_after end
 
 -- it was not opened, and nothing was taken or written; or it was, and the lines were answered
 pub record IsNotOpened {H Kt S O : Type 0} (kept_tells : Kt → Tables → Type 0) (tells : H → Tables → Type 0) (faults kept_faults : H → ℕ) (shelf_before shelf_after : H)
@@ -108,4 +108,4 @@ RunsOverShelf kept_tells tells plan faults kept_faults left taken read_faults wr
     output_before output_after end =
     IsNotOpened kept_tells tells faults kept_faults shelf_before shelf_after input_before input_after output_before output_after end
     ⊎ IsRunOver kept_tells tells plan kept_faults left taken read_faults written write_faults shelf_before shelf_after input_before input_after
-        output_before output_after end
+    output_before output_after end

@@ -57,7 +57,11 @@ pub fn answer_to<K: Keeper>(
     }
 }
 
-fn answer<K: Keeper>(alloc: Global, book: &mut RevaluedBook<K>, request: Request) -> Result<Answer, NoMemory>
+fn answer<K: Keeper>(
+    alloc: Global,
+    book: &mut RevaluedBook<K>,
+    request: Request,
+) -> Result<Answer, NoMemory>
     requires { IsWithinLimits request }
     ensures answers { IfOk result (λ answer. IsAnswerTo book.old.history request answer book.new.history) }
     ensures pace { IfOk result (λ answer. KeepsPace book.old request answer book.new) }
@@ -75,7 +79,11 @@ fn answer<K: Keeper>(alloc: Global, book: &mut RevaluedBook<K>, request: Request
     }
 }
 
-fn post<K: Keeper>(alloc: Global, book: &mut RevaluedBook<K>, what: What) -> Result<Answer, NoMemory>
+fn post<K: Keeper>(
+    alloc: Global,
+    book: &mut RevaluedBook<K>,
+    what: What,
+) -> Result<Answer, NoMemory>
     requires { IsTrue (is_within_limits what) }
     ensures answers { IfOk result (λ answer. IsAnswerTo book.old.history (Request.Post what) answer book.new.history) }
     ensures pace { IsSamePace book.old book.new }
@@ -96,7 +104,11 @@ fn post<K: Keeper>(alloc: Global, book: &mut RevaluedBook<K>, what: What) -> Res
 }
 
 /// Makes so many turns.
-fn work<K: Keeper>(alloc: Global, book: &mut RevaluedBook<K>, turns: u32) -> Result<Answer, NoMemory>
+fn work<K: Keeper>(
+    alloc: Global,
+    book: &mut RevaluedBook<K>,
+    turns: u32,
+) -> Result<Answer, NoMemory>
     requires { 0 < turns }
     ensures answers { IfOk result (λ answer. IsAnswerTo book.old.history (Request.Work turns) answer book.new.history) }
     ensures pace { IfOk result (λ answer. KeepsPace book.old (Request.Work turns) answer book.new) }
@@ -142,7 +154,11 @@ fn after_turns(alloc: Global, stopped: Option<KeepFault>, reply: Reply) -> Resul
     }
 }
 
-fn report<K: Keeper>(alloc: Global, book: &RevaluedBook<K>, query: Query) -> Result<Answer, NoMemory>
+fn report<K: Keeper>(
+    alloc: Global,
+    book: &RevaluedBook<K>,
+    query: Query,
+) -> Result<Answer, NoMemory>
     ensures answers { IfOk result (λ answer. IsAnswerTo book.now.history (Request.Report query) answer book.now.history) }
     ensures text { IfOk result HasText }
     ensures keeps { IfOk result ShowsKeptStock }

@@ -6,9 +6,9 @@ use crate::split::split_line;
 use crate::waiting::append_answer;
 use repost_worker::revalued_book::RevaluedBook;
 use std::alloc::Global;
-use stock_keeper::keeper::Keeper;
 use stock_io::failed::Failed;
 use stock_io::sink::{Sink, write_all};
+use stock_keeper::keeper::Keeper;
 use stock_nums::memory::NoMemory;
 
 /// A batch under way: the book, the line under way, and the replies that wait to be written.

@@ -3,9 +3,9 @@ ghost use Rattle.std.specs.Prelude.{◌≡◌, ◌++◌, IfOk, OnOk};
 ghost use Rattle.stock_cli.specs.Damages.{damage_note, side_text};
 
 use itoa::{Buffer, Integer};
+use std::alloc::Global;
 use stock_nums::memory::NoMemory;
 use stock_nums::place::{Side, Spot};
-use std::alloc::Global;
 
 /// What is wrong with the tables of a ledger: the first of these.
 #[derive(Clone, Copy, Debug, PartialEq, Eq)]
@@ -13,13 +13,9 @@ pub enum Damage {
     /// The version is not 1, or the number covered is not from 0 to the number of records.
     Head,
     /// The first stored record that has another number than its place, is none as it would be written, or has a fault there.
-    Record {
-        number: u32,
-    },
+    Record { number: u32 },
     /// The first spot, by record, line and side, at which the stored worth is not the replayed one.
-    Worth {
-        spot: Spot,
-    },
+    Worth { spot: Spot },
 }
 
 /// The line that notes a damage.

@@ -141,9 +141,30 @@ fn check(
 fn a_keeper_that_fails_is_told_and_the_run_goes_on(rt: HostRuntime) -> Result<(), Fail> {
     let alloc = rt.alloc();
     check(&rt, alloc, 1, &[HEADS], 6, &[])?;
-    check(&rt, alloc, 6, &[HEADS, TWO_SETTLES], 0, &[FOUR, FAILED_THEN_SETTLED])?;
-    check(&rt, alloc, 6, &[HEADS, TWO_WORKS], 0, &[FOUR, FAILED_THEN_WORKED])?;
-    check(&rt, alloc, 7, &[HEADS, TWO_RECEIPTS], 0, &[FOUR, FAILED_THEN_ACCEPTED])?;
+    check(
+        &rt,
+        alloc,
+        6,
+        &[HEADS, TWO_SETTLES],
+        0,
+        &[FOUR, FAILED_THEN_SETTLED],
+    )?;
+    check(
+        &rt,
+        alloc,
+        6,
+        &[HEADS, TWO_WORKS],
+        0,
+        &[FOUR, FAILED_THEN_WORKED],
+    )?;
+    check(
+        &rt,
+        alloc,
+        7,
+        &[HEADS, TWO_RECEIPTS],
+        0,
+        &[FOUR, FAILED_THEN_ACCEPTED],
+    )?;
     Ok(())
 }
 
@@ -151,7 +172,13 @@ fn a_keeper_that_fails_is_told_and_the_run_goes_on(rt: HostRuntime) -> Result<()
 fn a_ledger_is_opened_again(rt: HostRuntime) -> Result<(), Fail> {
     let alloc = rt.alloc();
     let mut shelf = shelf(alloc, Some(7))?;
-    let first = writes(alloc, &mut shelf, &[HEADS, TWO_RECEIPTS], 0, &[FOUR, FAILED_THEN_ACCEPTED])?;
+    let first = writes(
+        alloc,
+        &mut shelf,
+        &[HEADS, TWO_RECEIPTS],
+        0,
+        &[FOUR, FAILED_THEN_ACCEPTED],
+    )?;
     assert!(rt; first);
     assert!(rt; writes(alloc, &mut shelf, &[BALANCE], 0, &[BALANCES])?);
     Ok(())

@@ -34,7 +34,11 @@ pub fn told(alloc: Global, reply: Reply) -> Answer
 /// # Errors
 ///
 /// `NoMemory` where the fault is that, which is not told, or where the codes of a shortage want memory.
-pub fn refused<K: Keeper>(alloc: Global, book: &Book<K>, fault: PostFault) -> Result<Answer, NoMemory>
+pub fn refused<K: Keeper>(
+    alloc: Global,
+    book: &Book<K>,
+    fault: PostFault,
+) -> Result<Answer, NoMemory>
     ensures answer { IfOk result (λ answer. answer ≡ refusal (records book.now.history) fault) }
     ensures text { IfOk result HasText }
     ensures memory { OnErr result ((fault ≡ PostFault.NoMemory) ⊎ TellsCodes fault) }
@@ -50,7 +54,11 @@ pub fn refused<K: Keeper>(alloc: Global, book: &Book<K>, fault: PostFault) -> Re
 }
 
 /// The item and the warehouse that a fault names. Only a shortage names any, and takes memory.
-fn heads_named<K: Keeper>(alloc: Global, book: &Book<K>, fault: PostFault) -> Result<Lines<Head>, NoMemory>
+fn heads_named<K: Keeper>(
+    alloc: Global,
+    book: &Book<K>,
+    fault: PostFault,
+) -> Result<Lines<Head>, NoMemory>
     ensures heads { IfOk result (λ heads. heads ≡ filter_map (head_at (records book.now.history)) (named fault)) }
     ensures memory { OnErr result (TellsCodes fault) }
 {

@@ -67,7 +67,7 @@ pub fn stockd<H: Shelf, S: Source, O: Sink, N: Sink>(
     // So does one over a file that was opened, and its ledger is that of the run; or it could not be opened, and why.
     ensures over { (path : List ℕ) → IsBatchOver words.now path → (end : End) × (result ≡ status_of end)
         × RunsOverShelf H.Kept.tells H.tells H.plan H.faults H.kept_faults S.left S.taken S.faults O.written O.faults
-            shelf.old shelf.new input.old input.new output.old output.new end }
+        shelf.old shelf.new input.old input.new output.old output.new end }
 
     // Without a fault, and with fewer bytes than are too many, only want of memory keeps it from being done.
     ensures complete { IsBatch words.now

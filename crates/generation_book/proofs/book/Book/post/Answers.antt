@@ -83,8 +83,8 @@ invariant_of-self-in-Err-append g c =
     let journal : c.pop.new.self ≡ c.self.inside.journal =
     c.pop.ensures ∙ ap (λ (rs : List Record). take (length rs - 1) rs) c.in-Ok-push.ensures.kept ∙ popped c.self.inside.journal c.args.item in
     let now = kept-unappended history (g.K.Keeper.tells c.self.inside.keeper) (g.K.Keeper.may_leave c.self.inside.keeper)
-        (g.K.Keeper.tells c.append.new.self) (g.K.Keeper.may_leave c.append.new.self) kept c.in-Ok-push.number c.args.item c.as_slice.result.now
-        next text legal (legal-kept history c.args.item legal c.in-Ok.ensures.sound) c.in-Err-append.ensures.tables_kept c.in-Err-append.ensures.crash in
+    (g.K.Keeper.tells c.append.new.self) (g.K.Keeper.may_leave c.append.new.self) kept c.in-Ok-push.number c.args.item c.as_slice.result.now
+    next text legal (legal-kept history c.args.item legal c.in-Ok.ensures.sound) c.in-Err-append.ensures.tables_kept c.in-Err-append.ensures.crash in
     rw (c.reserve.ensures.items, journal, c.reserve-2.ensures.unchanged) (
       c.self.invariant.0,
       subst (IsKept (g.K.Keeper.tells c.append.new.self) (g.K.Keeper.may_leave c.append.new.self)) (sym told) now,
@@ -140,13 +140,13 @@ invariant_of-self-2 g c =
     let journal = c.in-Ok-push.ensures.kept in
     let all = c.add.ensures.added ∙ put_all-entries c.self.inside.journal c.args.item c.reserve-2.new.self.entries c.as_slice-2.result.now line new in
     let now = kept-appended history (g.K.Keeper.tells c.self.inside.keeper) (g.K.Keeper.may_leave c.self.inside.keeper)
-        (g.K.Keeper.tells c.append.new.self) (g.K.Keeper.may_leave c.append.new.self) kept c.in-Ok-push.number c.args.item c.as_slice.result.now
-        next text legal c.in_default-append.ensures.made c.in_default-append.ensures.durable in
+    (g.K.Keeper.tells c.append.new.self) (g.K.Keeper.may_leave c.append.new.self) kept c.in-Ok-push.number c.args.item c.as_slice.result.now
+    next text legal c.in_default-append.ensures.made c.in_default-append.ensures.durable in
     let longer = ap (λ (h : List Deed). h ++ deed.Kept c.args.item ∷ []) told in
     rw (events, journal) (
       IsBook-kept c.self.inside.events.items c.self.inside.journal c.self.inside.movements.entries c.self.inside.covered.0 c.self.inside.rows c.args.item c.add.new.self.entries c.self.invariant.0 none all,
       subst (IsKept (g.K.Keeper.tells c.append.new.self) (g.K.Keeper.may_leave c.append.new.self))
-      (sym (deeds-kept c.self.inside.events.items c.self.inside.journal c.args.item c.self.invariant.0.counted ∙ longer)) now,
+          (sym (deeds-kept c.self.inside.events.items c.self.inside.journal c.args.item c.self.invariant.0.counted ∙ longer)) now,
       omega (arith, c.self.invariant.2, length-append c.self.inside.events.items (Kept ∷ [])),
     )
 

@@ -30,9 +30,9 @@ invariant_of-self-in_err-publish g c =
     let legal = subst history.IsLegal told c.self.invariant.0.legal in
     let more = legal-published c.args.self.now.history c.args.n legal c.requires.later c.requires.within in
     let now = kept-unpublished c.args.self.now.history (g.K.Keeper.tells c.self.inside.keeper) (g.K.Keeper.may_leave c.self.inside.keeper)
-        (g.K.Keeper.tells c.publish.new.self) (g.K.Keeper.may_leave c.publish.new.self) kept c.args.n c.args.changed.now
-        c.in_ok-changes.changes c.in_ok-changes.ensures c.requires.later c.requires.changed more c.in_err-publish.ensures.tables_kept
-        c.in_err-publish.ensures.crash in
+    (g.K.Keeper.tells c.publish.new.self) (g.K.Keeper.may_leave c.publish.new.self) kept c.args.n c.args.changed.now
+    c.in_ok-changes.changes c.in_ok-changes.ensures c.requires.later c.requires.changed more c.in_err-publish.ensures.tables_kept
+    c.in_err-publish.ensures.crash in
     rw c.reserve.ensures.items
     (c.self.invariant.0, subst (IsKept (g.K.Keeper.tells c.publish.new.self) (g.K.Keeper.may_leave c.publish.new.self)) (sym told) now, c.self.invariant.2)
 
@@ -48,15 +48,15 @@ invariant_of-self-2 g c =
     c.in_ok-renewed.ensures ∙ ap (λ (old : List Row). merged old c.args.changed.now) c.as_slice.ensures in
     let changed = rw (held, covers) at c.requires.changed in
     let now = kept-published c.args.self.now.history (g.K.Keeper.tells c.self.inside.keeper) (g.K.Keeper.may_leave c.self.inside.keeper)
-        (g.K.Keeper.tells c.publish.new.self) (g.K.Keeper.may_leave c.publish.new.self) kept c.args.n c.args.changed.now
-        c.in_ok-changes.changes c.in_ok-changes.ensures c.requires.later c.requires.changed c.in_ok-publish.ensures.made
-        c.in_ok-publish.ensures.durable in
+    (g.K.Keeper.tells c.publish.new.self) (g.K.Keeper.may_leave c.publish.new.self) kept c.args.n c.args.changed.now
+    c.in_ok-changes.changes c.in_ok-changes.ensures c.requires.later c.requires.changed c.in_ok-publish.ensures.made
+    c.in_ok-publish.ensures.durable in
     let longer = ap (λ (h : List Deed). h ++ deed.Published c.args.n ∷ []) told in
     rw (events, rows) (
       IsBook-changed c.self.inside.events.items c.self.inside.journal c.self.inside.movements.entries c.self.inside.covered.0 c.self.inside.rows c.args.n c.args.changed.now c.self.invariant.0
-      (omega (arith, all, c.requires.within)) (omega (arith, covers, c.requires.later)) changed,
+          (omega (arith, all, c.requires.within)) (omega (arith, covers, c.requires.later)) changed,
       subst (IsKept (g.K.Keeper.tells c.publish.new.self) (g.K.Keeper.may_leave c.publish.new.self))
-      (sym (deeds-published c.self.inside.events.items c.self.inside.journal c.args.n c.self.invariant.0.counted ∙ longer)) now,
+          (sym (deeds-published c.self.inside.events.items c.self.inside.journal c.args.n c.self.invariant.0.counted ∙ longer)) now,
       omega (arith, c.self.invariant.2, length-append c.self.inside.events.items (Published c.args.n ∷ [])),
     )
 
