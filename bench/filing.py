@@ -11,7 +11,7 @@ import time
 from measuring import PROGRAM, require
 
 POSTS = 2_000
-OPENED = 25_000
+OPENED = 49_990
 RUNS = 3
 POSTS_WANTED = 0.8
 OPENING_WANTED = 2
