@@ -1,16 +1,12 @@
 -- Where each row is told as changed, no other row has to be as it was.
-use Rattle.std.proofs.Common.{◌≡◌, ℕ, true, List, [], ◌∷◌, filter, take, refl, sym, ap, ◌∙◌, subst, arith}
+use Rattle.std.proofs.Common.{◌≡◌, ℕ, true, List, [], ◌∷◌, filter, take, refl, sym, ap, ◌∙◌, arith}
 use Rattle.std.proofs.lemmas.List.{take_all}
 use Rattle.stock_nums.specs.declared.entry.Row.{Row}
 use Rattle.stock_model.specs.History as history
-use Rattle.stock_model.specs.Journals.{AreLegal}
 use Rattle.stock_model.specs.Replay.{replay}
 use Rattle.stock_model.specs.declared.records.Record.{Record}
 use Rattle.repost_laws.specs.Builds.{ValuedSince, is_as_published}
 use Rattle.repost_fetch.specs.Changes.{is_valued, AreChanges}
-use Rattle.generation_book.specs.State.{BookState}
-use Rattle.generation_book.specs.Book.{deeds}
-use Rattle.generation_book.proofs.Books.{history-records, IsBook-legal}
 use Rattle.generation_book.proofs.book.tests.publish_all.Goals as goal
 
 abbrev all_valued : ValuedSince
@@ -32,14 +28,9 @@ AreChanges-all journal n changed is =
       others = none-kept (replay journal) ∙ sym (none-kept (replay (take n journal)));
     }
 
-pub rows_of-requires-clause-legal : goal.rows_of-requires-clause-legal
-rows_of-requires-clause-legal c = subst AreLegal (sym c.records.ensures.records) (IsBook-legal _ _ _ _ _ c.book.invariant.0)
-
 pub publish-requires-clause-changed : goal.publish-requires-clause-changed
 publish-requires-clause-changed c =
-    let told : deeds c.book.inside.events.items c.book.inside.journal ≡ c.args.book.now.history = ap (λ (b : BookState). b.history) c.book.view_is in
     let records : List Record = history.records c.args.book.now.history in
-    let held = history-records _ _ _ _ _ c.args.book.now.history c.book.invariant.0 told in
     let all : take c.accepted-accepted.result.0 records ≡ records = take_all c.accepted-accepted.result.0 records (omega (arith, c.accepted-accepted.ensures.accepted)) in
-    AreChanges-all (take c.accepted-accepted.result.0 records) (history.covered c.args.book.now.history) c.as_slice-2.result.now
-    (c.as_slice-2.ensures ∙ c.in_ok-rows.ensures.rows ∙ ap replay (c.records.ensures.records ∙ sym held ∙ sym all))
+    AreChanges-all (take c.accepted-accepted.result.0 records) (history.covered c.args.book.now.history) c.as_slice.result.now
+    (c.as_slice.ensures ∙ c.in_ok-rows.ensures ∙ ap replay (sym all))
