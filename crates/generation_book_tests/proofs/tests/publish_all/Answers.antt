@@ -7,7 +7,7 @@ use Rattle.stock_model.specs.Replay.{replay}
 use Rattle.stock_model.specs.declared.records.Record.{Record}
 use Rattle.repost_laws.specs.Builds.{ValuedSince, is_as_published}
 use Rattle.repost_fetch.specs.Changes.{is_valued, AreChanges}
-use Rattle.generation_book.proofs.book.tests.publish_all.Goals as goal
+use Rattle.generation_book_tests.proofs.tests.publish_all.Goals as goal
 
 abbrev all_valued : ValuedSince
 all_valued place = true

@@ -1,12 +1,9 @@
-use crate::top;
+//! Batches over streams in memory: the texts of whole runs, streams that fail, and what is at a limit.
+
+use crate::running::{Failing, NEVER, run, shelf};
 use std::alloc::Global;
 use std::process::Abort;
 use std::test::Fail;
-use stock_io::memory_sink::MemSink;
-use stock_io::memory_source::MemSource;
-use stock_keeper::memory_keeper::MemKeeper;
-use stock_keeper::memory_shelf::MemShelf;
-use stock_nums::lines::Lines;
 use stock_nums::memory::NoMemory;
 
 const FIRST: &str = r#"{"do":"item","code":"B","method":"average"}
@@ -160,46 +157,14 @@ const LIMITED: &str = r#"{"record":1,"status":"accepted"}
 {"fault":"limit","field":"lines","line":0,"status":"bad"}
 "#;
 
-/// The most bytes that a test writes.
-const ROOM: usize = 2000;
-
-/// A shelf with a new keeper.
-fn shelf(alloc: Global) -> MemShelf {
-    MemShelf::new(MemKeeper::new(alloc), Lines::new(alloc))
-}
-
-/// A sink of which the call with this number fails, from 1, or none.
-fn sink(alloc: Global, failing: Option<u64>) -> Result<MemSink, NoMemory> {
-    MemSink::new(alloc, ROOM, calls(alloc, failing)?)
-}
-
-fn calls(alloc: Global, failing: Option<u64>) -> Result<Lines<u64>, NoMemory> {
-    let mut calls = Lines::new(alloc);
-    if let Some(number) = failing {
-        calls.push(number)?;
-    }
-    Ok(calls)
-}
-
 /// Runs a batch with ample memory, over streams that never fail. That it is done no clause says, since want
 /// of memory is free.
 fn check(rt: &impl Abort, alloc: Global, input: &[u8], want: &str) -> Result<(), Fail> {
-    let mut words = Vec::new(alloc);
-    words.push("batch".to_string(alloc)?)?;
-    let bytes = Lines::from_vec(Vec::from_slice(alloc, input)?);
-    let mut input = MemSource::new(bytes, 50_000, Lines::new(alloc));
-    let mut output = sink(alloc, None)?;
-    let mut notes = sink(alloc, None)?;
-    let status = top::stockd(
-        alloc,
-        words.as_slice(),
-        &mut shelf(alloc),
-        &mut input,
-        &mut output,
-        &mut notes,
-    );
-    assert_eq!(rt; status, 0);
-    assert!(rt; output.bytes() == want.as_bytes());
+    let mut shelf = shelf(alloc, None)?;
+    let input = Vec::from_slice(alloc, input)?;
+    let ended = run(alloc, &["batch"], &mut shelf, input, 50_000, NEVER)?;
+    assert_eq!(rt; ended.status, 0);
+    assert!(rt; ended.output.bytes() == want.as_bytes());
     Ok(())
 }
 
@@ -221,63 +186,33 @@ fn a_batch_is_answered(rt: HostRuntime) -> Result<(), Fail> {
     Ok(())
 }
 
-/// Which call of each stream fails, from 1, or none.
-#[derive(Clone, Copy)]
-struct Failing {
-    read: Option<u64>,
-    write: Option<u64>,
-    note: Option<u64>,
-}
-
-/// How a run over failing streams ends.
-#[derive(Drop)]
-struct Ended {
+/// The status of two settles of which the first read holds one whole and the front of the next.
+fn ends(
+    alloc: Global,
+    failing: Failing,
     status: u8,
-    output: MemSink,
-    notes: MemSink,
-}
-
-/// Runs two settles of which the first read holds one whole and the front of the next.
-fn run_failing(alloc: Global, failing: Failing) -> Result<Ended, NoMemory> {
-    let mut words = Vec::new(alloc);
-    words.push("batch".to_string(alloc)?)?;
-    let mut bytes = Vec::from_slice(alloc, SETTLE.as_bytes())?;
-    bytes.push(b'\n')?;
-    bytes.extend_from_slice(SETTLE.as_bytes())?;
+    output: &str,
+    notes: &str,
+) -> Result<bool, NoMemory> {
+    let mut input = Vec::from_slice(alloc, SETTLE.as_bytes())?;
+    input.push(b'\n')?;
+    input.extend_from_slice(SETTLE.as_bytes())?;
+    let mut shelf = shelf(alloc, None)?;
     let piece = SETTLE.len() + 3;
-    let mut input = MemSource::new(Lines::from_vec(bytes), piece, calls(alloc, failing.read)?);
-    let mut output = sink(alloc, failing.write)?;
-    let mut notes = sink(alloc, failing.note)?;
-    let status = top::stockd(
-        alloc,
-        words.as_slice(),
-        &mut shelf(alloc),
-        &mut input,
-        &mut output,
-        &mut notes,
-    );
-    Ok(Ended {
-        status,
-        output,
-        notes,
-    })
+    let ended = run(alloc, &["batch"], &mut shelf, input, piece, failing)?;
+    Ok(ended.status == status && ended.output.bytes() == output.as_bytes() && ended.notes.bytes() == notes.as_bytes())
 }
 
 #[test]
 fn a_failure_is_told(rt: HostRuntime) -> Result<(), Fail> {
     let alloc = rt.alloc();
-    let none = Failing {
-        read: None,
-        write: None,
-        note: None,
-    };
     let read = Failing {
         read: Some(2),
-        ..none
+        ..NEVER
     };
     let write = Failing {
         write: Some(1),
-        ..none
+        ..NEVER
     };
     let silent = Failing {
         note: Some(1),
@@ -289,10 +224,7 @@ fn a_failure_is_told(rt: HostRuntime) -> Result<(), Fail> {
         // Notes that fail change no status.
         (silent, 4, SETTLED, ""),
     ] {
-        let ended = run_failing(alloc, failing)?;
-        assert_eq!(rt; ended.status, status);
-        assert!(rt; ended.output.bytes() == output.as_bytes());
-        assert!(rt; ended.notes.bytes() == notes.as_bytes());
+        assert!(rt; ends(alloc, failing, status, output, notes)?);
     }
     Ok(())
 }

@@ -1,19 +1,11 @@
 //! Batches over a keeper in memory that fails as planned, and that is opened again.
 
-use crate::top;
+use crate::running::{NEVER, joined, run, shelf};
 use std::alloc::Global;
 use std::process::Abort;
 use std::test::Fail;
-use stock_io::memory_sink::MemSink;
-use stock_io::memory_source::MemSource;
-use stock_keeper::memory_keeper::MemKeeper;
 use stock_keeper::memory_shelf::MemShelf;
-use stock_keeper::tables::Tables;
-use stock_nums::lines::Lines;
 use stock_nums::memory::NoMemory;
-
-/// The most bytes that a test writes.
-const ROOM: usize = 2000;
 
 const HEADS: &str = r#"{"do":"item","code":"A","method":"fifo"}
 {"do":"item","code":"B","method":"average"}
@@ -63,50 +55,6 @@ const BALANCES: &str = r#"{"covered":4,"report":"balance","rows":[],"status":"ok
 {"covered":5,"report":"balance","rows":[{"item":"A","qty":1,"store":"W1","value":10}],"status":"ok"}
 "#;
 
-/// A shelf with a new keeper, of whose calls that with this number fails, from 1, or none.
-fn shelf(alloc: Global, failing: Option<u64>) -> Result<MemShelf, NoMemory> {
-    let mut calls = Lines::new(alloc);
-    if let Some(number) = failing {
-        calls.push(number)?;
-    }
-    let tables = Tables {
-        version: 1,
-        records: Lines::new(alloc),
-        covered: 0,
-        worths: Lines::new(alloc),
-    };
-    Ok(MemShelf::new(MemKeeper::of(alloc, tables, calls), Lines::new(alloc)))
-}
-
-fn words(alloc: Global) -> Result<Vec<String>, NoMemory> {
-    let mut words = Vec::new(alloc);
-    words.push("batch".to_string(alloc)?)?;
-    words.push("--file".to_string(alloc)?)?;
-    words.push("ledger".to_string(alloc)?)?;
-    Ok(words)
-}
-
-/// The status of a batch over the shelf, and what it wrote.
-fn run(alloc: Global, shelf: &mut MemShelf, lines: &[&str]) -> Result<(u8, MemSink), NoMemory> {
-    let mut bytes = Vec::new(alloc);
-    for line in lines {
-        bytes.extend_from_slice(line.as_bytes())?;
-    }
-    let mut input = MemSource::new(Lines::from_vec(bytes), 50_000, Lines::new(alloc));
-    let mut output = MemSink::new(alloc, ROOM, Lines::new(alloc))?;
-    let mut notes = MemSink::new(alloc, ROOM, Lines::new(alloc))?;
-    let words = words(alloc)?;
-    let status = top::stockd(
-        alloc,
-        words.as_slice(),
-        shelf,
-        &mut input,
-        &mut output,
-        &mut notes,
-    );
-    Ok((status, output))
-}
-
 /// Whether the batch over the shelf ends so and writes these replies.
 fn writes(
     alloc: Global,
@@ -115,12 +63,10 @@ fn writes(
     status: u8,
     replies: &[&str],
 ) -> Result<bool, NoMemory> {
-    let mut bytes = Vec::new(alloc);
-    for reply in replies {
-        bytes.extend_from_slice(reply.as_bytes())?;
-    }
-    let (ended, output) = run(alloc, shelf, lines)?;
-    Ok(ended == status && output.bytes() == bytes.as_slice())
+    let words = ["batch", "--file", "ledger"];
+    let wanted = joined(alloc, replies)?;
+    let ended = run(alloc, &words, shelf, joined(alloc, lines)?, 50_000, NEVER)?;
+    Ok(ended.status == status && ended.output.bytes() == wanted.as_slice())
 }
 
 /// Runs a batch over a new keeper of whose calls one fails.

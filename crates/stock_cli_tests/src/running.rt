@@ -1,0 +1,98 @@
+//! Runs of the program over memory. Here alone the top call is made, without clauses, so that its contract is met once for all
+//! tests.
+
+use std::alloc::Global;
+use stock_cli::top;
+use stock_io::memory_sink::MemSink;
+use stock_io::memory_source::MemSource;
+use stock_keeper::memory_keeper::MemKeeper;
+use stock_keeper::memory_shelf::MemShelf;
+use stock_keeper::tables::Tables;
+use stock_nums::lines::Lines;
+use stock_nums::memory::NoMemory;
+
+/// The most bytes that a test writes.
+const ROOM: usize = 2000;
+
+/// Which call of each stream fails, from 1, or none.
+#[derive(Clone, Copy)]
+pub struct Failing {
+    pub read: Option<u64>,
+    pub write: Option<u64>,
+    pub note: Option<u64>,
+}
+
+/// Streams that never fail.
+pub const NEVER: Failing = Failing {
+    read: None,
+    write: None,
+    note: None,
+};
+
+/// How a run ended, and what it wrote.
+#[derive(Drop)]
+pub struct Ended {
+    pub status: u8,
+    pub output: MemSink,
+    pub notes: MemSink,
+}
+
+fn calls(alloc: Global, failing: Option<u64>) -> Result<Lines<u64>, NoMemory> {
+    let mut calls = Lines::new(alloc);
+    if let Some(number) = failing {
+        calls.push(number)?;
+    }
+    Ok(calls)
+}
+
+/// A shelf with a new keeper, of whose calls that with this number fails, from 1, or none.
+pub fn shelf(alloc: Global, failing: Option<u64>) -> Result<MemShelf, NoMemory> {
+    let tables = Tables {
+        version: 1,
+        records: Lines::new(alloc),
+        covered: 0,
+        worths: Lines::new(alloc),
+    };
+    let keeper = MemKeeper::of(alloc, tables, calls(alloc, failing)?);
+    Ok(MemShelf::new(keeper, Lines::new(alloc)))
+}
+
+/// The texts, one after another.
+pub fn joined(alloc: Global, texts: &[&str]) -> Result<Vec<u8>, NoMemory> {
+    let mut bytes = Vec::new(alloc);
+    for text in texts {
+        bytes.extend_from_slice(text.as_bytes())?;
+    }
+    Ok(bytes)
+}
+
+/// Runs the program with these words over the shelf, and over an input that is read in pieces of so many bytes.
+pub fn run(
+    alloc: Global,
+    words: &[&str],
+    shelf: &mut MemShelf,
+    input: Vec<u8>,
+    piece: usize,
+    failing: Failing,
+) -> Result<Ended, NoMemory> {
+    let mut owned = Vec::new(alloc);
+    for word in words {
+        owned.push(word.to_string(alloc)?)?;
+    }
+    let mut input = MemSource::new(Lines::from_vec(input), piece, calls(alloc, failing.read)?);
+    let mut output = MemSink::new(alloc, ROOM, calls(alloc, failing.write)?)?;
+    let mut notes = MemSink::new(alloc, ROOM, calls(alloc, failing.note)?)?;
+    let status = top::stockd(
+        alloc,
+        owned.as_slice(),
+        shelf,
+        &mut input,
+        &mut output,
+        &mut notes,
+    );
+    Ok(Ended {
+        status,
+        output,
+        notes,
+    })
+}
