@@ -37,44 +37,45 @@ module _ {A : Type 0} where
   sum_of_two f (x ∷ xs) (suc i) zero a b ne e d = let s : f x ≡ f b = ap f (some-injective x b d) in omega (arith, sum_at_least f xs i a e, sum_by-cons f x xs)
   sum_of_two f (x ∷ xs) (suc i) (suc j) a b ne e d = omega (arith, sum_of_two f xs i j a b (λ s. ne (ap suc s)) e d, sum_by-cons f x xs)
 
-module _ {E : Type 0} where
-  pub begins_is : (b a : List (ℕ × E)) → BeginsWith b a → b ≡ a ++ past a b
-  begins_is b a h = sym (take-append-drop (length a) b) ∙ ap (λ (z : List (ℕ × E)). z ++ past a b) h
+module _ {A : Type 0} where
+  pub begins_is : (b a : List A) → BeginsWith b a → b ≡ a ++ past a b
+  begins_is b a h = sym (take-append-drop (length a) b) ∙ ap (λ (z : List A). z ++ past a b) h
 
-  pub begins_more : (a c : List (ℕ × E)) → BeginsWith (a ++ c) a
+  pub begins_more : (a c : List A) → BeginsWith (a ++ c) a
   begins_more a c = take_at a c (length a) refl
 
-  pub past_more : (a c : List (ℕ × E)) → past a (a ++ c) ≡ c
+  pub past_more : (a c : List A) → past a (a ++ c) ≡ c
   past_more a c = drop_at a c (length a) refl
 
-  pub begins_self : (a : List (ℕ × E)) → BeginsWith a a
+  pub begins_self : (a : List A) → BeginsWith a a
   begins_self a = take_all (length a) a (omega arith)
 
-  pub past_self : (a : List (ℕ × E)) → past a a ≡ []
+  pub past_self : (a : List A) → past a a ≡ []
   past_self a = drop_all (length a) a (omega arith)
 
-  pub begins_no_longer : (b a : List (ℕ × E)) → BeginsWith b a → length a ≤ length b
+  pub begins_no_longer : (b a : List A) → BeginsWith b a → length a ≤ length b
   begins_no_longer b a h = let s = ap length (begins_is b a h) in let t : length b ≡ length a + length (past a b) = s ∙ length-append a (past a b) in omega arith
 
   -- c is a, then what b has past a, then what c has past b
-  pub three_parts : (a b c : List (ℕ × E)) → BeginsWith b a → BeginsWith c b → c ≡ a ++ (past a b ++ past b c)
-  three_parts a b c h k = begins_is c b k ∙ ap (λ (z : List (ℕ × E)). z ++ past b c) (begins_is b a h) ∙ append_assoc a (past a b) (past b c)
+  pub three_parts : (a b c : List A) → BeginsWith b a → BeginsWith c b → c ≡ a ++ (past a b ++ past b c)
+  three_parts a b c h k = begins_is c b k ∙ ap (λ (z : List A). z ++ past b c) (begins_is b a h) ∙ append_assoc a (past a b) (past b c)
 
-  pub begins_through : (a b c : List (ℕ × E)) → BeginsWith b a → BeginsWith c b → BeginsWith c a
-  begins_through a b c h k = subst (λ (z : List (ℕ × E)). BeginsWith z a) (sym (three_parts a b c h k)) (begins_more a (past a b ++ past b c))
+  pub begins_through : (a b c : List A) → BeginsWith b a → BeginsWith c b → BeginsWith c a
+  begins_through a b c h k = subst (λ (z : List A). BeginsWith z a) (sym (three_parts a b c h k)) (begins_more a (past a b ++ past b c))
 
-  pub past_through : (a b c : List (ℕ × E)) → BeginsWith b a → BeginsWith c b → past a c ≡ past a b ++ past b c
+  pub past_through : (a b c : List A) → BeginsWith b a → BeginsWith c b → past a c ≡ past a b ++ past b c
   past_through a b c h k = ap (past a) (three_parts a b c h k) ∙ past_more a (past a b ++ past b c)
 
-  pub begins_between : (a b c : List (ℕ × E)) → BeginsWith c a → BeginsWith c b → length a ≤ length b → BeginsWith b a
+  pub begins_between : (a b c : List A) → BeginsWith c a → BeginsWith c b → length a ≤ length b → BeginsWith b a
   begins_between a b c h k le = ap (take (length a)) (sym k) ∙ take-take (length a) (length b) c le ∙ h
 
-  pub begins_same : (a b c : List (ℕ × E)) → BeginsWith c a → BeginsWith c b → length a ≡ length b → a ≡ b
+  pub begins_same : (a b c : List A) → BeginsWith c a → BeginsWith c b → length a ≡ length b → a ≡ b
   begins_same a b c h k e = sym h ∙ ap (λ (n : ℕ). take n c) e ∙ k
 
-  pub begins_whole : (a c : List (ℕ × E)) → BeginsWith c a → length c ≤ length a → a ≡ c
+  pub begins_whole : (a c : List A) → BeginsWith c a → length c ≤ length a → a ≡ c
   begins_whole a c h le = sym h ∙ take_all (length a) c le
 
+module _ {E : Type 0} where
   pub made_more : (k : ℕ) (a b : List (ℕ × E)) → made_by k (a ++ b) ≡ made_by k a ++ made_by k b
   made_more k a b = filter-append (λ (e : ℕ × E). e.0 == k) a b
 
