@@ -1,0 +1,10 @@
+pub mod MakersOf
+pub mod Order
+pub mod Longer
+pub mod Going
+pub mod OneTurn
+pub mod Serving
+pub mod Bodies
+pub mod AnswerCases
+pub mod FromLock
+pub mod Sentences
