@@ -15,7 +15,8 @@ use Rattle.session_laws.specs.Sessions.{Session, IsAsked, HasSession}
 use Rattle.session_laws.specs.Turns.{IsTurn, IsQuiet}
 
 -- one more pair at the end of two lists
-AllZip-more : {A B : Type 0} (R : A → B → Type 0) (xs : List A) (ys : List B) (x : A) (y : B) → AllZip R xs ys → R x y → AllZip R (xs ++ x ∷ []) (ys ++ y ∷ [])
+AllZip-more : {A B : Type 0} (R : A → B → Type 0) (xs : List A) (ys : List B) (x : A) (y : B)
+    → AllZip R xs ys → R x y → AllZip R (xs ++ x ∷ []) (ys ++ y ∷ [])
 AllZip-more R [] [] x y pairs last = (last, tt)
 AllZip-more R [] (b ∷ ys) x y pairs last = absurd pairs
 AllZip-more R (a ∷ xs) [] x y pairs last = absurd pairs
@@ -34,12 +35,14 @@ module _ (reads : List ℕ → Result Request ReadFault → Type 0) (desk : ℕ)
     Session-on desk old mid new has.0 (t ∷ []) has.1 more,
     record {
       asked = AllZip-more (λ (b : List ℕ) (u : Exchange). IsAsked reads b u.asked) bodies has.0 body t has.2.asked asked;
-      answers_are = ap (λ (z : List Answer). z ++ t.answer ∷ []) has.2.answers_are ∙ sym (map-append (λ (u : Exchange). u.answer) has.0 (t ∷ []));
+      answers_are = ap (λ (z : List Answer). z ++ t.answer ∷ []) has.2.answers_are
+          ∙ sym (map-append (λ (u : Exchange). u.answer) has.0 (t ∷ []));
     },
   )
 
   -- the body is a request, which was answered in a turn
-  pub HasSession-turn : (old mid new : View Deed) (bodies : List (List ℕ)) (answers : List Answer) (body : List ℕ) (request : Request) (t : Exchange)
+  pub HasSession-turn : (old mid new : View Deed) (bodies : List (List ℕ)) (answers : List Answer)
+      (body : List ℕ) (request : Request) (t : Exchange)
       → HasSession reads desk old mid bodies answers → reads body (Ok request) → IsTurn desk mid new request t
       → HasSession reads desk old new (bodies ++ body ∷ []) (answers ++ t.answer ∷ [])
   HasSession-turn old mid new bodies answers body request t has asked turn =

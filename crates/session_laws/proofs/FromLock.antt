@@ -16,7 +16,8 @@ use Rattle.session_laws.specs.Makers.{with_makers, without_makers}
 use Rattle.session_laws.specs.Turns.{IsTurn}
 
 -- the turn took the history before, added the deeds that were kept, and gave back the history after
-module _ (before after kept : List Deed) (taken : List (ℕ × Deed)) (took : with_makers before ≡ taken) (adds : after ≡ before ++ kept) where
+module _ (before after kept : List Deed) (taken : List (ℕ × Deed))
+    (took : with_makers before ≡ taken) (adds : after ≡ before ++ kept) where
   given-is : with_makers after ≡ taken ++ with_makers kept
   given-is = ap with_makers adds ∙ with_makers-append before kept ∙ ap (λ (z : List (ℕ × Deed)). z ++ with_makers kept) took
 
@@ -27,7 +28,8 @@ module _ (before after kept : List Deed) (taken : List (ℕ × Deed)) (took : wi
   past-from_lock : past taken (with_makers after) ≡ with_makers kept
   past-from_lock = ap (past taken) given-is ∙ past_more taken (with_makers kept)
 
-  module _ (desk : ℕ) (request : Request) (answer : Answer) (answered : LacksMemory answer kept ⊎ IsAnswer desk before request answer kept) where
+  module _ (desk : ℕ) (request : Request) (answer : Answer)
+      (answered : LacksMemory answer kept ⊎ IsAnswer desk before request answer kept) where
     -- what `give` requires as `own`
     pub own-from_lock : All (IsMadeBy desk) (past taken (with_makers after))
     own-from_lock =
@@ -47,7 +49,8 @@ pub IsTurn-from_lock : (desk : ℕ) (old new : View Deed) (request : Request) (a
     → new.seen ≡ with_makers after → new.made ≡ old.made ++ past taken (with_makers after)
     → new.stops ≡ old.stops ++ length taken ∷ [] → new.faults ≡ old.faults + (given_faults - taken_faults)
     → IsTurn desk old new request (record { asked = Ok request; answer = answer; stop = Some (length taken); kept = kept })
-IsTurn-from_lock desk old new request answer before after kept taken taken_faults given_faults begins took adds answered failed seen made stops faults =
+IsTurn-from_lock desk old new request answer before after kept taken taken_faults given_faults
+    begins took adds answered failed seen made stops faults =
     record {
       taken = taken;
       begins = begins;

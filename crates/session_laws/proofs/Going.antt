@@ -37,7 +37,8 @@ Session-none desk pass =
       failed = omega arith;
     }
 
-module _ (desk : ℕ) (old mid new : View Deed) (a b : List Exchange) (front : Session desk old mid a) (rest : Session desk mid new b) where
+module _ (desk : ℕ) (old mid new : View Deed) (a b : List Exchange)
+    (front : Session desk old mid a) (rest : Session desk mid new b) where
   in_order-both : AreInOrder (length old.seen) (a ++ b)
   in_order-both =
       let within : All (λ (t : Exchange). known_after 0 t ≤ length mid.seen) a =
@@ -46,13 +47,15 @@ module _ (desk : ℕ) (old mid new : View Deed) (a b : List Exchange) (front : S
       subst (λ (n : ℕ). known_after 0 t ≤ n) (length-without_makers mid.seen) is.within)
       a front.answers
       in
-      AreInOrder-append (length old.seen) (length mid.seen) a b (begins_no_longer mid.seen old.seen front.grows) front.in_order within rest.in_order
+      AreInOrder-append (length old.seen) (length mid.seen) a b (begins_no_longer mid.seen old.seen front.grows)
+      front.in_order within rest.in_order
 
   answers-both : All (IsExchange desk (without_makers new.seen)) (a ++ b)
   answers-both =
       All-append (IsExchange desk (without_makers new.seen)) a b
       (All-weaker (IsExchange desk (without_makers mid.seen)) (IsExchange desk (without_makers new.seen))
-      (IsExchange-longer desk (without_makers new.seen) (without_makers mid.seen) (without_makers-begins new.seen mid.seen rest.grows))
+      (IsExchange-longer desk (without_makers new.seen) (without_makers mid.seen)
+      (without_makers-begins new.seen mid.seen rest.grows))
       a front.answers) rest.answers
 
   made-both : new.made ≡ old.made ++ with_makers (kept_in (a ++ b))
@@ -60,7 +63,8 @@ module _ (desk : ℕ) (old mid new : View Deed) (a b : List Exchange) (front : S
       rest.made
       ∙ ap (λ (z : List (ℕ × Deed)). z ++ with_makers (kept_in b)) front.made
       ∙ append_assoc old.made (with_makers (kept_in a)) (with_makers (kept_in b))
-      ∙ ap (λ (z : List (ℕ × Deed)). old.made ++ z) (sym (ap with_makers (kept_in-append a b) ∙ with_makers-append (kept_in a) (kept_in b)))
+      ∙ ap (λ (z : List (ℕ × Deed)). old.made ++ z)
+      (sym (ap with_makers (kept_in-append a b) ∙ with_makers-append (kept_in a) (kept_in b)))
 
   stops-both : new.stops ≡ old.stops ++ stops_of (a ++ b)
   stops-both =

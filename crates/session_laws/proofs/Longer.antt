@@ -19,7 +19,8 @@ same_front final seen n begins within = ap (take n) (sym begins) ∙ take-take n
 pub ends_within : (t : Exchange) (stop size : ℕ) → t.stop ≡ Some stop → known_after 0 t ≤ size → stop + length t.kept ≤ size
 ends_within t stop size own within = subst (λ (it : Option ℕ). option_map_or (λ (n : ℕ). n + length t.kept) it 0 ≤ size) own within
 
-module _ (desk : ℕ) (final seen : List Deed) (begins : BeginsWith final seen) (t : Exchange) (within : known_after 0 t ≤ length seen) where
+module _ (desk : ℕ) (final seen : List Deed) (begins : BeginsWith final seen)
+    (t : Exchange) (within : known_after 0 t ≤ length seen) where
   IsAnswered-longer : (request : Request) → IsAnswered desk seen request t → IsAnswered desk final request t
   IsAnswered-longer request a =
       let ends : a.stop + length t.kept ≤ length seen = ends_within t a.stop (length seen) a.own within in
@@ -27,16 +28,20 @@ module _ (desk : ℕ) (final seen : List Deed) (begins : BeginsWith final seen) 
       record {
         stop = a.stop;
         own = a.own;
-        place = sym (same_front final seen (a.stop + length t.kept) begins ends) ∙ a.place ∙ ap (λ (z : List Deed). z ++ t.kept) front;
+        place = sym (same_front final seen (a.stop + length t.kept) begins ends)
+            ∙ a.place
+            ∙ ap (λ (z : List Deed). z ++ t.kept) front;
         answer = subst (λ (z : List Deed). IsAnswer desk z request t.answer t.kept) front a.answer;
       }
 
   IsReply-longer : (asked : Result Request ReadFault) → IsReply desk seen asked t → IsReply desk final asked t
   IsReply-longer (Err f) reply = reply
   IsReply-longer (Ok request) reply =
-      ⊎_elim (λ (lacks : LacksMemory t.answer t.kept). inl lacks) (λ (a : IsAnswered desk seen request t). inr (IsAnswered-longer request a)) reply
+      ⊎_elim (λ (lacks : LacksMemory t.answer t.kept). inl lacks)
+      (λ (a : IsAnswered desk seen request t). inr (IsAnswered-longer request a)) reply
 
-pub IsExchange-longer : (desk : ℕ) (final seen : List Deed) → BeginsWith final seen → (t : Exchange) → IsExchange desk seen t → IsExchange desk final t
+pub IsExchange-longer : (desk : ℕ) (final seen : List Deed) → BeginsWith final seen → (t : Exchange)
+    → IsExchange desk seen t → IsExchange desk final t
 IsExchange-longer desk final seen begins t is =
     record {
       within = omega (arith, is.within, begins_no_longer final seen begins);

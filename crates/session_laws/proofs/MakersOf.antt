@@ -23,7 +23,8 @@ pub length-without_makers : (events : List (ℕ × Deed)) → length (without_ma
 length-without_makers events = length-map events (λ (e : ℕ × Deed). e.1)
 
 -- the deeds of a longer history begin with those of the shorter
-pub without_makers-begins : (long short : List (ℕ × Deed)) → BeginsWith long short → BeginsWith (without_makers long) (without_makers short)
+pub without_makers-begins : (long short : List (ℕ × Deed)) → BeginsWith long short
+    → BeginsWith (without_makers long) (without_makers short)
 without_makers-begins long short begins =
     ap (λ (n : ℕ). take n (without_makers long)) (length-without_makers short)
     ∙ take-map (λ (e : ℕ × Deed). e.1) (length short) long
@@ -31,7 +32,8 @@ without_makers-begins long short begins =
 
 pub past-with_makers : (first final : List Deed) → past (with_makers first) (with_makers final) ≡ with_makers (past first final)
 past-with_makers first final =
-    ap (λ (n : ℕ). drop n (with_makers final)) (length-with_makers first) ∙ drop-map (λ (d : Deed). (maker d, d)) (length first) final
+    ap (λ (n : ℕ). drop n (with_makers final)) (length-with_makers first)
+    ∙ drop-map (λ (d : Deed). (maker d, d)) (length first) final
 
 kept_or_not : (b : Bool) (d : Deed) (events : List (ℕ × Deed)) (history : List Deed) → events ≡ with_makers history
     → cond b ((maker d, d) ∷ events) events ≡ with_makers (cond b (d ∷ history) history)

@@ -40,7 +40,8 @@ module _ (desk : ℕ) (old new : View Deed) (request : Request) (t : Exchange) (
   known-is : (known : ℕ) → known_after known t ≡ length turn.taken + length t.kept
   known-is known = ap (λ (stop : Option ℕ). option_map_or (λ (n : ℕ). n + length t.kept) stop known) turn.stop
 
-  place-is : take (length turn.taken + length t.kept) (without_makers new.seen) ≡ take (length turn.taken) (without_makers new.seen) ++ t.kept
+  place-is : take (length turn.taken + length t.kept) (without_makers new.seen)
+      ≡ take (length turn.taken) (without_makers new.seen) ++ t.kept
   place-is =
       take_all (length turn.taken + length t.kept) (without_makers new.seen) (omega (arith, size-is))
       ∙ history-is
@@ -63,7 +64,8 @@ module _ (desk : ℕ) (old new : View Deed) (request : Request) (t : Exchange) (
 
   in_order-is : AreInOrder (length old.seen) (t ∷ [])
   in_order-is = (
-    subst (λ (stop : Option ℕ). IfSome stop (λ (n : ℕ). length old.seen ≤ n)) (sym turn.stop) (begins_no_longer turn.taken old.seen turn.begins),
+    subst (λ (stop : Option ℕ). IfSome stop (λ (n : ℕ). length old.seen ≤ n)) (sym turn.stop)
+        (begins_no_longer turn.taken old.seen turn.begins),
     tt,
   )
 
@@ -84,7 +86,8 @@ module _ (desk : ℕ) (old new : View Deed) (request : Request) (t : Exchange) (
         grows = grows-is;
         stops = turn.stops ∙ ap (λ (stop : Option ℕ). old.stops ++ cons_option stop []) (sym turn.stop);
         in_order = in_order-is;
-        answers = All-cons (IsExchange desk (without_makers new.seen)) t [] exchange-is (All-nil (IsExchange desk (without_makers new.seen)));
+        answers = All-cons (IsExchange desk (without_makers new.seen)) t [] exchange-is
+            (All-nil (IsExchange desk (without_makers new.seen)));
         made = turn.made ∙ ap (λ (z : List (ℕ × Deed)). old.made ++ z) added-is;
         failed = omega (arith, turn.failed);
       }
@@ -115,7 +118,8 @@ module _ (desk : ℕ) (pass : View Deed) (t : Exchange) (quiet : IsQuiet t) wher
         grows = begins_self pass.seen;
         stops = sym (ap (λ (stop : Option ℕ). pass.stops ++ cons_option stop []) quiet.stop ∙ append-nil pass.stops);
         in_order = (subst (λ (stop : Option ℕ). IfSome stop (λ (n : ℕ). length pass.seen ≤ n)) (sym quiet.stop) tt, tt);
-        answers = All-cons (IsExchange desk (without_makers pass.seen)) t [] quiet-exchange (All-nil (IsExchange desk (without_makers pass.seen)));
+        answers = All-cons (IsExchange desk (without_makers pass.seen)) t [] quiet-exchange
+            (All-nil (IsExchange desk (without_makers pass.seen)));
         made = sym (ap (λ (kept : List Deed). pass.made ++ with_makers (kept ++ [])) quiet.kept ∙ append-nil pass.made);
         failed = omega (arith, no-failure);
       }

@@ -16,7 +16,8 @@ begins_no_earlier : (low high : ℕ) (stop : Option ℕ) → low ≤ high → If
 begins_no_earlier low high None le begins = tt
 begins_no_earlier low high (Some n) le begins = let later : high ≤ n = begins in omega arith
 
-knows_no_less : (added known : ℕ) (stop : Option ℕ) → IfSome stop (λ n. known ≤ n) → known ≤ option_map_or (λ n. n + added) stop known
+knows_no_less : (added known : ℕ) (stop : Option ℕ) → IfSome stop (λ n. known ≤ n)
+    → known ≤ option_map_or (λ n. n + added) stop known
 knows_no_less added known None begins = omega arith
 knows_no_less added known (Some n) begins = let later : known ≤ n = begins in omega arith
 
@@ -45,11 +46,13 @@ AreInOrder-append low mid (t ∷ a) b le ordered within after = (
 )
 
 -- each turn begins with what the desk knew at first
-pub begin_since : (known : ℕ) (exchanges : List Exchange) → AreInOrder known exchanges → All (λ t. IfSome t.stop (λ n. known ≤ n)) exchanges
+pub begin_since : (known : ℕ) (exchanges : List Exchange) → AreInOrder known exchanges
+    → All (λ t. IfSome t.stop (λ n. known ≤ n)) exchanges
 begin_since known [] ordered = All-nil (λ (t : Exchange). IfSome t.stop (λ n. known ≤ n))
 begin_since known (t ∷ exchanges) ordered =
     All-cons (λ (u : Exchange). IfSome u.stop (λ n. known ≤ n)) t exchanges ordered.0
-    (begin_since known exchanges (AreInOrder-less known (known_after known t) exchanges (knows_no_less (length t.kept) known t.stop ordered.0) ordered.1))
+    (begin_since known exchanges (AreInOrder-less known (known_after known t) exchanges
+    (knows_no_less (length t.kept) known t.stop ordered.0) ordered.1))
 
 is_before : (known : ℕ) (t u : Exchange) → IfSome u.stop (λ n. known_after known t ≤ n) → IsBefore t u
 is_before known t u begins m n own other =

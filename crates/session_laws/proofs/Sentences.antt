@@ -32,7 +32,8 @@ module _ (desk : ℕ) (first final : List Deed) (exchanges : List Exchange) (t :
   stop-since : (stop : ℕ) → t.stop ≡ Some stop → length first ≤ stop
   stop-since stop own =
       subst (λ (it : Option ℕ). IfSome it (λ (n : ℕ). length first ≤ n)) own
-      (All-contains (λ (u : Exchange). IfSome u.stop (λ (n : ℕ). length first ≤ n)) exchanges t (begin_since (length first) exchanges served.in_order) within)
+      (All-contains (λ (u : Exchange). IfSome u.stop (λ (n : ℕ). length first ≤ n)) exchanges t
+      (begin_since (length first) exchanges served.in_order) within)
 
   -- of an answer that tells neither a body that is no request nor want of memory
   answered-by : (asked : Result Request ReadFault) → t.asked ≡ asked → IsReply desk final asked t
@@ -55,7 +56,8 @@ module _ (desk : ℕ) (first final : List Deed) (exchanges : List Exchange) (t :
   answered-on to_request = answered-by t.asked refl exchange-is.reply to_request
 
   -- the record of an accepted post is where the stop says
-  accepted-at : (request : Request) (n : RecordNo) → t.asked ≡ Ok request → t.answer ≡ Told (Accepted n) [] → (a : IsAnswered desk final request t)
+  accepted-at : (request : Request) (n : RecordNo) → t.asked ≡ Ok request → t.answer ≡ Told (Accepted n) []
+      → (a : IsAnswered desk final request t)
       → KeepsOne desk (take a.stop final) request t.answer t.kept → IsAcceptedAs desk first final t n
   accepted-at request n asked told a one =
       record {
@@ -71,7 +73,8 @@ module _ (desk : ℕ) (first final : List Deed) (exchanges : List Exchange) (t :
         place = subst (λ (z : List Deed). take (a.stop + length z) final ≡ take a.stop final ++ z) one.one a.place;
       }
 
-  accepted-by : (asked : Result Request ReadFault) (n : RecordNo) → t.asked ≡ asked → IsReply desk final asked t → t.answer ≡ Told (Accepted n) []
+  accepted-by : (asked : Result Request ReadFault) (n : RecordNo) → t.asked ≡ asked → IsReply desk final asked t
+      → t.answer ≡ Told (Accepted n) []
       → IsAcceptedAs desk first final t n
   accepted-by (Err f) n asked reply told = absurd (fault_answer-accepts_none f n (sym reply.0 ∙ told))
   accepted-by (Ok request) n asked reply told =
@@ -107,11 +110,13 @@ module _ (desk : ℕ) (first final : List Deed) (exchanges : List Exchange) (t :
       ⊎_elim
       (λ (lacks : LacksMemory t.answer t.kept). let apart : Told MemoryFailed [] ≡ Told StoreFailed [] = sym lacks.0 ∙ failed in cc)
       (λ (a : IsAnswered desk final request t).
-      let posted = store_failed-post desk (take a.stop final) t.answer t.kept request a.answer failed in (posted.0, asked ∙ ap Ok posted.1))
+      let posted = store_failed-post desk (take a.stop final) t.answer t.kept request a.answer failed in
+      (posted.0, asked ∙ ap Ok posted.1))
       reply
 
   pub failed-post : TellsStoreFailed t.answer → AsksToPost t
   failed-post failed = post-by t.asked refl exchange-is.reply failed
 
-pub turns-in_order : (desk : ℕ) (first final : List Deed) (exchanges : List Exchange) → Served desk first final exchanges → AllPairs IsBefore exchanges
+pub turns-in_order : (desk : ℕ) (first final : List Deed) (exchanges : List Exchange)
+    → Served desk first final exchanges → AllPairs IsBefore exchanges
 turns-in_order desk first final exchanges served = AllPairs-in_order (length first) exchanges served.in_order

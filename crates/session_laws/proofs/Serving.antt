@@ -14,7 +14,8 @@ use Rattle.session_laws.specs.Exchanges.{Exchange, kept_in}
 use Rattle.session_laws.specs.Makers.{with_makers, without_makers, deeds_by}
 use Rattle.session_laws.specs.Sessions.{Session, Served}
 
-module _ (desk : ℕ) (first final : List Deed) (old new : View Deed) (exchanges : List Exchange) (session : Session desk old new exchanges)
+module _ (desk : ℕ) (first final : List Deed) (old new : View Deed) (exchanges : List Exchange)
+    (session : Session desk old new exchanges)
     (begins : BeginsWith old.seen (with_makers first)) (ends : BeginsWith (with_makers final) new.seen)
     (made : new.made ≡ old.made ++ made_by desk (past (with_makers first) (with_makers final))) where
   final-longer : BeginsWith final (without_makers new.seen)
@@ -25,14 +26,16 @@ module _ (desk : ℕ) (first final : List Deed) (old new : View Deed) (exchanges
   final-begins : BeginsWith final first
   final-begins =
       let whole : BeginsWith (with_makers final) (with_makers first) =
-      begins_through (with_makers first) new.seen (with_makers final) (begins_through (with_makers first) old.seen new.seen begins session.grows) ends
+      begins_through (with_makers first) new.seen (with_makers final)
+      (begins_through (with_makers first) old.seen new.seen begins session.grows) ends
       in
       subst (λ (z : List Deed × List Deed). BeginsWith z.0 z.1)
       (λ i. (without_makers-with_makers final i, without_makers-with_makers first i))
       (without_makers-begins (with_makers final) (with_makers first) whole)
 
   first-shorter : length first ≤ length old.seen
-  first-shorter = subst (λ (n : ℕ). n ≤ length old.seen) (length-with_makers first) (begins_no_longer old.seen (with_makers first) begins)
+  first-shorter = subst (λ (n : ℕ). n ≤ length old.seen) (length-with_makers first)
+      (begins_no_longer old.seen (with_makers first) begins)
 
   kept-is : deeds_by desk (past first final) ≡ kept_in exchanges
   kept-is =
