@@ -48,6 +48,7 @@ module _ {H Kt S O : Type 0} (kept_tells : Kt → Tables → Type 0) (k_faults :
       inl (record {
         nothing_taken = unbegun.nothing_taken;
         nothing_written = unbegun.nothing_written;
+        tables_stay = inr (λ s t before after. same s t before (unbegun.tables_kept t (back t after)));
         cause = unopened kept_tells keeper (tells shelf) same end (faults shelf) (faults shelf') (k_faults keeper) (k_faults keeper')
             (kept_faults shelf') fresh counted unbegun.cause;
       })

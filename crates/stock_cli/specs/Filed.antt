@@ -3,7 +3,7 @@ use Rattle.std.specs.Prelude.{◌≡◌, ◌⊎◌, ℕ, Option, Some, List, IfS
 use Rattle.stock_io.specs.Counts.{Rose}
 use Rattle.stock_model.specs.History.{IsLegal}
 use Rattle.stock_keeper.specs.Calls.{IsDone}
-use Rattle.stock_keeper.specs.Keeping.{TellSame}
+use Rattle.stock_keeper.specs.Keeping.{Within, TellSame}
 use Rattle.stock_keeper.specs.declared.tables.Tables.{Tables}
 use Rattle.kept_tables.specs.TablesOf.{tables_of}
 use Rattle.kept_tables.specs.declared.open_fault.OpenFault.{OpenFault}
@@ -56,11 +56,12 @@ IsUnbegunFor StoreFailed told faults faults' = Rose faults faults'
 IsUnbegunFor (Damaged damage) told faults faults' = (t : Tables) → told t → HasDamage t damage
 IsUnbegunFor end told faults faults' = ⊥
 
--- nothing was taken or written then
+-- nothing was taken or written then, and the keeper tells no other tables
 pub record IsUnbegun {Kt S O : Type 0} (tells : Kt → Tables → Type 0) (faults : Kt → ℕ) (keeper_before keeper_after : Kt)
     (input_before input_after : S) (output_before output_after : O) (end : End) : Type 0 where
   pub nothing_taken : input_after ≡ input_before
   pub nothing_written : output_after ≡ output_before
+  pub tables_kept : Within (tells keeper_before) (tells keeper_after)
   pub cause : IsUnbegunFor end (tells keeper_before) (faults keeper_before) (faults keeper_after)
 
 -- or the lines were answered, from the history that its tables are of to the one that they are of then
@@ -85,11 +86,16 @@ RunsOverKeeper tells faults plan calls left taken read_faults written write_faul
     ⊎ IsRunKept tells faults plan calls left taken read_faults written write_faults keeper_before keeper_after input_before input_after
     output_before output_after end
 
--- it was not opened, and nothing was taken or written; or it was, and the lines were answered
+-- the tables stay: no others are told than before, or those that are told are those that were told
+abbrev pub TablesStay : (Tables → Type 0) → (Tables → Type 0) → Type 0
+TablesStay before after = Within before after ⊎ TellSame before after
+
+-- it was not opened, nothing was taken or written, and the tables of the shelf stay; or it was, and the lines were answered
 pub record IsNotOpened {H Kt S O : Type 0} (kept_tells : Kt → Tables → Type 0) (tells : H → Tables → Type 0) (faults kept_faults : H → ℕ) (shelf_before shelf_after : H)
     (input_before input_after : S) (output_before output_after : O) (end : End) : Type 0 where
   pub nothing_taken : input_after ≡ input_before
   pub nothing_written : output_after ≡ output_before
+  pub tables_stay : TablesStay (tells shelf_before) (tells shelf_after)
   pub cause : IsUnopened kept_tells end (tells shelf_before) (faults shelf_before) (faults shelf_after) (kept_faults shelf_after)
 
 pub record IsRunOver {H Kt S O : Type 0} (kept_tells : Kt → Tables → Type 0) (tells : H → Tables → Type 0) (plan : H → Option (List ℕ)) (kept_faults : H → ℕ)

@@ -76,6 +76,15 @@ pub fn stockd<H: Shelf, S: Source, O: Sink, N: Sink>(
         → S.taken input.new < S.taken input.old + max_input
         → (result ≡ 0) ⊎ (result ≡ 3) }
 
+    // So it is over a file, where the shelf and its keeper had no fault either, but for tables that are none of a ledger.
+    ensures complete_over { (path : List ℕ) → IsBatchOver words.now path
+        → CountsNoFault (S.faults input.old) (S.faults input.new)
+        → CountsNoFault (O.faults output.old) (O.faults output.new)
+        → CountsNoFault (H.faults shelf.old) (H.faults shelf.new)
+        → CountsNoFault 0 (H.kept_faults shelf.new)
+        → S.taken input.new < S.taken input.old + max_input
+        → (result ≡ 0) ⊎ (result ≡ 3) ⊎ (result ≡ 7) }
+
     // The line of the status is noted, or a front of it where the notes fail. Status 0 has none.
     ensures noted { (result ≡ 2 → ⊥) → (end : End) × (result ≡ status_of end)
         × WritesOrFails N.written N.faults notes.old notes.new (note_text end) }

@@ -45,6 +45,39 @@ const FAILED_THEN_ACCEPTED: &str = r#"{"covered":4,"status":"settled"}
 {"record":5,"status":"accepted"}
 "#;
 
+const FAILED_THEN_THREE: &str = r#"{"record":1,"status":"accepted"}
+{"record":2,"status":"accepted"}
+{"fault":"store","status":"failed"}
+{"record":3,"status":"accepted"}
+"#;
+
+// Turns in small portions with records between them: the fifth fetch has to wait until three of four receipts are published.
+const PORTIONS: &str = r#"{"do":"work","turns":1}
+{"do":"receipt","at":"2026-01-01T09:00:00","lines":[{"item":"A","store":"W1","qty":1,"amount":10}]}
+{"do":"work","turns":1}
+{"do":"receipt","at":"2026-01-02T09:00:00","lines":[{"item":"A","store":"W1","qty":1,"amount":10}]}
+{"do":"work","turns":2}
+{"do":"receipt","at":"2026-01-03T09:00:00","lines":[{"item":"A","store":"W1","qty":1,"amount":10}]}
+{"do":"work","turns":2}
+{"do":"receipt","at":"2026-01-04T09:00:00","lines":[{"item":"A","store":"W1","qty":1,"amount":10}]}
+{"do":"settle"}
+{"do":"report","of":"balance"}
+{"do":"settle"}
+"#;
+
+const PUBLISHED_IN_TWO: &str = r#"{"covered":0,"status":"worked"}
+{"record":5,"status":"accepted"}
+{"covered":0,"status":"worked"}
+{"record":6,"status":"accepted"}
+{"covered":0,"status":"worked"}
+{"record":7,"status":"accepted"}
+{"covered":0,"status":"worked"}
+{"record":8,"status":"accepted"}
+{"fault":"store","status":"failed"}
+{"covered":7,"report":"balance","rows":[{"item":"A","qty":3,"store":"W1","value":30}],"status":"ok"}
+{"covered":8,"status":"settled"}
+"#;
+
 const BALANCE: &str = r#"{"do":"report","of":"balance"}
 {"do":"settle"}
 {"do":"report","of":"balance","need":5}
@@ -86,31 +119,17 @@ fn check(
 #[test]
 fn a_keeper_that_fails_is_told_and_the_run_goes_on(rt: HostRuntime) -> Result<(), Fail> {
     let alloc = rt.alloc();
-    check(&rt, alloc, 1, &[HEADS], 6, &[])?;
-    check(
-        &rt,
-        alloc,
-        6,
-        &[HEADS, TWO_SETTLES],
-        0,
-        &[FOUR, FAILED_THEN_SETTLED],
-    )?;
-    check(
-        &rt,
-        alloc,
-        6,
-        &[HEADS, TWO_WORKS],
-        0,
-        &[FOUR, FAILED_THEN_WORKED],
-    )?;
-    check(
-        &rt,
-        alloc,
-        7,
-        &[HEADS, TWO_RECEIPTS],
-        0,
-        &[FOUR, FAILED_THEN_ACCEPTED],
-    )?;
+    let cases: [(u64, &[&str], u8, &[&str]); 6] = [
+        (1, &[HEADS], 6, &[]),
+        (4, &[HEADS], 0, &[FAILED_THEN_THREE]),
+        (6, &[HEADS, TWO_SETTLES], 0, &[FOUR, FAILED_THEN_SETTLED]),
+        (6, &[HEADS, TWO_WORKS], 0, &[FOUR, FAILED_THEN_WORKED]),
+        (7, &[HEADS, TWO_RECEIPTS], 0, &[FOUR, FAILED_THEN_ACCEPTED]),
+        (11, &[HEADS, PORTIONS], 0, &[FOUR, PUBLISHED_IN_TWO]),
+    ];
+    for (failing, lines, status, replies) in cases {
+        check(&rt, alloc, failing, lines, status, replies)?;
+    }
     Ok(())
 }
 

@@ -4,7 +4,7 @@ use Rattle.stock_cli.proofs.FiledRuns.{over-kept}
 use Rattle.stock_cli.proofs.filed.run_over.Goals as goal
 
 pub returns-in-Err-Failed : goal.returns-in-Err-Failed
-returns-in-Err-Failed g c = inl (record { nothing_taken = refl; nothing_written = refl; cause = inl (c.in-Err-Failed.ensures.cause (ap Err c.in-Err-Failed.field-0-is)) })
+returns-in-Err-Failed g c = inl (record { nothing_taken = refl; nothing_written = refl; tables_stay = inl c.in-Err-Failed.ensures.tables_kept; cause = inl (c.in-Err-Failed.ensures.cause (ap Err c.in-Err-Failed.field-0-is)) })
 
 pub returns : goal.returns
 returns g c =

@@ -21,3 +21,6 @@ returns-in-None-clause-usage g c two =
 
 pub returns-in-None-clause-over : goal.returns-in-None-clause-over
 returns-in-None-clause-over g c path is = absurd (c.in-None.ensures.1 path is)
+
+pub returns-in-None-clause-complete_over : goal.returns-in-None-clause-complete_over
+returns-in-None-clause-complete_over g c path is source output shelf kept few = absurd (c.in-None.ensures.1 path is)
