@@ -9,3 +9,4 @@ pub mod Paces
 pub mod Damages
 pub mod Filed
 pub mod Words
+pub mod Commands

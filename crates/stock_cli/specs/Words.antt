@@ -14,10 +14,6 @@ IsPath (byte ∷ next ∷ rest) = byte ≢ 45
 abbrev pub IsFileOption : List ℕ → List ℕ → Type 0
 IsFileOption word path = (word ≡ codes "--file=" ++ path) × (path ≢ [])
 
--- it is not
-abbrev pub IsNoFileOption : List ℕ → Type 0
-IsNoFileOption word = (path : List ℕ) → IsFileOption word path → ⊥
-
 -- the words are `batch`, `--file` and the path, or `batch` and one word for both
 abbrev pub SpellsBatchOver : List (List ℕ) → List ℕ → Type 0
 SpellsBatchOver words path = ((words ≡ codes "batch" ∷ codes "--file" ∷ path ∷ []) × IsPath path)
@@ -31,6 +27,10 @@ Spells words (BatchOver path) = SpellsBatchOver words path.now
 -- the words ask for nothing that the program knows
 abbrev pub SpellsNothing : List (List ℕ) → Type 0
 SpellsNothing words = (words ≢ codes "batch" ∷ []) × ((path : List ℕ) → SpellsBatchOver words path → ⊥)
+
+-- the words ask for something that the program knows
+abbrev pub SpellsSome : List (List ℕ) → Type 0
+SpellsSome words = (words ≡ codes "batch" ∷ []) ⊎ ((path : List ℕ) × SpellsBatchOver words path)
 
 -- `batch` over the file at this path
 abbrev pub IsBatchOver : List (String Global) → List ℕ → Type 0

@@ -4,6 +4,7 @@
 mod answering;
 pub mod batch;
 mod blank;
+mod commands;
 pub mod damage;
 pub mod end;
 mod filed;

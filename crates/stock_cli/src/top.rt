@@ -21,6 +21,7 @@ use stock_io::sink::{Sink, write_all};
 use stock_io::source::Source;
 use stock_keeper::keeper::Keeper;
 use stock_keeper::shelf::Shelf;
+use stock_nums::memory::NoMemory;
 
 /// The most bytes of input that a run takes.
 const MAX_INPUT: u64 = 1 << 32;
@@ -91,23 +92,24 @@ pub fn stockd<H: Shelf, S: Source, O: Sink, N: Sink>(
     ensures silent { result ≡ 0 → notes.new ≡ notes.old }
     ensures notes_never_fall { NeverFalls (N.faults notes.old) (N.faults notes.new) }
 {
-    match asked_by(words) {
-        Some(Asked::Batch) => {
+    match asked_by(alloc, words) {
+        Ok(Some(Asked::Batch)) => {
             let end = run(alloc, input, output);
             tell(alloc, notes, end)
         }
-        Some(Asked::BatchOver(path)) => {
+        Ok(Some(Asked::BatchOver(path))) => {
             let end = run_over(alloc, shelf, path, input, output);
             tell(alloc, notes, end)
         }
-        None => {
+        Ok(None) => {
             note(notes, USAGE.as_bytes());
             2
         }
+        Err(NoMemory) => without_memory(notes),
     }
 }
 
-/// Notes that memory was wanting before the words were known, and answers the status of that, 3.
+/// Notes that memory was wanting, before the words were known or while they were read, and answers the status of that, 3.
 pub fn without_memory<N: Sink>(notes: &mut N) -> u8
     ensures status { result ≡ status_of End.NoMemory }
     ensures noted { WritesOrFails N.written N.faults notes.old notes.new (note_text End.NoMemory) }

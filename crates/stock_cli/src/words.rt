@@ -1,6 +1,10 @@
 //! What the words of the program ask for.
-ghost use Rattle.std.specs.Prelude.{◌≡◌, ◌↔◌, [], ◌∷◌, IsTrue, MatchOption, map, codes, string_bytes};
-ghost use Rattle.stock_cli.specs.Words.{Spells, SpellsNothing, IsPath, IsFileOption, IsNoFileOption};
+ghost use Rattle.std.specs.Prelude.{◌≡◌, ◌↔◌, ℕ, List, ◌∷◌, IsTrue, IfOk, IfErr, MatchOption, map, codes, string_bytes};
+ghost use Rattle.stock_cli.specs.Words.{Spells, SpellsSome, SpellsNothing, IsPath, IsFileOption};
+
+use crate::commands::{asked_in, matches_of};
+use std::alloc::Global;
+use stock_nums::memory::NoMemory;
 
 /// What the words ask for.
 #[derive(Clone, Copy, Debug)]
@@ -12,52 +16,44 @@ pub enum Asked<'a> {
 }
 
 /// What the words ask for, or None exactly where they are none that the program knows.
-pub(crate) fn asked_by(words: &[String]) -> Option<Asked<'_>>
-    ensures { MatchOption result (SpellsNothing (map string_bytes words.now)) (Spells (map string_bytes words.now)) }
+/// `NoMemory`: memory was wanting. The program knows the words then, since to tell that takes none.
+pub(crate) fn asked_by(alloc: Global, words: &[String]) -> Result<Option<Asked<'_>>, NoMemory>
+    ensures asked { IfOk result (λ asked.
+        MatchOption asked (SpellsNothing (map string_bytes words.now)) (Spells (map string_bytes words.now))) }
+    ensures memory { IfErr result (λ _. SpellsSome (map string_bytes words.now)) }
 {
-    match words {
-        [word] => asked_by_one(word.as_str()),
-        [word, option] => asked_by_two(word.as_str(), option.as_str()),
-        [word, option, path] => asked_by_three(word.as_str(), option.as_str(), path.as_str()),
-        _ => None,
+    if !is_known(words) {
+        return Ok(None);
+    }
+    let Ok(matches) = matches_of(alloc, words) else {
+        return Err(NoMemory);
+    };
+    Ok(asked_in(&matches))
+}
+
+/// Whether the words are a form that the program knows. The parser alone would take more: `--`, and a path of no bytes.
+fn is_known(words: &[String]) -> bool
+    ensures { IsTrue result ↔ SpellsSome (map string_bytes words.now) }
+{
+    let Some((command, options)) = words.split_first() else {
+        return false;
+    };
+    match command.as_str() {
+        "batch" => are_batch_options(options),
+        _ => false,
     }
 }
 
-fn asked_by_one(word: &str) -> Option<Asked<'_>>
-    ensures { MatchOption result (SpellsNothing (word.now ∷ [])) (Spells (word.now ∷ [])) }
+/// Whether the words after `batch` are none, or `--file` and a path, as two words or one.
+fn are_batch_options(options: &[String]) -> bool
+    ensures { IsTrue result ↔ SpellsSome (codes "batch" ∷ map string_bytes options.now) }
 {
-    if is_batch(word) {
-        Some(Asked::Batch)
-    } else {
-        None
+    match options {
+        [] => true,
+        [option] => is_file_option(option.as_str()),
+        [option, path] => is_file(option.as_str()) && is_path(path.as_str()),
+        _ => false,
     }
-}
-
-fn asked_by_two<'a>(word: &str, option: &'a str) -> Option<Asked<'a>>
-    ensures { MatchOption result (SpellsNothing (word.now ∷ option.entry.now ∷ [])) (Spells (word.now ∷ option.entry.now ∷ [])) }
-{
-    if !is_batch(word) {
-        return None;
-    }
-    let path = path_in(option)?;
-    Some(Asked::BatchOver(path))
-}
-
-fn asked_by_three<'a>(word: &str, option: &str, path: &'a str) -> Option<Asked<'a>>
-    ensures { MatchOption result (SpellsNothing (word.now ∷ option.now ∷ path.entry.now ∷ []))
-        (Spells (word.now ∷ option.now ∷ path.entry.now ∷ [])) }
-{
-    if is_batch(word) && is_file(option) && is_path(path) {
-        Some(Asked::BatchOver(path))
-    } else {
-        None
-    }
-}
-
-fn is_batch(word: &str) -> bool
-    ensures { IsTrue result ↔ (word.now ≡ codes "batch") }
-{
-    word == "batch"
 }
 
 fn is_file(word: &str) -> bool
@@ -77,13 +73,10 @@ fn is_path(word: &str) -> bool
     }
 }
 
-/// The path that stands in the word `--file=P`.
-fn path_in(option: &str) -> Option<&str>
-    ensures { MatchOption result (IsNoFileOption option.now) (λ path. IsFileOption option.now path.now) }
+/// Whether the word is `--file=` followed by a path.
+fn is_file_option(word: &str) -> bool
+    ensures { IsTrue result ↔ (path : List ℕ) × IsFileOption word.now path }
 {
-    let path = option.strip_prefix("--file=")?;
-    if path.is_empty() {
-        return None;
-    }
-    Some(path)
+    word.strip_prefix("--file=")
+        .is_some_and(|path| !path.is_empty())
 }

@@ -1,10 +1,14 @@
--- The two words of a batch over a file.
-use Rattle.std.proofs.Common.{arith}
-use Rattle.stock_cli.proofs.WordsLemmas.{asked-two}
+-- What is found in words that the program knows is what they spell.
+use Rattle.std.proofs.Common.{List, Option, map, subst, refl, string_bytes}
+use Rattle.std.specs.Prelude.{MatchOption}
+use Rattle.clap.specs.Words.{Row, Text}
+use Rattle.stock_cli.specs.Commands.{AsksFor, AsksForNothing}
+use Rattle.stock_cli.proofs.WordsLemmas.{known-asked}
 use Rattle.stock_cli.proofs.words.asked_by.Goals as goal
 
-pub returns-in-len2 : goal.returns-in-len2
-returns-in-len2 c =
-    asked-two c.args.words.now c.word-item-then-words-lt3.result c.option-item.result c.as_str-in-len2.result.now c.as_str-in-len2-2.result.now
-    c.asked_by_two.result c.in-len2.len_at_least (omega arith) c.word-item-then-words-lt3.is c.option-item.is
-    c.as_str-in-len2.ensures.value c.as_str-in-len2-2.ensures.value c.asked_by_two.ensures
+pub returns-clause-asked : goal.returns-clause-asked
+returns-clause-asked c =
+    let words = map string_bytes c.args.words.now in
+    known-asked words c.asked_in.result (c.if-not-is_known.ensures.0 refl)
+    (subst (λ (found : Option (Text × List Row)). MatchOption c.asked_in.result (AsksForNothing found) (AsksFor found))
+    c.in-Ok.ensures.found c.asked_in.ensures)
