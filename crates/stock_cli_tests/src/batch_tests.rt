@@ -200,7 +200,11 @@ fn ends(
     let mut shelf = shelf(alloc, None)?;
     let piece = SETTLE.len() + 3;
     let ended = run(alloc, &["batch"], &mut shelf, input, piece, failing)?;
-    Ok(ended.status == status && ended.output.bytes() == output.as_bytes() && ended.notes.bytes() == notes.as_bytes())
+    Ok(
+        ended.status == status
+            && ended.output.bytes() == output.as_bytes()
+            && ended.notes.bytes() == notes.as_bytes(),
+    )
 }
 
 #[test]

@@ -1,5 +1,6 @@
 //! Runs of the program over memory. Here alone the top call is made, without clauses, so that its contract is met once for all
 //! tests.
+ghost use Rattle.std.specs.Prelude.{◌<◌};
 
 use std::alloc::Global;
 use stock_cli::top;
@@ -74,7 +75,9 @@ pub fn run(
     input: Vec<u8>,
     piece: usize,
     failing: Failing,
-) -> Result<Ended, NoMemory> {
+) -> Result<Ended, NoMemory>
+    requires { 0 < piece }
+{
     let mut owned = Vec::new(alloc);
     for word in words {
         owned.push(word.to_string(alloc)?)?;
