@@ -1,8 +1,11 @@
 pub mod FreshTurns
+pub mod LockedHistories
+pub mod LockedTurns
 pub mod OpenedBooks
 pub mod Paces
 pub mod RunLaws
 pub mod Running
+pub mod Stops
 pub mod StoredPosts
 pub mod TurnsAhead
 pub mod Working

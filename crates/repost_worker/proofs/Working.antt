@@ -38,7 +38,7 @@ turn-publishes (Fetched n) = tt
 turn-publishes (Published n) = tt
 turn-publishes Idle = tt
 
-turn-grows : (old new : List Deed) (build next : Build) (turned : Turned) → IsTurnTo old build turned new next
+pub turn-grows : (old new : List Deed) (build next : Build) (turned : Turned) → IsTurnTo old build turned new next
     → new ≡ old ++ publications turned
 turn-grows old new build next (Valued place) turn = turn.0 ∙ sym (append-nil old)
 turn-grows old new build next (Fetched n) turn = turn.3 ∙ sym (append-nil old)

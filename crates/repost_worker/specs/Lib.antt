@@ -3,3 +3,4 @@ pub mod Published
 pub mod Runs
 pub mod Paces
 pub mod Openings
+pub mod LockedTurns

@@ -1,6 +1,7 @@
 //! Who revalues: one turn of the policy over a book and a build, and runs of turns.
 #![tactic(auto)]
 
+pub mod locked_turn;
 pub mod opening;
 pub mod revalued_book;
 pub mod run;
