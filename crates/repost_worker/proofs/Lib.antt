@@ -8,5 +8,6 @@ pub mod Running
 pub mod Stops
 pub mod StoredPosts
 pub mod TurnsAhead
+pub mod UnderWay
 pub mod Working
 pub mod Works

@@ -4,3 +4,4 @@ pub mod Runs
 pub mod Paces
 pub mod Openings
 pub mod LockedTurns
+pub mod GatedRuns
