@@ -1,4 +1,5 @@
 pub mod FreshTurns
+pub mod GatedRuns
 pub mod LockedHistories
 pub mod LockedTurns
 pub mod OpenedBooks

@@ -26,13 +26,13 @@ pub publishes-none : (history : List Deed) (keeper : KeeperState) → Publishes 
 publishes-none history keeper =
     record { more = []; publications = tt; grows = sym (append-nil history); between = keeper; done = refl; last = refl }
 
-both-publish : (first second : List Deed) → ArePublications first → ArePublications second → ArePublications (first ++ second)
+pub both-publish : (first second : List Deed) → ArePublications first → ArePublications second → ArePublications (first ++ second)
 both-publish [] second one other = other
 both-publish (deed.Kept item ∷ first) second one other = one
 both-publish (deed.Published n ∷ first) second one other = both-publish first second one other
 
 -- what a turn adds to the history
-turn-publishes : (turned : Turned) → ArePublications (publications turned)
+pub turn-publishes : (turned : Turned) → ArePublications (publications turned)
 turn-publishes (Valued place) = tt
 turn-publishes (Fetched n) = tt
 turn-publishes (Published n) = tt

@@ -2,6 +2,7 @@
 #![tactic(auto)]
 
 pub mod gate;
+pub mod gated_run_laws;
 pub mod locked_turn;
 pub mod opening;
 pub mod revalued_book;

@@ -89,6 +89,15 @@ impl<K: Keeper> RevaluedBook<K> {
         book
     }
 
+    /// The book and the build that works for it, for good.
+    pub fn into_parts(self) -> (Book<K>, Build)
+        ensures pace { pace_of result.0 result.1 ≡ self }
+        ensures work { IsWorkOf result.0.history result.1 }
+    {
+        let RevaluedBook { book, build } = self;
+        (book, build)
+    }
+
     /// Accepts a record, or refuses it for its first fault, as `Book::post` does. No movement is revalued.
     pub fn post(&mut self, alloc: Global, item: Record) -> Result<RecordNo, PostFault>
         ensures sound { OnOk result (fault (history.records self.old.history) item ≡ None) }
