@@ -1,5 +1,5 @@
 -- A turn at the lock, by the clauses of its `take` and `give`, for a book whose history is that of deeds with their makers.
-use Rattle.std.proofs.Common.{◌≡◌, ℕ, ◌+◌, ◌-◌, ◌≤◌, ◌⊎◌, ⊎_elim, List, [], ◌∷◌, ◌++◌, length, sym, refl, ap, ◌∙◌, subst, arith}
+use Rattle.std.proofs.Common.{◌≡◌, ℕ, ◌+◌, ◌-◌, ◌^◌, ◌<◌, ◌≤◌, ◌⊎◌, ⊎_elim, List, [], ◌∷◌, ◌++◌, length, sym, refl, ap, ◌∙◌, subst, arith}
 use Rattle.std.proofs.lemmas.List.Elements.{All-nil}
 use Rattle.std.specs.Prelude.{All, Some, Ok}
 use Rattle.turn_lock.proofs.Lists.{begins_more, past_more}
@@ -45,12 +45,13 @@ pub IsTurn-from_lock : (desk : ℕ) (old new : View Deed) (request : Request) (a
     (taken : List (ℕ × Deed)) (taken_faults given_faults : ℕ)
     → BeginsWith taken old.seen → with_makers before ≡ taken
     → after ≡ before ++ kept → LacksMemory answer kept ⊎ IsAnswer desk before request answer kept
-    → store_failures answer + taken_faults ≤ given_faults
+    → (given_faults < 2 ^ 64 - 1 → store_failures answer + taken_faults ≤ given_faults)
+    → old.seen_faults ≤ taken_faults → taken_faults ≤ given_faults → new.seen_faults ≡ given_faults
     → new.seen ≡ with_makers after → new.made ≡ old.made ++ past taken (with_makers after)
     → new.stops ≡ old.stops ++ length taken ∷ [] → new.faults ≡ old.faults + (given_faults - taken_faults)
     → IsTurn desk old new request (record { asked = Ok request; answer = answer; stop = Some (length taken); kept = kept })
 IsTurn-from_lock desk old new request answer before after kept taken taken_faults given_faults
-    begins took adds answered failed seen made stops faults =
+    begins took adds answered failed later no_fewer seen_faults seen made stops faults =
     record {
       taken = taken;
       begins = begins;
@@ -61,5 +62,6 @@ IsTurn-from_lock desk old new request answer before after kept taken taken_fault
       seen = seen ∙ ap with_makers adds ∙ with_makers-append before kept ∙ ap (λ (z : List (ℕ × Deed)). z ++ with_makers kept) took;
       stops = stops;
       made = made ∙ ap (λ (z : List (ℕ × Deed)). old.made ++ past taken z) (sym seen);
-      failed = omega arith;
+      no_fewer_faults = omega arith;
+      failed = λ counts. omega (arith, failed (omega (arith, counts, seen_faults)));
     }

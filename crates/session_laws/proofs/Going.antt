@@ -34,7 +34,8 @@ Session-none desk pass =
       in_order = tt;
       answers = All-nil (IsExchange desk (without_makers pass.seen));
       made = sym (append-nil pass.made);
-      failed = omega arith;
+      no_fewer_faults = omega arith;
+      failed = λ _. omega arith;
     }
 
 module _ (desk : ℕ) (old mid new : View Deed) (a b : List Exchange)
@@ -82,5 +83,7 @@ module _ (desk : ℕ) (old mid new : View Deed) (a b : List Exchange)
         in_order = in_order-both;
         answers = answers-both;
         made = made-both;
-        failed = omega (arith, failures-append a b, front.failed, rest.failed);
+        no_fewer_faults = omega (arith, front.no_fewer_faults, rest.no_fewer_faults);
+        failed = λ counts.
+            omega (arith, failures-append a b, front.failed (omega (arith, counts, rest.no_fewer_faults)), rest.failed counts);
       }

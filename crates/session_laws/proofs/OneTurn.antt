@@ -89,7 +89,8 @@ module _ (desk : ℕ) (old new : View Deed) (request : Request) (t : Exchange) (
         answers = All-cons (IsExchange desk (without_makers new.seen)) t [] exchange-is
             (All-nil (IsExchange desk (without_makers new.seen)));
         made = turn.made ∙ ap (λ (z : List (ℕ × Deed)). old.made ++ z) added-is;
-        failed = omega (arith, turn.failed);
+        no_fewer_faults = turn.no_fewer_faults;
+        failed = λ counts. omega (arith, turn.failed counts);
       }
 
 store_failures-quiet_answer : (asked : Result Request ReadFault) → store_failures (quiet_answer asked) ≡ 0
@@ -121,5 +122,6 @@ module _ (desk : ℕ) (pass : View Deed) (t : Exchange) (quiet : IsQuiet t) wher
         answers = All-cons (IsExchange desk (without_makers pass.seen)) t [] quiet-exchange
             (All-nil (IsExchange desk (without_makers pass.seen)));
         made = sym (ap (λ (kept : List Deed). pass.made ++ with_makers (kept ++ [])) quiet.kept ∙ append-nil pass.made);
-        failed = omega (arith, no-failure);
+        no_fewer_faults = omega arith;
+        failed = λ _. omega (arith, no-failure);
       }

@@ -1,5 +1,5 @@
 -- The two kinds of steps that make a session: an exchange that takes a turn at the lock, and one that takes none.
-use Rattle.std.specs.Prelude.{ℕ, ◌≡◌, ◌+◌, ◌≤◌, ◌⊎◌, List, [], ◌∷◌, ◌++◌, length, Some, None, Result, Ok, Err}
+use Rattle.std.specs.Prelude.{ℕ, ◌≡◌, ◌+◌, ◌-◌, ◌^◌, ◌<◌, ◌≤◌, ◌⊎◌, List, [], ◌∷◌, ◌++◌, length, Some, None, Result, Ok, Err}
 use Rattle.turn_lock.specs.Histories.{BeginsWith, past}
 use Rattle.turn_lock.specs.declared.view.View.{View}
 use Rattle.stock_model.specs.declared.answers.Answer.{Answer}
@@ -22,7 +22,8 @@ pub record IsTurn (desk : ℕ) (old new : View Deed) (request : Request) (exchan
   pub seen : new.seen ≡ taken ++ with_makers exchange.kept
   pub stops : new.stops ≡ old.stops ++ length taken ∷ []
   pub made : new.made ≡ old.made ++ past taken new.seen
-  pub failed : store_failures exchange.answer + old.faults ≤ new.faults
+  pub no_fewer_faults : old.seen_faults ≤ new.seen_faults
+  pub failed : new.seen_faults < 2 ^ 64 - 1 → store_failures exchange.answer + old.faults ≤ new.faults
 
 -- the answer without a turn: the body is no request, or memory was wanting
 abbrev pub quiet_answer : Result Request ReadFault → Answer
