@@ -27,7 +27,8 @@ module _ (reads : List ℕ → Result Request ReadFault → Type 0) (desk : ℕ)
   pub HasSession-none : (pass : View Deed) → HasSession reads desk pass pass [] []
   HasSession-none pass = ([], Session-none desk pass, record { asked = tt; answers_are = refl })
 
-  HasSession-more : (old mid new : View Deed) (bodies : List (List ℕ)) (answers : List Answer) (body : List ℕ) (t : Exchange)
+  -- one more exchange
+  pub HasSession-more : (old mid new : View Deed) (bodies : List (List ℕ)) (answers : List Answer) (body : List ℕ) (t : Exchange)
       → HasSession reads desk old mid bodies answers → IsAsked reads body t.asked → Session desk mid new (t ∷ [])
       → HasSession reads desk old new (bodies ++ body ∷ []) (answers ++ t.answer ∷ [])
   HasSession-more old mid new bodies answers body t has asked more = (

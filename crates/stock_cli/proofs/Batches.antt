@@ -11,7 +11,8 @@ use Rattle.stock_model.specs.History.{IsLegal}
 use Rattle.stock_model.specs.InputLines.{is_asked, is_blank, lines_of, whole_lines_of}
 use Rattle.repost_worker.specs.Paces.{Pace}
 use Rattle.voucher_json.specs.Requests.{IsReadAs}
-use Rattle.stock_cli.specs.Answers.{answer_line, ShowsKeptStock}
+use Rattle.book_answers.specs.Answers.{ShowsKeptStock}
+use Rattle.stock_cli.specs.Answers.{answer_line}
 use Rattle.stock_cli.specs.declared.batch.Batch.{Batch}
 use Rattle.stock_cli.specs.declared.open_line.OpenLine.{OpenLine}
 use Rattle.stock_cli.specs.InputParts.{HasNoFeed}

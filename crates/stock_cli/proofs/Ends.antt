@@ -14,7 +14,7 @@ use Rattle.repost_worker.specs.Paces.{Pace}
 use Rattle.stock_cli.specs.Statuses.{HasCause, IsReadToEnd, max_input}
 use Rattle.stock_cli.specs.Replies.{Answered}
 use Rattle.std.proofs.lemmas.List.Elements.{All-nil}
-use Rattle.stock_cli.specs.Answers.{ShowsKeptStock}
+use Rattle.book_answers.specs.Answers.{ShowsKeptStock}
 use Rattle.stock_cli.specs.Batches.{StandsFor, GoesOn}
 use Rattle.stock_cli.specs.Ran.{Ran, UnderWay, TakesPiece, Stops, Finishes, IsOutputEnd, IsLastEnd}
 use Rattle.stock_cli.proofs.Batches.{Answered-whole}

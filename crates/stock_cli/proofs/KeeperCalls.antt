@@ -1,11 +1,9 @@
 -- Which calls of the keeper an answer tells.
-use Rattle.std.proofs.Common.{◌≡◌, ◌⊎◌, ℕ, ◌≤◌, List, [], ◌∷◌, ◌++◌, Option, None, Some, Result, Ok, Err, IfOk, OnErr, IfSome, inl, inr, refl, sym, ap, ◌∙◌, subst, append-nil, arith}
+use Rattle.std.proofs.Common.{◌≡◌, ◌⊎◌, ℕ, ◌≤◌, List, [], ◌∷◌, ◌++◌, Option, None, Some, Result, Ok, Err, IfOk, OnErr, inl, inr, refl, sym, ◌∙◌, subst, append-nil, arith}
 use Rattle.stock_nums.specs.declared.memory.NoMemory as memory
 use Rattle.stock_nums.specs.declared.numbers.RecordNo.{RecordNo}
-use Rattle.stock_io.specs.Counts.{NeverFalls}
 use Rattle.stock_model.specs.declared.answers.Answer.{Answer}
 use Rattle.stock_model.specs.declared.answers.Answer.TheVariants.{Told}
-use Rattle.stock_model.specs.declared.deeds.Deed.{Deed}
 use Rattle.stock_model.specs.declared.deeds.Deed.TheVariants.{Kept}
 use Rattle.stock_model.specs.declared.faults.PostFault.{PostFault}
 use Rattle.stock_model.specs.declared.faults.PostFault.TheVariants.{CodeTaken, CodeShape, AccountRange, UnknownItem, UnknownStore, SameStore, UnknownTarget, LinkLater, RepeatedTarget, OverReturn, NoBasis, Full, Short, KeeperFailed, NoMemory}
@@ -13,13 +11,14 @@ use Rattle.stock_model.specs.declared.records.Record.{Record}
 use Rattle.stock_model.specs.declared.replies.Reply.{Reply}
 use Rattle.stock_model.specs.declared.replies.Reply.TheVariants.{Accepted}
 use Rattle.stock_model.specs.PostReplies.{refusal, TellsStoreFailed}
-use Rattle.stock_keeper.specs.Calls.{KeeperState, IsDone, AreDone}
+use Rattle.stock_keeper.specs.Calls.{KeeperState, IsDone}
 use Rattle.stock_keeper.specs.declared.fault.KeepFault.{KeepFault}
 use Rattle.stock_keeper.specs.declared.fault.KeepFault.TheVariants as keep_fault
 use Rattle.generation_book.specs.Refusals.{IsAfterRefusal}
 use Rattle.repost_worker.specs.Paces.{Pace, WorksInPace}
 use Rattle.repost_worker.specs.Published.{Publishes}
-use Rattle.stock_cli.specs.Answers.{HasText}
+use Rattle.book_answers.specs.Answers.{HasText}
+use Rattle.book_answers.proofs.KeeperFaults.{never_falls-refused}
 use Rattle.stock_cli.specs.Paces.{IsLastCall, CallsKeeper, IsStopped, IsAfterTurns}
 
 -- none was made
@@ -56,23 +55,6 @@ last-refused journal (Full held entries) old new after told = after
 last-refused journal (Short place item store lacking) old new after told = after
 last-refused journal KeeperFailed old new after told = after
 last-refused journal NoMemory old new after told = absurd told
-
-never_falls-refused : (f : PostFault) (old new : KeeperState) → IsAfterRefusal f old new → NeverFalls old.faults new.faults
-never_falls-refused CodeTaken old new after = omega (arith, ap (λ k. k.faults) after)
-never_falls-refused CodeShape old new after = omega (arith, ap (λ k. k.faults) after)
-never_falls-refused AccountRange old new after = omega (arith, ap (λ k. k.faults) after)
-never_falls-refused (UnknownItem n) old new after = omega (arith, ap (λ k. k.faults) after)
-never_falls-refused (UnknownStore n) old new after = omega (arith, ap (λ k. k.faults) after)
-never_falls-refused (SameStore n) old new after = omega (arith, ap (λ k. k.faults) after)
-never_falls-refused (UnknownTarget n) old new after = omega (arith, ap (λ k. k.faults) after)
-never_falls-refused (LinkLater n) old new after = omega (arith, ap (λ k. k.faults) after)
-never_falls-refused (RepeatedTarget n) old new after = omega (arith, ap (λ k. k.faults) after)
-never_falls-refused (OverReturn n asked left) old new after = omega (arith, ap (λ k. k.faults) after)
-never_falls-refused NoBasis old new after = omega (arith, ap (λ k. k.faults) after)
-never_falls-refused (Full held entries) old new after = omega (arith, ap (λ k. k.faults) after)
-never_falls-refused (Short place item store lacking) old new after = omega (arith, ap (λ k. k.faults) after)
-never_falls-refused KeeperFailed old new after = after.never_falls
-never_falls-refused NoMemory old new after = after
 
 pub calls-refused : (r : Result Answer memory.NoMemory) (old new : Pace) (journal : List Record) (f : PostFault) → new.history ≡ old.history
     → IsAfterRefusal f old.keeper new.keeper → IfOk r (λ answer. answer ≡ refusal journal f) → IfOk r HasText

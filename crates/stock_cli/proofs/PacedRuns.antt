@@ -9,7 +9,7 @@ use Rattle.stock_model.specs.declared.read_faults.ReadFault.{ReadFault}
 use Rattle.stock_model.specs.declared.requests.Request.{Request}
 use Rattle.stock_model.specs.Run.{Run, IsAnswerTo}
 use Rattle.repost_worker.specs.Paces.{Pace}
-use Rattle.stock_cli.specs.Answers.{HasText}
+use Rattle.book_answers.specs.Answers.{HasText}
 use Rattle.stock_cli.specs.OpenLines.{StandsForLine}
 use Rattle.stock_cli.specs.Paces.{state_of, KeepsPace, CallsKeeper, PacedStep, PacedRun}
 use Rattle.stock_cli.specs.declared.open_line.OpenLine.{OpenLine}

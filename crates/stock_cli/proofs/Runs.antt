@@ -1,5 +1,5 @@
 -- How a run goes on, and which answers make its steps.
-use Rattle.std.proofs.Common.{◌≡◌, ℕ, ◌+◌, ◌≤◌, Bool, false, ltb, List, [], ◌∷◌, ◌++◌, length, refl, sym, ap, ◌∙◌, subst, length-append, arith, inl, inr, Option, None, Some, Result, Ok, Err, IfOk}
+use Rattle.std.proofs.Common.{◌≡◌, ℕ, ◌≤◌, Bool, false, ltb, List, [], ◌∷◌, ◌++◌, length, refl, sym, ap, ◌∙◌, subst, inl, inr, Option, None, Some, Result, Ok, Err, IfOk}
 use Rattle.std.proofs.lemmas.Bool.{ltb-false}
 use Rattle.stock_nums.specs.declared.numbers.RecordNo.{RecordNo}
 use Rattle.stock_model.specs.declared.records.Record.{Record}
@@ -7,16 +7,10 @@ use Rattle.stock_model.specs.declared.deeds.Deed.{Deed}
 use Rattle.stock_model.specs.declared.deeds.Deed.TheVariants.{Kept}
 use Rattle.stock_nums.specs.declared.memory.NoMemory as memory
 use Rattle.stock_model.specs.declared.faults.PostFault.{PostFault}
-use Rattle.stock_model.specs.declared.faults.PostFault.TheVariants.{CodeTaken, CodeShape, AccountRange, UnknownItem, UnknownStore, SameStore, UnknownTarget, LinkLater, RepeatedTarget, OverReturn, NoBasis, Full, Short, KeeperFailed, NoMemory}
 use Rattle.stock_model.specs.declared.requests.Request.TheVariants.{Post}
 use Rattle.stock_model.specs.declared.answers.Answer.{Answer}
 use Rattle.stock_model.specs.declared.answers.Answer.TheVariants.{Told}
-use Rattle.stock_model.specs.declared.replies.Reply.TheVariants.{Accepted, Pending, NoSuchRecord, Worked, Settled, Bad}
-use Rattle.stock_model.specs.declared.queries.Need.{Need}
-use Rattle.stock_model.specs.declared.queries.Need.TheVariants as need
-use Rattle.stock_model.specs.declared.queries.Query.{Query}
-use Rattle.stock_model.specs.declared.queries.SelectFault.TheVariants as unmet
-use Rattle.stock_model.specs.Reports.{unmet_need, report_by}
+use Rattle.stock_model.specs.declared.replies.Reply.TheVariants.{Accepted, Worked, Settled, Bad}
 use Rattle.stock_model.specs.PostReplies.{refusal}
 use Rattle.stock_model.specs.Faults.{fault}
 use Rattle.stock_model.specs.History.{records, accepted, covered}
@@ -30,41 +24,20 @@ use Rattle.stock_keeper.specs.declared.fault.KeepFault.TheVariants.{Failed}
 use Rattle.generation_book.specs.Refusals.{IsRefusalOf}
 use Rattle.repost_worker.specs.Published.{Publishes}
 use Rattle.stock_cli.specs.Paces.{IsAfterTurns}
-use Rattle.stock_cli.specs.Answers.{HasText}
-use Rattle.stock_laws.proofs.Histories.{records-append}
+use Rattle.book_answers.specs.Answers.{HasText}
+use Rattle.book_answers.proofs.PostAnswers.{IsPostAnswer-accepted, IsPostAnswer-told}
 
 -- a record without a fault that was kept is accepted under the next number
 pub IsAnswerTo-accepted : (old new : List Deed) (item : Record) (n : RecordNo) → item.desk.0 ≡ 0 → fault (records old) item ≡ None
     → new ≡ old ++ Kept item ∷ [] → n.0 ≡ accepted new → IsAnswerTo old (Post item.what) (Told (Accepted n) []) new
 IsAnswerTo-accepted old new item n desk sound kept is =
-    let count : n.0 ≡ accepted old + 1 =
-    is ∙ ap accepted kept ∙ ap length (records-append old (Kept item ∷ [])) ∙ omega (arith, length-append (records old) (item ∷ [])) in
-    (item, refl, record { desk = desk; answers = rw sound (inl (ap (λ (k : ℕ). Told (Accepted (record { 0 = k })) []) count, kept)) })
-
--- a record that was refused has that fault first, and nothing changed
-pub IsAnswerTo-refused : (old new : List Deed) (item : Record) (f : PostFault) → item.desk.0 ≡ 0 → fault (records old) item ≡ Some f
-    → new ≡ old → IsAnswerTo old (Post item.what) (refusal (records old) f) new
-IsAnswerTo-refused old new item f desk is same = (item, refl, record { desk = desk; answers = rw is (refl, same) })
+    (item, refl, record { desk = desk; answers = IsPostAnswer-accepted old new item n sound kept is })
 
 -- where a refusal is told, the record has that fault first, or what keeps the records failed; want of memory is not told
 pub IsAnswerTo-told : (old new : List Deed) (item : Record) (f : PostFault) → item.desk.0 ≡ 0 → IsRefusalOf (records old) item f → new ≡ old
     → HasText (refusal (records old) f) → IsAnswerTo old (Post item.what) (refusal (records old) f) new
-IsAnswerTo-told old new item CodeTaken desk is same told = IsAnswerTo-refused old new item CodeTaken desk is same
-IsAnswerTo-told old new item CodeShape desk is same told = IsAnswerTo-refused old new item CodeShape desk is same
-IsAnswerTo-told old new item AccountRange desk is same told = IsAnswerTo-refused old new item AccountRange desk is same
-IsAnswerTo-told old new item (UnknownItem n) desk is same told = IsAnswerTo-refused old new item (UnknownItem n) desk is same
-IsAnswerTo-told old new item (UnknownStore n) desk is same told = IsAnswerTo-refused old new item (UnknownStore n) desk is same
-IsAnswerTo-told old new item (SameStore n) desk is same told = IsAnswerTo-refused old new item (SameStore n) desk is same
-IsAnswerTo-told old new item (UnknownTarget n) desk is same told = IsAnswerTo-refused old new item (UnknownTarget n) desk is same
-IsAnswerTo-told old new item (LinkLater n) desk is same told = IsAnswerTo-refused old new item (LinkLater n) desk is same
-IsAnswerTo-told old new item (RepeatedTarget n) desk is same told = IsAnswerTo-refused old new item (RepeatedTarget n) desk is same
-IsAnswerTo-told old new item (OverReturn n asked left) desk is same told = IsAnswerTo-refused old new item (OverReturn n asked left) desk is same
-IsAnswerTo-told old new item NoBasis desk is same told = IsAnswerTo-refused old new item NoBasis desk is same
-IsAnswerTo-told old new item (Full held entries) desk is same told = IsAnswerTo-refused old new item (Full held entries) desk is same
-IsAnswerTo-told old new item (Short place item' store lacking) desk is same told = IsAnswerTo-refused old new item (Short place item' store lacking) desk is same
-IsAnswerTo-told old new item KeeperFailed desk none same told =
-    (item, refl, record { desk = desk; answers = rw none (inr (refl, same)) })
-IsAnswerTo-told old new item NoMemory desk is same told = absurd told
+IsAnswerTo-told old new item f desk is same told =
+    (item, refl, record { desk = desk; answers = IsPostAnswer-told old new item f is same told })
 
 -- so it is of any answer that is this refusal
 pub IsAnswerTo-refusal : (old new : List Deed) (item : Record) (f : PostFault) (r : Result Answer memory.NoMemory) → item.desk.0 ≡ 0
@@ -75,17 +48,6 @@ IsAnswerTo-refusal old new item f (Ok answer) desk first same is told =
     let is_so : answer ≡ refusal (records old) f = is ∙ ap (λ (history : List Deed). refusal (records history) f) same in
     subst (λ (a : Answer). IsAnswerTo old (Post item.what) a new) (sym is_so)
     (IsAnswerTo-told old new item f desk first same (subst HasText is_so told))
-
--- a report whose need isn't met tells why
-pub report-pending : (n : Need) (history : List Deed) (query : Query) (c w : RecordNo) → unmet_need n ≡ Some (unmet.Pending c w) → report_by n history query ≡ Told (Pending c w) []
-report-pending need.Ready history query c w is = cc
-report-pending (need.Pending covered wanted) history query c w is = cc
-report-pending (need.NoSuchRecord accepted wanted) history query c w is = cc
-
-pub report-none : (n : Need) (history : List Deed) (query : Query) (a w : RecordNo) → unmet_need n ≡ Some (unmet.NoSuchRecord a w) → report_by n history query ≡ Told (NoSuchRecord a w) []
-report-none need.Ready history query a w is = cc
-report-none (need.Pending covered wanted) history query a w is = cc
-report-none (need.NoSuchRecord accepted wanted) history query a w is = cc
 
 -- turns after which all is covered settle, unless what keeps the records failed
 pub Settles-made : (stopped : Option KeepFault) (old new : List Deed) (keeper keeper' : KeeperState) (n : RecordNo) (answer : Answer)

@@ -4,7 +4,8 @@ use Rattle.std.specs.List.{flat_map}
 use Rattle.stock_model.specs.declared.answers.Answer.{Answer}
 use Rattle.stock_model.specs.History.{IsLegal}
 use Rattle.repost_worker.specs.Paces.{Pace}
-use Rattle.stock_cli.specs.Answers.{answer_line, ShowsKeptStock}
+use Rattle.book_answers.specs.Answers.{ShowsKeptStock}
+use Rattle.stock_cli.specs.Answers.{answer_line}
 use Rattle.stock_cli.specs.declared.batch.Batch.{Batch}
 use Rattle.stock_cli.specs.InputParts.{Parted}
 use Rattle.stock_cli.specs.OpenLines.{StandsForLine}

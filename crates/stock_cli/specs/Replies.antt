@@ -2,15 +2,14 @@
 use Rattle.std.specs.Prelude.{false, ℕ, ◌≡◌, List, [], ◌∷◌, ◌++◌, All, filter}
 use Rattle.std.specs.List.{flat_map}
 use Rattle.stock_model.specs.declared.deeds.Deed.{Deed}
-use Rattle.stock_model.specs.declared.faults.PostFault.{PostFault}
-use Rattle.stock_model.specs.declared.faults.PostFault.TheVariants as fault_of
 use Rattle.stock_model.specs.declared.answers.Answer.{Answer}
 use Rattle.stock_model.specs.History.{IsLegal}
 use Rattle.stock_model.specs.InputLines.{is_asked}
 use Rattle.stock_model.specs.Run.{Run}
 use Rattle.repost_worker.specs.Paces.{Pace}
 use Rattle.voucher_json.specs.Requests.{IsReadAs}
-use Rattle.stock_cli.specs.Answers.{answer_line, ShowsKeptStock}
+use Rattle.book_answers.specs.Answers.{ShowsKeptStock}
+use Rattle.stock_cli.specs.Answers.{answer_line}
 use Rattle.stock_cli.specs.Paces.{state_of, PacedRun}
 
 -- From the history old on, the lines have these answers, each at its point of one history, which is the new one in the
@@ -38,8 +37,3 @@ pub record AnswersLine (line : List ℕ) (old new : Pace) (waiting after : List 
   pub paced : PacedOver (line ∷ []) old answers new
   pub keeps : All ShowsKeptStock answers
   pub text_is : after ≡ waiting ++ flat_map answer_line answers
-
--- the reply to this fault tells codes, and so it takes memory
-abbrev pub TellsCodes : PostFault → Type 0
-TellsCodes (fault_of.Short place item store lacking) = Unit {0}
-TellsCodes _ = ⊥

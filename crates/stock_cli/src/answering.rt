@@ -8,19 +8,19 @@ ghost use Rattle.repost_worker.specs.Paces.{IsSamePace};
 ghost use Rattle.stock_keeper.specs.declared.fault.KeepFault.TheVariants as keep_fault;
 ghost use Rattle.voucher_json.specs.Requests.{IsReadAs, IsWithinLimits};
 ghost use Rattle.voucher_json.specs.ReplyText.{IsPrinted};
-ghost use Rattle.stock_cli.specs.Answers.{HasText, ShowsKeptStock};
+ghost use Rattle.book_answers.specs.Answers.{HasText, ShowsKeptStock};
 ghost use Rattle.stock_cli.specs.OpenLines.{StandsForLine};
 ghost use Rattle.stock_cli.specs.Paces.{KeepsPace, CallsKeeper, IsStopped, IsAfterTurns, PacedStep};
 
 use crate::open_line::OpenLine;
-use crate::refusing::{bad, refused, told};
+use book_answers::refusing::{bad, refused, told};
+use book_answers::reporting;
 use repost_worker::revalued_book::RevaluedBook;
 use std::alloc::Global;
 use stock_keeper::fault::KeepFault;
 use stock_keeper::keeper::Keeper;
-use stock_laws::selected_laws::the_ledger_keeps_the_stock;
 use stock_model::answers::Answer;
-use stock_model::queries::{Query, SelectFault};
+use stock_model::queries::Query;
 use stock_model::records::Record;
 use stock_model::replies::Reply;
 use stock_model::requests::Request;
@@ -163,15 +163,5 @@ fn report<K: Keeper>(
     ensures text { IfOk result HasText }
     ensures keeps { IfOk result ShowsKeptStock }
 {
-    the_ledger_keeps_the_stock();
-    match book.book().select(alloc, &query) {
-        Ok(selected) => Ok(Answer::Shown { query, selected }),
-        Err(SelectFault::Pending { covered, wanted }) => {
-            Ok(told(alloc, Reply::Pending { covered, wanted }))
-        }
-        Err(SelectFault::NoSuchRecord { accepted, wanted }) => {
-            Ok(told(alloc, Reply::NoSuchRecord { accepted, wanted }))
-        }
-        Err(SelectFault::NoMemory) => Err(NoMemory),
-    }
+    reporting::report(alloc, book.book(), query)
 }

@@ -9,7 +9,6 @@ pub mod damage;
 pub mod end;
 mod filed;
 pub mod open_line;
-mod refusing;
 mod split;
 pub mod top;
 mod waiting;

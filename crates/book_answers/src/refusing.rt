@@ -1,9 +1,8 @@
-//! The answer to a record that was refused, and to a line that is no request.
+//! The answer to a record that was refused, and to a text that is no request.
 ghost use Rattle.std.specs.Prelude.{◌≡◌, ◌⊎◌, [], ◌++◌, List, filter_map, option_to_list, IfOk, OnOk, OnErr};
 ghost use Rattle.stock_model.specs.PostReplies.{head_at, named, refusal};
 ghost use Rattle.stock_model.specs.History.{records};
-ghost use Rattle.stock_cli.specs.Answers.{HasText};
-ghost use Rattle.stock_cli.specs.Replies.{TellsCodes};
+ghost use Rattle.book_answers.specs.Answers.{HasText, TellsCodes};
 
 use generation_book::book::Book;
 use std::alloc::Global;
@@ -93,7 +92,7 @@ fn push_head<K: Keeper>(
     Ok(())
 }
 
-/// The answer to a line that is no request. It takes no memory.
+/// The answer to a text that is no request. It takes no memory.
 ///
 /// # Errors
 ///

@@ -1,0 +1,3 @@
+pub mod KeeperFaults
+pub mod PostAnswers
+pub mod UnmetNeeds
