@@ -13,7 +13,8 @@ use Rattle.repost_worker.specs.LockedTurns.{IsStop}
 use Rattle.repost_worker.specs.Turns.{publications}
 use Rattle.repost_worker.specs.declared.turn.Turned.{Turned}
 use Rattle.repost_worker.specs.declared.turn.Turned.TheVariants.{Valued, Fetched, Published, Idle}
-use Rattle.repost_worker.proofs.LockedHistories.{with_makers-append, with_makers-begins}
+use Rattle.session_laws.proofs.MakersOf.{with_makers-append}
+use Rattle.repost_worker.proofs.LockedHistories.{with_makers-begins}
 use Rattle.repost_worker.proofs.Working.{both-publish, turn-publishes}
 
 -- the pass made these publications and no more

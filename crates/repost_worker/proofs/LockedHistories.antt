@@ -1,33 +1,21 @@
 -- Histories with makers, and what a history has past what was seen where nobody published since.
 use Rattle.std.proofs.Common.{Bool, true, false, cond, ◌≡◌, ℕ, List, [], ◌∷◌, ◌++◌, length, drop, refl, sym, ap, ◌∙◌, subst}
 use Rattle.std.specs.Prelude.{◌==◌}
-use Rattle.std.proofs.lemmas.List.{map-append, length-map, drop-map}
+use Rattle.std.proofs.lemmas.List.{drop-map}
 use Rattle.stock_model.specs.History.{covered_after}
 use Rattle.stock_model.specs.declared.deeds.Deed.{Deed}
 use Rattle.stock_model.specs.declared.deeds.Deed.TheVariants.{Kept, Published}
 use Rattle.turn_lock.specs.Histories.{BeginsWith, past, made_by}
 use Rattle.turn_lock.proofs.Lists.{begins_is, begins_more, past_more}
 use Rattle.session_laws.specs.Makers.{maker, with_makers, without_makers}
-
-pub without_makers-with_makers : (history : List Deed) → without_makers (with_makers history) ≡ history
-without_makers-with_makers [] = refl
-without_makers-with_makers (deed ∷ history) = ap (λ (h : List Deed). deed ∷ h) (without_makers-with_makers history)
-
-pub with_makers-append : (old more : List Deed) → with_makers (old ++ more) ≡ with_makers old ++ with_makers more
-with_makers-append old more = map-append (λ (d : Deed). (maker d, d)) old more
-
-pub without_makers-append : (old more : List (ℕ × Deed)) → without_makers (old ++ more) ≡ without_makers old ++ without_makers more
-without_makers-append old more = map-append (λ (e : ℕ × Deed). e.1) old more
-
-pub length-with_makers : (history : List Deed) → length (with_makers history) ≡ length history
-length-with_makers history = length-map history (λ (d : Deed). (maker d, d))
+use Rattle.session_laws.proofs.MakersOf.{without_makers-with_makers, with_makers-append, without_makers-append}
 
 -- a history that grew, as the lock sees it
 pub with_makers-begins : (old more : List Deed) → BeginsWith (with_makers (old ++ more)) (with_makers old)
 with_makers-begins old more = subst (λ (es : List (ℕ × Deed)). BeginsWith es (with_makers old)) (sym (with_makers-append old more)) (begins_more (with_makers old) (with_makers more))
 
-pub past-with_makers : (old more : List Deed) → past (with_makers old) (with_makers (old ++ more)) ≡ with_makers more
-past-with_makers old more = ap (past (with_makers old)) (with_makers-append old more) ∙ past_more (with_makers old) (with_makers more)
+pub past-grown : (old more : List Deed) → past (with_makers old) (with_makers (old ++ more)) ≡ with_makers more
+past-grown old more = ap (past (with_makers old)) (with_makers-append old more) ∙ past_more (with_makers old) (with_makers more)
 
 none_after : (kept : Bool) (event : ℕ × Deed) (events : List (ℕ × Deed)) → cond kept (event ∷ events) events ≡ [] → events ≡ []
 none_after true event events none = absurd cc

@@ -15,7 +15,8 @@ use Rattle.repost_worker.specs.Turns.{IsTurnTo, publications}
 use Rattle.repost_build.specs.declared.build.Build.{Build}
 use Rattle.repost_worker.specs.declared.turn.Turned.{Turned}
 use Rattle.repost_worker.specs.declared.turn.Turned.TheVariants.{Valued, Fetched, Published, Idle}
-use Rattle.repost_worker.proofs.LockedHistories.{length-with_makers, with_makers-begins, past-with_makers}
+use Rattle.session_laws.proofs.MakersOf.{length-with_makers}
+use Rattle.repost_worker.proofs.LockedHistories.{with_makers-begins, past-grown}
 use Rattle.repost_worker.proofs.Working.{turn-grows}
 
 -- what a turn adds to the history, and that number 0 makes it
@@ -44,7 +45,7 @@ gives-own old new taken number zero is adds =
     subst (λ (k : ℕ). All (λ (e : ℕ × Deed). e.0 ≡ k) (past taken (with_makers new))) (sym zero)
     (subst (λ (es : List (ℕ × Deed)). All (λ (e : ℕ × Deed). e.0 ≡ 0) (past es (with_makers new))) is
     (subst (λ (h : List Deed). All (λ (e : ℕ × Deed). e.0 ≡ 0) (past (with_makers old) (with_makers h))) (sym adds.grows)
-    (subst (All (λ (e : ℕ × Deed). e.0 ≡ 0)) (sym (past-with_makers old adds.added)) adds.own)))
+    (subst (All (λ (e : ℕ × Deed). e.0 ≡ 0)) (sym (past-grown old adds.added)) adds.own)))
 
 pub gives-grown : (old new : List Deed) (taken : List (ℕ × Deed)) → with_makers old ≡ taken → AddsOwn old new → BeginsWith (with_makers new) taken
 gives-grown old new taken is adds =
@@ -100,7 +101,7 @@ module _ (pass held new : View Deed) (taken : List (ℕ × Deed)) (history now :
             given.made ∙ ap (λ (v : View Deed). v.made ++ past taken (with_makers now)) given.same
             ∙ ap (λ (es : List (ℕ × Deed)). pass.made ++ es)
             (ap (λ (es : List (ℕ × Deed)). past es (with_makers now)) (sym given.is)
-            ∙ ap (λ (h : List Deed). past (with_makers history) (with_makers h)) grows ∙ past-with_makers history added);
+            ∙ ap (λ (h : List Deed). past (with_makers history) (with_makers h)) grows ∙ past-grown history added);
         stops =
             given.stops ∙ ap (λ (v : View Deed). v.stops ++ length taken ∷ []) given.same
             ∙ ap (λ (n : ℕ). pass.stops ++ n ∷ []) (ap length (sym given.is) ∙ length-with_makers history);

@@ -4,7 +4,7 @@ use Rattle.stock_model.specs.declared.deeds.Deed.{Deed}
 use Rattle.session_laws.specs.Makers.{with_makers, without_makers}
 use Rattle.generation_book.specs.State.{BookState}
 use Rattle.repost_worker.specs.Turns.{IsWorkOf}
-use Rattle.repost_worker.proofs.LockedHistories.{without_makers-with_makers}
+use Rattle.session_laws.proofs.MakersOf.{without_makers-with_makers}
 use Rattle.repost_worker.proofs.Stops.{IsGiven, handed, adds-own, gives-own, gives-grown, never_falls, made-at_stop, refused-at_stop}
 use Rattle.repost_worker.proofs.LockedTurns.{work-handed}
 use Rattle.repost_worker.proofs.locked_turn.work_at_stop.Given
