@@ -4,7 +4,7 @@ use Rattle.stock_model.specs.declared.deeds.Deed.{Deed}
 use Rattle.turn_lock.specs.declared.view.View.{View}
 use Rattle.session_laws.specs.Makers.{without_makers}
 use Rattle.repost_worker.specs.Turns.{IsWorkOf}
-use Rattle.repost_worker.proofs.LockedHistories.{without_makers-with_makers}
+use Rattle.session_laws.proofs.MakersOf.{without_makers-with_makers}
 use Rattle.repost_worker_tests.proofs.tests.worked.Goals as goal
 
 pub run_worker-pass-requires-clause-work : goal.run_worker-pass-requires-clause-work
