@@ -1,0 +1,7 @@
+mod Streams
+mod Steps
+mod Ending
+mod Refusals
+mod FixedTexts
+mod Bodies
+mod AtDesk

@@ -1,0 +1,35 @@
+-- How a request is answered over a book.
+use Rattle.std.specs.Prelude.{ℕ, ◌≡◌, ◌⊎◌, Bool, List, [], ◌++◌, Option, Some, None, ⊤}
+use Rattle.stock_nums.specs.declared.numbers.RecordNo.{RecordNo}
+use Rattle.stock_model.specs.declared.answers.Answer.{Answer}
+use Rattle.stock_model.specs.declared.answers.Answer.TheVariants.{Told}
+use Rattle.stock_model.specs.declared.deeds.Deed.{Deed}
+use Rattle.stock_model.specs.declared.replies.Reply.TheVariants.{Accepted}
+use Rattle.stock_model.specs.declared.requests.Request.{Request}
+use Rattle.stock_model.specs.declared.requests.Request.TheVariants.{Post, Work, Settle, Report}
+use Rattle.generation_book.specs.State.{BookState}
+use Rattle.session_laws.specs.Answers.{IsAnswer, LacksMemory}
+use Rattle.session_laws.specs.Sentences.{AcceptsNone}
+use Rattle.book_answers.specs.Posts.{CountsFailure}
+use Rattle.desk_server.specs.Responses.{response_to}
+
+-- a desk may neither work nor settle
+abbrev pub IsOfDesk : Request → Type 0
+IsOfDesk (Post what) = ⊤
+IsOfDesk (Work turns) = ⊥
+IsOfDesk Settle = ⊥
+IsOfDesk (Report query) = ⊤
+
+-- the number under which a record was accepted, where the answer tells that one was
+abbrev pub TellsNumber : Answer → Option RecordNo → Type 0
+TellsNumber answer (Some n) = answer ≡ Told (Accepted n) []
+TellsNumber answer None = AcceptsNone answer
+
+-- the request is answered over the book, at this point of its history, and this is the response
+pub record AnswersOver (desk : ℕ) (request : Request) (close : Bool) (old new : BookState) (response : List ℕ) : Type 0 where
+  pub answer : Answer
+  pub kept : List Deed
+  pub answers : LacksMemory answer kept ⊎ IsAnswer desk old.history request answer kept
+  pub grows : new.history ≡ old.history ++ kept
+  pub faults : CountsFailure answer old.keeper.faults new.keeper.faults
+  pub response_is : response ≡ response_to answer close

@@ -1,0 +1,5 @@
+pub mod Responses
+pub mod Answering
+pub mod Exchanging
+pub mod Served
+pub mod Writing

@@ -1,0 +1,7 @@
+//! The responses of a desk to its peer, and the ends of a session.
+#![tactic(auto)]
+
+pub mod refusing;
+pub mod session;
+pub mod statuses;
+pub mod writing;

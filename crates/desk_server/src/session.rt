@@ -1,0 +1,20 @@
+//! A session: what a peer asks over its connection, answered until one of both ends it.
+
+/// How a session ended.
+#[derive(Debug, Clone, Copy, PartialEq, Eq)]
+pub enum End {
+    /// The peer ended between requests, or a request that was answered asked to close.
+    Closed,
+    /// The peer ended, and so many of its bytes, at least 1, are no whole request.
+    Cut { left: usize },
+    /// The next request was refused with this status.
+    Refused { status: u16 },
+    /// A read failed: the link counted a fault.
+    ReadFault,
+    /// A write failed: the link counted a fault.
+    WriteFault,
+    /// As many bytes were taken as may be.
+    TooMuch,
+    /// Memory was wanting before the first read.
+    NoMemory,
+}
