@@ -1,3 +1,4 @@
+mod ResponseTexts
 mod Streams
 mod Steps
 mod Ending

@@ -1,4 +1,5 @@
 pub mod Responses
+pub mod Responding
 pub mod Answering
 pub mod Exchanging
 pub mod Served

@@ -2,6 +2,7 @@
 #![tactic(auto)]
 
 pub mod refusing;
+pub mod responding;
 pub mod session;
 pub mod statuses;
 pub mod writing;
