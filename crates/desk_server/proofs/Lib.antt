@@ -4,5 +4,6 @@ mod Steps
 mod Ending
 mod Refusals
 mod FixedTexts
+mod Over
 mod Bodies
 mod AtDesk

@@ -1,6 +1,7 @@
 //! The responses of a desk to its peer, and the ends of a session.
 #![tactic(auto)]
 
+pub mod answering;
 pub mod refusing;
 pub mod responding;
 pub mod session;

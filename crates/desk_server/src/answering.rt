@@ -1,0 +1,90 @@
+//! The response to a request, over the book.
+ghost use Rattle.std.specs.Prelude.{ℕ, ◌≤◌, IsTrue};
+ghost use Rattle.stock_nums.specs.declared.limits.TheConstants.{MAX_DESK};
+ghost use Rattle.stock_model.specs.Limits.{is_within_limits};
+ghost use Rattle.stock_model.specs.declared.requests.Request.TheVariants as request;
+ghost use Rattle.voucher_json.specs.Requests.{IsWithinLimits};
+ghost use Rattle.desk_server.specs.Answering.{IsOfDesk, TellsNumber, AnswersOver};
+ghost use Rattle.desk_server.specs.Responding.{bytes_of};
+
+use crate::responding::{Response, response_to};
+use book_answers::refusing::told;
+use book_answers::{posting, reporting};
+use generation_book::book::Book;
+use std::alloc::Global;
+use stock_keeper::keeper::Keeper;
+use stock_model::answers::Answer;
+use stock_model::queries::Query;
+use stock_model::replies::Reply;
+use stock_model::requests::Request;
+use stock_model::vouchers::What;
+use stock_nums::memory::NoMemory;
+use stock_nums::numbers::{DeskNo, RecordNo};
+
+/// The response to a request of a desk, at this point of the book's history. Where memory is wanting, nothing is kept.
+pub fn respond<K: Keeper>(
+    alloc: Global,
+    book: &mut Book<K>,
+    desk: DeskNo,
+    request: Request,
+    close: bool,
+) -> Response
+    requires desk { desk.0 ≤ MAX_DESK }
+    requires limits { IsWithinLimits request }
+    requires of_desk { IsOfDesk request }
+    ensures { AnswersOver desk.0 request close book.old book.new (bytes_of result) }
+{
+    match request {
+        Request::Post(what) => post(alloc, book, desk, what, close),
+        Request::Report(query) => report(alloc, book, query, close),
+        Request::Work(_) | Request::Settle => unreachable!(),
+    }
+}
+
+// The response that accepts the record is made first, so that what is kept is told whatever memory there is.
+fn post<K: Keeper>(
+    alloc: Global,
+    book: &mut Book<K>,
+    desk: DeskNo,
+    what: What,
+    close: bool,
+) -> Response
+    requires desk { desk.0 ≤ MAX_DESK }
+    requires limits { IsTrue (is_within_limits what) }
+    ensures { AnswersOver desk.0 (request.Post what) close book.old book.new (bytes_of result) }
+{
+    let next = RecordNo(book.accepted().0.saturating_add(1));
+    let accepted = told(alloc, Reply::Accepted(next));
+    let Response::Text(text) = response_to(alloc, &accepted, close) else {
+        return Response::NoMemory { close };
+    };
+    let Ok(answer) = posting::post(alloc, book, desk, what) else {
+        return Response::NoMemory { close };
+    };
+    match number_told(&answer) {
+        Some(_) => Response::Text(text),
+        None => response_to(alloc, &answer, close),
+    }
+}
+
+// The number under which a record was accepted, if the answer tells that one was.
+fn number_told(answer: &Answer) -> Option<RecordNo>
+    ensures { TellsNumber answer.now result }
+{
+    match answer {
+        Answer::Told {
+            reply: Reply::Accepted(number),
+            heads,
+        } if heads.is_empty() => Some(*number),
+        _ => None,
+    }
+}
+
+fn report<K: Keeper>(alloc: Global, book: &Book<K>, query: Query, close: bool) -> Response
+    ensures { (desk : ℕ) → AnswersOver desk (request.Report query) close book.now book.now (bytes_of result) }
+{
+    match reporting::report(alloc, book, query) {
+        Ok(answer) => response_to(alloc, &answer, close),
+        Err(NoMemory) => Response::NoMemory { close },
+    }
+}
