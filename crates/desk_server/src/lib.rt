@@ -2,6 +2,7 @@
 #![tactic(auto)]
 
 pub mod answering;
+pub mod exchanging;
 pub mod refusing;
 pub mod responding;
 pub mod session;

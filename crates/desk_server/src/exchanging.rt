@@ -1,0 +1,94 @@
+//! One exchange: a body is read, and answered through the lock.
+ghost use Rattle.std.specs.Prelude.{◌≡◌, ◌^◌, ◌<◌, ◌≤◌, length};
+ghost use Rattle.stock_nums.specs.declared.limits.TheConstants.{MAX_DESK};
+ghost use Rattle.voucher_json.specs.Requests.{IsWithinLimits};
+ghost use Rattle.desk_server.specs.Answering.{IsOfDesk};
+ghost use Rattle.desk_server.specs.Exchanging.{LeavesRest, RespondsInTurn, Responds, TellsFault};
+ghost use Rattle.desk_server.specs.Responding.{bytes_of};
+
+use crate::answering::respond;
+use crate::responding::{Response, response_to};
+use book_answers::refusing::bad;
+use generation_book::book::Book;
+use std::alloc::Global;
+use std::sync::Wait;
+use stock_keeper::keeper::Keeper;
+use stock_model::read_faults::ReadFault;
+use stock_model::requests::Request;
+use stock_nums::memory::NoMemory;
+use stock_nums::numbers::DeskNo;
+use turn_lock::lock::TurnLock;
+use turn_lock::pass::Pass;
+use voucher_json::reading::read_request;
+
+/// What an exchange leaves: the pass, and the response that is to be written.
+#[derive(Drop)]
+pub struct Exchanged<K: Keeper> {
+    pub pass: Pass<Book<K>>,
+    pub response: Response,
+}
+
+/// Answers a body that asks to close the connection or not. It takes a turn of the pass if the body is a request.
+pub fn exchange<K: Keeper, R: Wait>(
+    rt: &R,
+    alloc: Global,
+    lock: &TurnLock<Book<K>>,
+    pass: Pass<Book<K>>,
+    desk: DeskNo,
+    body: &[u8],
+    close: bool,
+) -> Exchanged<K>
+    requires same_lock { pass.lock ≡ lock.now.lock }
+    requires number { desk.0 ≡ pass.view.number }
+    requires desk { desk.0 ≤ MAX_DESK }
+    requires few_turns { length pass.view.stops < 2 ^ 57 }
+    ensures same_lock { result.pass.lock ≡ pass.lock }
+    ensures rest { LeavesRest pass.view result.pass.view }
+    ensures responds { Responds desk.0 pass.view result.pass.view body.now close (bytes_of result.response) }
+{
+    match read_request(alloc, body, true) {
+        Ok(request) => take_turn(rt, alloc, lock, pass, desk, request, close),
+        Err(fault) => Exchanged {
+            pass,
+            response: bad_response(alloc, fault, close),
+        },
+    }
+}
+
+// Answers a request in a turn of the pass.
+fn take_turn<K: Keeper, R: Wait>(
+    rt: &R,
+    alloc: Global,
+    lock: &TurnLock<Book<K>>,
+    pass: Pass<Book<K>>,
+    desk: DeskNo,
+    request: Request,
+    close: bool,
+) -> Exchanged<K>
+    requires same_lock { pass.lock ≡ lock.now.lock }
+    requires number { desk.0 ≡ pass.view.number }
+    requires desk { desk.0 ≤ MAX_DESK }
+    requires few_turns { length pass.view.stops < 2 ^ 57 }
+    requires limits { IsWithinLimits request }
+    requires of_desk { IsOfDesk request }
+    ensures same_lock { result.pass.lock ≡ pass.lock }
+    ensures rest { LeavesRest pass.view result.pass.view }
+    ensures responds { RespondsInTurn desk.0 pass.view result.pass.view request close (bytes_of result.response) }
+{
+    let mut held = lock.take(rt, pass);
+    let response = respond(alloc, held.book(), desk, request, close);
+    Exchanged {
+        pass: lock.give(held),
+        response,
+    }
+}
+
+// The response to a body that is no request.
+fn bad_response(alloc: Global, fault: ReadFault, close: bool) -> Response
+    ensures { TellsFault fault close (bytes_of result) }
+{
+    match bad(alloc, fault) {
+        Ok(answer) => response_to(alloc, &answer, close),
+        Err(NoMemory) => Response::NoMemory { close },
+    }
+}
