@@ -1,0 +1,64 @@
+//! A request that was heard, answered and let go.
+ghost use Rattle.std.specs.Prelude.{◌≡◌, ◌^◌, ◌<◌, ◌≤◌, length};
+ghost use Rattle.stock_nums.specs.declared.limits.TheConstants.{MAX_DESK};
+ghost use Rattle.desk_wire.specs.Streams.{LiesIn, size};
+ghost use Rattle.desk_wire.specs.Waiting.{after_passing};
+ghost use Rattle.desk_server.specs.Exchanging.{LeavesRest};
+ghost use Rattle.desk_server.specs.Served.{body_of};
+ghost use Rattle.desk_server.specs.Writing.{AnswersNext};
+
+use crate::exchanging::exchange;
+use crate::session::End;
+use crate::writing::write_response;
+use desk_wire::heard::Request;
+use desk_wire::inbox::Inbox;
+use generation_book::book::Book;
+use std::alloc::Global;
+use std::sync::Wait;
+use stock_io::link::Link;
+use stock_keeper::keeper::Keeper;
+use stock_nums::numbers::DeskNo;
+use turn_lock::lock::TurnLock;
+use turn_lock::pass::Pass;
+
+/// What one more request leaves: the pass, and the end of the session if it has come.
+#[derive(Drop)]
+pub struct Answered<K: Keeper> {
+    pub pass: Pass<Book<K>>,
+    pub end: Option<End>,
+}
+
+/// Answers the request that waits at the front, lets it go, and writes the response.
+pub fn answer_next<K: Keeper, P: Link, R: Wait>(
+    rt: &R,
+    alloc: Global,
+    lock: &TurnLock<Book<K>>,
+    pass: Pass<Book<K>>,
+    desk: DeskNo,
+    inbox: &mut Inbox,
+    request: Request,
+    link: &mut P,
+) -> Answered<K>
+    requires same_lock { pass.lock ≡ lock.now.lock }
+    requires number { desk.0 ≡ pass.view.number }
+    requires desk { desk.0 ≤ MAX_DESK }
+    requires few_turns { length pass.view.stops < 2 ^ 57 }
+    requires waits { LiesIn inbox.old.bytes request }
+    ensures same_lock { result.pass.lock ≡ pass.lock }
+    ensures rest { LeavesRest pass.view result.pass.view }
+    ensures passed { inbox.new ≡ after_passing inbox.old (size request) }
+    ensures answered { AnswersNext P.written P.Source.faults desk.0 pass.view result.pass.view
+        (body_of inbox.old.bytes request) request.close link.old link.new result.end }
+    ensures left_kept { P.left link.new ≡ P.left link.old }
+    ensures taken_kept { P.taken link.new ≡ P.taken link.old }
+{
+    let end_of_body = request.head + request.body;
+    let body = &inbox.bytes()[request.head..end_of_body];
+    let exchanged = exchange(rt, alloc, lock, pass, desk, body, request.close);
+    inbox.pass(end_of_body);
+    let end = write_response(link, exchanged.response.bytes(), request.close);
+    Answered {
+        pass: exchanged.pass,
+        end,
+    }
+}
