@@ -37,7 +37,7 @@ AppendsFront-behind a b c before text wrote front = (
 )
 
 -- all that was left came
-all-came : (a b : Option (List ℕ)) (stream piece before after : List ℕ) → Consumes a b stream → after ≡ before ++ piece
+pub all-came : (a b : Option (List ℕ)) (stream piece before after : List ℕ) → Consumes a b stream → after ≡ before ++ piece
     → IfSome b (λ l. after ≡ before ++ l) → IfSome a (λ all. stream ++ piece ≡ all)
 all-came None b stream piece before after took behind all = tt
 all-came (Some xs) None stream piece before after took behind all = absurd took

@@ -107,7 +107,7 @@ module _ {P : Type 0} (left : P → Option (List ℕ)) (taken : P → ℕ) (writ
         rest = so_far.rest;
       }
 
-  pub served-heard : (now : View Deed) (link link' : P) (waits waits' : Waiting) → HasServed left taken written faults desk old now first link waits
+  abbrev pub served-heard : (now : View Deed) (link link' : P) (waits waits' : Waiting) → HasServed left taken written faults desk old now first link waits
       → TakesIn left taken waits waits' link link' → written link' ≡ written link → faults link' ≡ faults link
       → HasServed left taken written faults desk old now first link' waits'
   served-heard now link link' waits waits' served takes_in kept no_fault =

@@ -1,16 +1,16 @@
-//! A request that was heard, answered and let go.
+//! The requests of a peer, heard and answered one after another.
 ghost use Rattle.std.specs.Prelude.{◌≡◌, ◌^◌, ◌<◌, ◌≤◌, length};
 ghost use Rattle.stock_nums.specs.declared.limits.TheConstants.{MAX_DESK};
 ghost use Rattle.desk_wire.specs.Streams.{LiesIn, size};
-ghost use Rattle.desk_wire.specs.Waiting.{after_passing};
+ghost use Rattle.desk_wire.specs.Waiting.{nothing_waits, after_passing};
 ghost use Rattle.desk_server.specs.Exchanging.{LeavesRest};
-ghost use Rattle.desk_server.specs.Served.{body_of};
+ghost use Rattle.desk_server.specs.Served.{Serves, body_of};
 ghost use Rattle.desk_server.specs.Writing.{AnswersNext};
 
 use crate::exchanging::exchange;
-use crate::session::End;
-use crate::writing::write_response;
-use desk_wire::heard::Request;
+use crate::session::{BYTE_LIMIT, End, Left};
+use crate::writing::{end_at, write_response};
+use desk_wire::heard::{Heard, Request};
 use desk_wire::inbox::Inbox;
 use generation_book::book::Book;
 use std::alloc::Global;
@@ -21,15 +21,62 @@ use stock_nums::numbers::DeskNo;
 use turn_lock::lock::TurnLock;
 use turn_lock::pass::Pass;
 
-/// What one more request leaves: the pass, and the end of the session if it has come.
+// What one more request leaves: the pass, and the end of the session if it has come.
 #[derive(Drop)]
-pub struct Answered<K: Keeper> {
-    pub pass: Pass<Book<K>>,
-    pub end: Option<End>,
+struct Answered<K: Keeper> {
+    pass: Pass<Book<K>>,
+    end: Option<End>,
 }
 
-/// Answers the request that waits at the front, lets it go, and writes the response.
-pub fn answer_next<K: Keeper, P: Link, R: Wait>(
+/// Answers one request after another until the session ends.
+pub fn serve_requests<K: Keeper, P: Link, R: Wait>(
+    rt: &R,
+    alloc: Global,
+    lock: &TurnLock<Book<K>>,
+    mut pass: Pass<Book<K>>,
+    desk: DeskNo,
+    mut inbox: Inbox,
+    link: &mut P,
+) -> Left<K>
+    requires same_lock { pass.lock ≡ lock.now.lock }
+    requires number { desk.0 ≡ pass.view.number }
+    requires desk { desk.0 ≤ MAX_DESK }
+    requires few_turns { length pass.view.stops ≤ 2 ^ 56 }
+    requires new { inbox ≡ nothing_waits BYTE_LIMIT }
+    ensures same_lock { result.pass.lock ≡ pass.lock }
+    ensures rest { LeavesRest pass.view result.pass.view }
+    ensures serves { Serves P.left P.taken P.written P.Source.faults desk.0 pass.view result.pass.view
+        link.old link.new result.end }
+{
+    for _ in rt.forever() {
+        match inbox.hear(link) {
+            Err(_) => {
+                return Left {
+                    pass,
+                    end: End::ReadFault,
+                };
+            }
+            Ok(Heard::Last(stop)) => {
+                let end = end_at(link, stop, inbox.bytes().len());
+                return Left { pass, end };
+            }
+            Ok(Heard::Next(request)) => {
+                let answered = answer_next(rt, alloc, lock, pass, desk, &mut inbox, request, link);
+                if let Some(end) = answered.end {
+                    return Left {
+                        pass: answered.pass,
+                        end,
+                    };
+                }
+                pass = answered.pass;
+            }
+        }
+    }
+    unreachable!()
+}
+
+// Answers the request that waits at the front, lets it go, and writes the response.
+fn answer_next<K: Keeper, P: Link, R: Wait>(
     rt: &R,
     alloc: Global,
     lock: &TurnLock<Book<K>>,

@@ -1,5 +1,12 @@
 //! A session: what a peer asks over its connection, answered until one of both ends it.
 
+use generation_book::book::Book;
+use stock_keeper::keeper::Keeper;
+use turn_lock::pass::Pass;
+
+/// The most bytes that are taken of a peer.
+pub const BYTE_LIMIT: u64 = 4_294_967_296;
+
 /// How a session ended.
 #[derive(Debug, Clone, Copy, PartialEq, Eq)]
 pub enum End {
@@ -17,4 +24,11 @@ pub enum End {
     TooMuch,
     /// Memory was wanting before the first read.
     NoMemory,
+}
+
+/// What a session leaves: the pass, and how it ended.
+#[derive(Drop)]
+pub struct Left<K: Keeper> {
+    pub pass: Pass<Book<K>>,
+    pub end: End,
 }

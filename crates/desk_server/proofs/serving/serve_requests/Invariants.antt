@@ -1,0 +1,10 @@
+-- The requests so far were answered.
+use Rattle.std.proofs.Common.{◌≡◌}
+use Rattle.desk_server.proofs.Steps.{HasServed}
+use Rattle.desk_server.proofs.serving.serve_requests.Given as goal
+
+abbrev pub invariant-loop : goal.invariant-loop
+invariant-loop g l = record {
+  same_lock : l.pass.lock ≡ l.initial.pass.lock;
+  served : HasServed g.P.Source.left g.P.Source.taken g.P.Sink.written g.P.Source.faults l.initial.desk.0 l.initial.pass.view l.pass.view l.initial.link l.link l.inbox;
+}
