@@ -5,7 +5,7 @@ pub mod answering;
 pub mod exchanging;
 pub mod refusing;
 pub mod responding;
-pub mod serving;
+mod serving;
 pub mod session;
 pub mod statuses;
 pub mod writing;
