@@ -1,0 +1,132 @@
+-- What passes made, gathered as they were joined into pass 0.
+use Rattle.std.proofs.Common.{◌≡◌, ◌≢◌, ℕ, zero, suc, ◌+◌, ◌<◌, List, [], ◌∷◌, ◌++◌, length, map, refl, sym, ap, ◌∙◌, subst, eq-eqb, ne_eqb, arith}
+use mathlib.Core.Logic.{dite}
+use native.Mathlib.Decide.{ℕ_discrete}
+use Rattle.std.specs.Prelude.{All, ◌==◌, if◌then◌else◌, slice_index_or}
+use Rattle.std.proofs.lemmas.List.{map-append}
+use Rattle.std.proofs.lemmas.List.Elements.{All-nil, All-cons, All-head, All-tail, All-weaker}
+use Rattle.atomic_table.specs.Seated.{TableId}
+use Rattle.turn_lock.specs.Passes.{PassView}
+use Rattle.turn_lock.specs.Views.{joined_made, made_through}
+use Rattle.turn_lock.specs.declared.view.View.{View}
+use Rattle.desk_service.specs.Passes.{fresh, passes_from, joined_all}
+
+-- so many numbers, from the lowest on, which comes last
+abbrev pub IsDown : ℕ → ℕ → List ℕ → Type 0
+IsDown low zero [] = Unit {0}
+IsDown low zero (k ∷ ks) = ⊥
+IsDown low (suc n) [] = ⊥
+IsDown low (suc n) (k ∷ ks) = (k ≡ low + n) × IsDown low n ks
+
+down-more : (low n : ℕ) (ks : List ℕ) → IsDown (low + 1) n ks → IsDown low (suc n) (ks ++ low ∷ [])
+down-more low zero [] down = (omega arith, tt)
+down-more low zero (k ∷ ks) down = absurd down
+down-more low (suc n) [] down = absurd down
+down-more low (suc n) (k ∷ ks) down = let h = down.0 in (omega arith, down-more low n ks down.1)
+
+module _ {E : Type 0} where
+  -- what the pass with this number made, of these
+  abbrev pub made_in : ℕ → List (PassView E) → List (ℕ × E)
+  made_in k [] = []
+  made_in k (pass ∷ passes) = if pass.view.number == k then pass.view.made else made_in k passes
+
+  pub joined_all-first : (view : View E) (passes : List (PassView E)) → (joined_all view passes).first ≡ view.first
+  joined_all-first view [] = refl
+  joined_all-first view (pass ∷ passes) = joined_all-first view passes
+
+  pub joined_all-number : (view : View E) (passes : List (PassView E)) → (joined_all view passes).number ≡ view.number
+  joined_all-number view [] = refl
+  joined_all-number view (pass ∷ passes) = joined_all-number view passes
+
+  joined_all-made : (view : View E) (passes : List (PassView E)) → (joined_all view passes).made ≡ view.made
+  joined_all-made view [] = refl
+  joined_all-made view (pass ∷ passes) = joined_all-made view passes
+
+  pub joined_all-split : (view : View E) (passes : List (PassView E)) → (joined_all view passes).split ≡ view.split
+  joined_all-split view [] = refl
+  joined_all-split view (pass ∷ passes) = joined_all-split view passes
+
+  pub joined_all-count : (view : View E) (passes : List (PassView E))
+      → length (joined_all view passes).joined ≡ length view.joined + length passes
+  joined_all-count view [] = omega arith
+  joined_all-count view (pass ∷ passes) = omega (arith, joined_all-count view passes)
+
+  joined_all-others : (k : ℕ) (view : View E) (passes : List (PassView E)) → view.joined ≡ []
+      → joined_made k (joined_all view passes).joined ≡ made_in k passes
+  joined_all-others k view [] none = ap (joined_made k) none
+  joined_all-others k view (pass ∷ passes) none =
+      ap (λ (z : List (ℕ × E)). if pass.view.number == k then pass.view.made else z) (joined_all-others k view passes none)
+
+  -- pass 0 keeps what it made itself, and what each other made
+  module _ (view : View E) (passes : List (PassView E)) (is_zero : view.number ≡ 0) (none : view.joined ≡ []) where
+    pub made_through-zero : made_through 0 (joined_all view passes) ≡ view.made
+    made_through-zero =
+        rw (eq-eqb (joined_all view passes).number 0 (joined_all-number view passes ∙ is_zero)) (joined_all-made view passes)
+
+    pub made_through-other : (k : ℕ) → 0 < k → made_through k (joined_all view passes) ≡ made_in k passes
+    made_through-other k some =
+        let other : (joined_all view passes).number ≢ k =
+        λ same. let zero_is : k ≡ 0 = sym same ∙ joined_all-number view passes ∙ is_zero in omega arith
+        in
+        rw (ne_eqb (joined_all view passes).number k other) (joined_all-others k view passes none)
+
+  -- the numbers of passes
+  abbrev pub numbers : List (PassView E) → List ℕ
+  numbers passes = map (λ pass. pass.view.number) passes
+
+  pub passes_from-down : (lock : TableId) (known : View E) (number count : ℕ)
+      → IsDown number count (numbers (passes_from lock known number count))
+  passes_from-down lock known number zero = tt
+  passes_from-down lock known number (suc count) =
+      subst (IsDown number (suc count))
+      (sym (map-append (λ (pass : PassView E). pass.view.number) (passes_from lock known (number + 1) count)
+      (record { lock = lock; view = fresh known number } ∷ [])))
+      (down-more number count (numbers (passes_from lock known (number + 1) count)) (passes_from-down lock known (number + 1) count))
+
+  below : (low n : ℕ) (passes : List (PassView E)) → IsDown low n (numbers passes) → All (λ pass. pass.view.number < low + n) passes
+  below low zero [] down = All-nil (λ (pass : PassView E). pass.view.number < low + zero)
+  below low zero (pass ∷ passes) down = absurd down
+  below low (suc n) [] down = absurd down
+  below low (suc n) (pass ∷ passes) down =
+      let own = down.0 in
+      All-cons (λ (p : PassView E). p.view.number < low + suc n) pass passes (omega arith)
+      (All-weaker (λ (p : PassView E). p.view.number < low + n) (λ (p : PassView E). p.view.number < low + suc n)
+      (λ p less. omega arith) passes (below low n passes down.1))
+
+  -- of passes with numbers of their own each is found by its number
+  pub found : (low n : ℕ) (passes : List (PassView E)) → IsDown low n (numbers passes)
+      → All (λ pass. made_in pass.view.number passes ≡ pass.view.made) passes
+  found low zero [] down = All-nil (λ (pass : PassView E). made_in pass.view.number [] ≡ pass.view.made)
+  found low zero (pass ∷ passes) down = absurd down
+  found low (suc n) [] down = absurd down
+  found low (suc n) (pass ∷ passes) down =
+      All-cons (λ (p : PassView E). made_in p.view.number (pass ∷ passes) ≡ p.view.made) pass passes
+      (rw (eq-eqb pass.view.number pass.view.number refl) refl)
+      (λ i d within.
+      let other = slice_index_or passes i d in
+      let less = below low n passes down.1 i d within in
+      let own = down.0 in
+      rw (ne_eqb pass.view.number other.view.number (λ same. omega arith)) (found low n passes down.1 i d within))
+
+  -- no pass of these has this number
+  pub made_in-none : (k : ℕ) (passes : List (PassView E)) → All (λ pass. pass.view.number ≢ k) passes → made_in k passes ≡ []
+  made_in-none k [] none = refl
+  made_in-none k (pass ∷ passes) none =
+      rw (ne_eqb pass.view.number k (All-head (λ (p : PassView E). p.view.number ≢ k) pass passes none))
+      (made_in-none k passes (All-tail (λ (p : PassView E). p.view.number ≢ k) pass passes none))
+
+  -- nor has any of these others made anything
+  pub made_in-unused : (k : ℕ) (unused passes : List (PassView E)) → All (λ pass. pass.view.made ≡ []) unused
+      → All (λ pass. pass.view.number ≢ k) passes → made_in k (unused ++ passes) ≡ []
+  made_in-unused k [] passes nothing none = made_in-none k passes none
+  made_in-unused k (pass ∷ unused) passes nothing none =
+      let rest = made_in-unused k unused passes (All-tail (λ (p : PassView E). p.view.made ≡ []) pass unused nothing) none in
+      dite (ℕ_discrete pass.view.number k)
+      (λ same. rw (eq-eqb pass.view.number k same) (All-head (λ (p : PassView E). p.view.made ≡ []) pass unused nothing))
+      (λ other. rw (ne_eqb pass.view.number k other) rest)
+
+-- of two lists each has what all of their sum have
+pub All-both : {A : Type 0} (P : A → Type 0) (xs ys : List A) → All P xs → All P ys → All P (xs ++ ys)
+All-both P [] ys these those = those
+All-both P (x ∷ xs) ys these those =
+    All-cons P x (xs ++ ys) (All-head P x xs these) (All-both P xs ys (All-tail P x xs these) those)

@@ -1,0 +1,6 @@
+pub mod SplitOff
+pub mod Hearing
+pub mod Attending
+pub mod Gathering
+pub mod Revaluing
+pub mod Together

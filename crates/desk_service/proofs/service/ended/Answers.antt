@@ -1,0 +1,38 @@
+-- All passes were joined into pass 0, and the lock ended.
+use Rattle.std.proofs.Common.{◌≡◌, ℕ, List, length, sym, ap, ◌∙◌, subst, arith}
+use Rattle.std.specs.Prelude.{All}
+use Rattle.stock_model.specs.declared.deeds.Deed.{Deed}
+use Rattle.turn_lock.specs.Histories.{BeginsWith, past, made_by}
+use Rattle.turn_lock.specs.Passes.{PassView}
+use Rattle.turn_lock.specs.Views.{made_through}
+use Rattle.turn_lock.specs.declared.view.View.{View}
+use Rattle.session_laws.specs.Makers.{with_makers}
+use Rattle.desk_service.proofs.Gathering.{joined_all-number, joined_all-count, joined_all-split, joined_all-first}
+use Rattle.desk_service.proofs.service.ended.Goals as goal
+
+pub close-requires-clause-zero : goal.close-requires-clause-zero
+close-requires-clause-zero g c =
+    ap (λ (v : View Deed). v.number) c.join_all-pass.ensures.joined
+    ∙ joined_all-number c.args.team.worker.pass.view c.args.team.desks.passes.items ∙ c.requires.zero
+
+pub close-requires-clause-all_joined : goal.close-requires-clause-all_joined
+close-requires-clause-all_joined g c =
+    let view = c.args.team.worker.pass.view in
+    let passes = c.args.team.desks.passes.items in
+    subst (λ (v : View Deed). length v.joined ≡ v.split) (sym c.join_all-pass.ensures.joined)
+    (omega (arith, joined_all-count view passes, ap length c.requires.none_joined, joined_all-split view passes, c.requires.split))
+
+pub returns-clause-closed : goal.returns-clause-closed
+returns-clause-closed g c =
+    let view = c.args.team.worker.pass.view in
+    let passes = c.args.team.desks.passes.items in
+    let whole = c.join_all-pass.result.view in
+    let final = with_makers c.close.result.history in
+    let joined = c.join_all-pass.ensures.joined in
+    let first_is : whole.first ≡ view.first = ap (λ (v : View Deed). v.first) joined ∙ joined_all-first view passes in
+    record {
+      begins = subst (λ (z : List (ℕ × Deed)). BeginsWith final z) first_is c.close.ensures.begins;
+      saw_own = subst (λ (z : List (ℕ × Deed)). BeginsWith z view.seen) (sym c.close.ensures.seen) c.join_all-pass.ensures.saw_own;
+      saw_all = subst (λ (z : List (ℕ × Deed)). All (λ (p : PassView Deed). BeginsWith z p.view.seen) passes) (sym c.close.ensures.seen) c.join_all-pass.ensures.saw_all;
+      made = λ k. ap (λ (z : List (ℕ × Deed)). made_by k (past z final)) (sym first_is) ∙ c.close.ensures.made k ∙ ap (made_through k) joined;
+    }
