@@ -20,7 +20,11 @@ module _ {E : Type 0} where
   pub passes_from-length : (lock : TableId) (known : View E) (number count : ℕ) → length (passes_from lock known number count) ≡ count
   passes_from-length lock known number zero = refl
   passes_from-length lock known number (suc count) =
-      omega (arith, length-append (passes_from lock known (number + 1) count) (record { lock = lock; view = fresh known number } ∷ []), passes_from-length lock known (number + 1) count)
+      omega (
+        arith,
+        length-append (passes_from lock known (number + 1) count) (record { lock = lock; view = fresh known number } ∷ []),
+        passes_from-length lock known (number + 1) count,
+      )
 
   -- a split leaves what later passes have seen
   passes_from-left : (lock : TableId) (view : View E) (number count : ℕ)

@@ -11,8 +11,8 @@ use Rattle.desk_server.specs.Served.{Serves}
 use Rattle.desk_server.specs.declared.session.End.{End}
 use Rattle.desk_service.specs.Listening.{Heard, Accepts, HangsUp}
 
--- The desk with this number served the peer and ended the connection. Whatever exchanges make its session, they are answered by the one
--- history that all desks share.
+-- The desk with this number served the peer and ended the connection. Whatever exchanges make its session, they are answered by
+-- the one history that all desks share.
 pub record IsPeerServed {P : Type 0} (left : P → Option (List ℕ)) (taken : P → ℕ) (written : P → Option (List ℕ)) (faults : P → ℕ)
     (ended : P → Bool) (desk : ℕ) (first final : List Deed) (peer peer' : P) : Type 0 where
   pub old : View Deed
@@ -28,10 +28,10 @@ AreServed serves number [] [] = Unit {0}
 AreServed serves number (peer ∷ peers) (peer' ∷ peers') = serves number peer peer' × AreServed serves (number + 1) peers peers'
 AreServed serves number _ _ = ⊥
 
--- So many peers were wanted and so many came. Each was served by a desk and then hung up, in the order in which they came. The history
--- grew by what desks kept and a worker published, and by nothing else.
-pub record IsService {P : Type 0} (serves : ℕ → List Deed → List Deed → P → P → Type 0) (is_fresh : P → Type 0) (wanted accepted : ℕ)
-    (first final : List Deed) (old new : Heard P) : Type 0 where
+-- So many peers were wanted and so many came. Each was served by a desk and then hung up, in the order in which they came. The
+-- history grew by what desks kept and a worker published, and by nothing else.
+pub record IsService {P : Type 0} (serves : ℕ → List Deed → List Deed → P → P → Type 0) (is_fresh : P → Type 0)
+    (wanted accepted : ℕ) (first final : List Deed) (old new : Heard P) : Type 0 where
   pub closed : Heard P
   pub peers : List P
   pub peers_then : List P

@@ -31,7 +31,8 @@ pub struct Attends<K: Keeper, P: Link> {
 }
 
 impl<K: Keeper, P: Link> Promise<Desk<K, P>> for Attends<K, P> {
-    ghost kept_by = { λ promise desk. IsAttended P.left P.taken P.written P.Source.faults P.ended promise.number.0 promise.pass.value desk.pass promise.peer.value desk.peer };
+    ghost kept_by = { λ promise desk. IsAttended P.left P.taken P.written P.Source.faults P.ended promise.number.0
+        promise.pass.value desk.pass promise.peer.value desk.peer };
 }
 
 /// Serves the desk's peer until its session ends. It may wait, for the peer and for the lock.
@@ -72,8 +73,10 @@ pub fn start<'s, E: 's, K: Keeper + Send + 's, P: Link + 's, R: Wait + Sync + 's
     requires number { number.0 ≡ desk.pass.view.number }
     requires desk { number.0 ≤ MAX_DESK }
     requires few_turns { length desk.pass.view.stops ≤ 2 ^ 56 }
-    ensures started { IfOk result (λ thread. (thread.promise.number.0 ≡ number.0) × (thread.promise.pass.value ≡ desk.pass) × (thread.promise.peer.value ≡ desk.peer)) }
-    ensures served { IfErr result (λ served. IsAttended P.left P.taken P.written P.Source.faults P.ended number.0 desk.pass served.pass desk.peer served.peer) }
+    ensures started { IfOk result (λ thread. (thread.promise.number.0 ≡ number.0)
+        × (thread.promise.pass.value ≡ desk.pass) × (thread.promise.peer.value ≡ desk.peer)) }
+    ensures served { IfErr result (λ served. IsAttended P.left P.taken P.written P.Source.faults P.ended number.0
+        desk.pass served.pass desk.peer served.peer) }
 {
     let promise = Attends {
         number,
@@ -95,7 +98,8 @@ pub fn start<'s, E: 's, K: Keeper + Send + 's, P: Link + 's, R: Wait + Sync + 's
 
 /// The desk, once it has served its peer.
 pub fn finish<K: Keeper, P: Link, R: Threads>(rt: &R, started: Started<K, P>) -> Desk<K, P>
-    ensures thread { IfOk started (λ thread. IsAttended P.left P.taken P.written P.Source.faults P.ended thread.promise.number.0 thread.promise.pass.value result.pass thread.promise.peer.value result.peer) }
+    ensures thread { IfOk started (λ thread. IsAttended P.left P.taken P.written P.Source.faults P.ended thread.promise.number.0
+        thread.promise.pass.value result.pass thread.promise.peer.value result.peer) }
     ensures here { IfErr started (λ served. result ≡ served) }
 {
     match started {

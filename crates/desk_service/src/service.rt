@@ -31,6 +31,7 @@ use stock_nums::numbers::DeskNo;
 use turn_lock::lock::{NotMade, TurnLock};
 
 /// What a service leaves: the book, the build that works for it, the listener, and how many peers were served.
+#[derive(Drop)]
 pub struct Served<K: Keeper, L> {
     pub book: Book<K>,
     pub build: Build,
@@ -39,6 +40,7 @@ pub struct Served<K: Keeper, L> {
 }
 
 /// Memory was wanting for a service, and nothing was done. All comes back.
+#[derive(Drop)]
 pub struct NotServed<K: Keeper, L> {
     pub book: Book<K>,
     pub build: Build,
@@ -77,7 +79,8 @@ pub fn serve<K: Keeper + Send, P: Link, L: Listener<Peer = P> + Drop, R: Threads
         (heard L.waiting L.hung_up L.accepts L.hang_ups L.faults listener)
         (heard L.waiting L.hung_up L.accepts L.hang_ups L.faults served.listener)) }
     ensures work { IfOk result (λ served. IsWorkOf served.book.history served.build) }
-    ensures not_served { IfErr result (λ refused. (refused.book ≡ book) × (refused.build ≡ build) × (refused.listener ≡ listener)) }
+    ensures not_served { IfErr result (λ refused.
+        (refused.book ≡ book) × (refused.build ≡ build) × (refused.listener ≡ listener)) }
 {
     let Ok(passes) = Vec::with_capacity(alloc, desks as usize) else {
         return Err(NotServed {

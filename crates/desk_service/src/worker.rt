@@ -140,7 +140,8 @@ pub fn start<'s, E: 's, K: Keeper + Send + 's, L: Ledger + Send + 's, R: Wait + 
     requires name { blank.name ≡ L.name }
     requires parts { blank.parts ≡ L.parts }
     requires some_parts { 0 < L.parts }
-    ensures started { IfOk result (λ thread. (thread.promise.pass.value ≡ worker.pass) × (thread.promise.build.value ≡ worker.build)) }
+    ensures started { IfOk result (λ thread.
+        (thread.promise.pass.value ≡ worker.pass) × (thread.promise.build.value ≡ worker.build)) }
     ensures here { IfErr result (λ done. IsWorked worker.pass worker.build done.pass done.build) }
 {
     let promise = Works {
@@ -167,7 +168,8 @@ pub fn start<'s, E: 's, K: Keeper + Send + 's, L: Ledger + Send + 's, R: Wait + 
 
 /// The worker, once it has ended.
 pub fn finish<K: Keeper, R: Threads>(rt: &R, started: Started<K>) -> Worker<K>
-    ensures thread { IfOk started (λ thread. IsWorked thread.promise.pass.value thread.promise.build.value result.pass result.build) }
+    ensures thread { IfOk started (λ thread.
+        IsWorked thread.promise.pass.value thread.promise.build.value result.pass result.build) }
     ensures here { IfErr started (λ done. result ≡ done) }
 {
     match started {
