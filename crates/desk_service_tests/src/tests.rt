@@ -13,9 +13,11 @@ use stock_nums::lines::Lines;
 use stock_nums::memory::NoMemory;
 use stock_nums::numbers::RecordNo;
 
-const POSTS_ITEM: &[u8] = b"POST /desk HTTP/1.1\r\nHost: x\r\nContent-Length: 41\r\n\r\n{\"do\":\"item\",\"code\":\"L1\",\"method\":\"fifo\"}";
+const POSTS_ITEM: &[u8] =
+    b"POST /desk HTTP/1.1\r\nHost: x\r\nContent-Length: 41\r\n\r\n{\"do\":\"item\",\"code\":\"L1\",\"method\":\"fifo\"}";
 
-const ASKS_FOR_BALANCE: &[u8] = b"POST /desk HTTP/1.1\r\nHost: x\r\nContent-Length: 30\r\n\r\n{\"do\":\"report\",\"of\":\"balance\"}";
+const ASKS_FOR_BALANCE: &[u8] =
+    b"POST /desk HTTP/1.1\r\nHost: x\r\nContent-Length: 30\r\n\r\n{\"do\":\"report\",\"of\":\"balance\"}";
 
 const IS_DONE: &[u8] = b"HTTP/1.1 200 OK\r\n";
 
