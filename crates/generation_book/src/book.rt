@@ -14,6 +14,7 @@ ghost use Rattle.repost_fetch.specs.Changes.{AreChanges};
 ghost use Rattle.repost_fetch.specs.Fetched.{IsFetchedOf};
 ghost use Rattle.kept_tables.specs.Kept.{IsKept};
 ghost use Rattle.generation_book.specs.State.{first_book};
+ghost use Rattle.generation_book.specs.Handed.{IsHanded};
 ghost use Rattle.generation_book.specs.Refusals.{refusal_of, IsRefusalOf, IsAfterRefusal};
 
 use crate::events::Event;
@@ -137,7 +138,7 @@ impl<K: Keeper> Book<K> {
             Ok(entries) => entries,
             Err(fault) => return Err(fault),
         };
-        let Ok(text) = record_text(alloc, &item) else {
+        let Ok(text) = handed_text(alloc, &self.keeper, &item) else {
             return Err(PostFault::NoMemory);
         };
         if self.events.reserve(1).is_err() {
@@ -361,6 +362,17 @@ impl<K: Keeper> Book<K> {
             rows: _,
         } = self;
         keeper
+    }
+}
+
+// What a keeper is handed of a record: its stored text, or nothing where nothing is kept. The only error is want of memory.
+fn handed_text<K: Keeper>(alloc: Global, keeper: &K, item: &Record) -> Result<Lines<u8>, NoMemory>
+    ensures { IfOk result (IsHanded (K.tells keeper.now) (K.may_leave keeper.now) item.now) }
+{
+    if keeper.is_lasting() {
+        record_text(alloc, item)
+    } else {
+        Ok(Lines::new(alloc))
     }
 }
 

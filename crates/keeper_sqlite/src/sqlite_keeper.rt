@@ -1,6 +1,6 @@
 //! A keeper over a database. It tells no tables yet, so no clause says what a publication writes, and of what a load
 //! reads one says only that the worths stand in order.
-ghost use Rattle.std.specs.Prelude.{◌≡◌, false, Err, IfOk, IfErr, OnOk};
+ghost use Rattle.std.specs.Prelude.{◌≡◌, false, true, Err, IfOk, IfErr, OnOk};
 ghost use Rattle.stock_io.specs.Counts.{NeverFalls, raised};
 ghost use Rattle.stock_keeper.specs.declared.fault.KeepFault.TheVariants as fault;
 ghost use Rattle.stock_keeper.specs.Worths.{AreInOrder};
@@ -83,6 +83,13 @@ impl<S: Alter> Keeper for SqliteKeeper<S> {
     ghost plan = { λ _. None };
 
     ghost calls = { λ _. 0 };
+
+    // It tells no tables, so this is its own clause that records are handed to it.
+    fn is_lasting(&self) -> bool
+        ensures { result ≡ true }
+    {
+        true
+    }
 
     fn append(&mut self, number: RecordNo, body: &[u8]) -> Result<(), KeepFault>
         ensures appended { OnOk result (HasAppended S.Store number body.now self.old.conn self.new.conn) }

@@ -3,7 +3,7 @@
 use Rattle.std.proofs.Common.{◌≡◌, List, [], ◌∷◌, ◌++◌, ◌⊎◌, inl, inr, ap, ◌∙◌}
 use Rattle.stock_model.specs.History.{IsLegal}
 use Rattle.stock_model.specs.declared.deeds.Deed.{Deed}
-use Rattle.stock_keeper.specs.Keeping.{Within, IsMade, Makes, MayMake}
+use Rattle.stock_keeper.specs.Keeping.{Within, IsMade, Makes, MayMake, HoldsOfNone}
 use Rattle.stock_keeper.specs.declared.tables.Tables.{Tables}
 use Rattle.kept_tables.specs.Kept.{IsTried, IsKept}
 use Rattle.kept_tables.specs.TablesOf.{tables_of}
@@ -34,3 +34,28 @@ module _ (history : List Deed) (event : Deed) (change : Tables → Tables)
       by_cause : (t : Tables) → may_leave t ⊎ IsMade change tells t → (t ≡ tables_of history) ⊎ IsTried history t
       by_cause t (inl before) = kept.left t before
       by_cause t (inr made) = inr (record { event = event; legal = legal; is = made-is t made })
+
+-- no tables were told and a crash left none, and so it is after any call
+module _ (change : Tables → Tables) (tells may_leave : Tables → Type 0) (none_told : HoldsOfNone tells) (none_left : HoldsOfNone may_leave) where
+  none_made : (t : Tables) → IsMade change tells t → ⊥
+  none_made t (old, told, made) = none_told old told
+
+  pub IsKept-nothing-done : (tells' may_leave' : Tables → Type 0) → Makes change tells tells' → Within tells' may_leave'
+      → (history : List Deed) → IsKept tells' may_leave' history
+  IsKept-nothing-done tells' may_leave' makes durable history =
+      record {
+        told = λ t now. absurd (none_made t (makes t now));
+        left = λ t may. absurd (none_made t (makes t (durable t may)));
+      }
+
+  pub IsKept-nothing-refused : (tells' may_leave' : Tables → Type 0) → Within tells tells' → MayMake change tells may_leave may_leave'
+      → (history : List Deed) → IsKept tells' may_leave' history
+  IsKept-nothing-refused tells' may_leave' same may_make history =
+      record {
+        told = λ t now. absurd (none_told t (same t now));
+        left = λ t may. absurd (by_cause t (may_make t may));
+      }
+    where
+      by_cause : (t : Tables) → may_leave t ⊎ IsMade change tells t → ⊥
+      by_cause t (inl before) = none_left t before
+      by_cause t (inr made) = none_made t made

@@ -29,3 +29,7 @@ FailsAsPlanned plan calls result = IfSome plan (λ numbers. (result ≡ Err Fail
 -- the tables that are told first and those that are told second are the same, where both are
 abbrev pub TellSame : (Tables → Type 0) → (Tables → Type 0) → Type 0
 TellSame first second = (s t : Tables) → first s → second t → t ≡ s
+
+-- it holds of no tables
+abbrev pub HoldsOfNone : (Tables → Type 0) → Type 0
+HoldsOfNone told = (t : Tables) → told t → ⊥

@@ -1,8 +1,8 @@
 //! Keepers, which hold the tables of a ledger.
-ghost use Rattle.std.specs.Prelude.{◌≡◌, ℕ, List, Option, Err, OnOk, OnErr, IfOk, OnSome};
+ghost use Rattle.std.specs.Prelude.{◌≡◌, ℕ, false, List, Option, Err, OnOk, OnErr, IfOk, OnSome};
 ghost use Rattle.stock_io.specs.Counts.{Rose, NeverFalls, raised};
 ghost use Rattle.stock_keeper.specs.Changed.{appended, published, Follows, CoversMore, CoversRecords};
-ghost use Rattle.stock_keeper.specs.Keeping.{Within, Makes, MayMake, FailsAsPlanned};
+ghost use Rattle.stock_keeper.specs.Keeping.{Within, Makes, MayMake, FailsAsPlanned, HoldsOfNone};
 ghost use Rattle.stock_keeper.specs.Worths.{AreInOrder};
 ghost use Rattle.stock_keeper.specs.declared.fault.KeepFault.TheVariants.{Failed};
 ghost use Rattle.stock_keeper.specs.declared.tables.Tables.{Tables};
@@ -29,6 +29,11 @@ pub trait Keeper {
 
     // How many calls there were, where a plan is told.
     ghost calls: { Self → ℕ };
+
+    /// Whether anything is kept at all. Where nothing is, `append` does not look at the body that it is handed.
+    fn is_lasting(&self) -> bool
+        ensures none_told { result ≡ false → HoldsOfNone (tells self.now) }
+        ensures none_left { result ≡ false → HoldsOfNone (may_leave self.now) };
 
     /// Adds a record at the end. Its number follows that of the last one, and the first has number 1.
     ///

@@ -177,6 +177,10 @@ impl Keeper for MemKeeper {
 
     ghost calls = { λ k. k.plan.calls };
 
+    fn is_lasting(&self) -> bool {
+        true
+    }
+
     fn append(&mut self, number: RecordNo, body: &[u8]) -> Result<(), KeepFault>
         requires { Follows self.old.tables number }
         ensures never_falls { NeverFalls self.old.plan.faults self.new.plan.faults }

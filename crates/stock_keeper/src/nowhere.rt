@@ -46,6 +46,10 @@ impl Keeper for Nowhere {
 
     ghost calls = { λ k. k.calls };
 
+    fn is_lasting(&self) -> bool {
+        false
+    }
+
     fn append(&mut self, _number: RecordNo, _body: &[u8]) -> Result<(), KeepFault> {
         self.count();
         Ok(())

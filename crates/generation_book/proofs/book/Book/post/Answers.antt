@@ -12,12 +12,12 @@ use Rattle.stock_model.specs.PostingOrder.{posting_line}
 use Rattle.stock_model.proofs.Growth.{length-posting_line}
 use Rattle.stock_laws.proofs.Histories.{records-append}
 use Rattle.stock_laws.proofs.Legality.{NoFault-from}
-use Rattle.voucher_json.specs.RecordTexts.{record_text}
 use Rattle.kept_tables.specs.Kept.{IsKept}
 use Rattle.kept_tables.specs.TablesOf.{tables_of}
 use Rattle.kept_tables.proofs.KeptRecords.{Follows-next}
 use Rattle.generation_book.specs.State.{BookState}
 use Rattle.generation_book.specs.Book.{deeds}
+use Rattle.generation_book.specs.Handed.{IsHanded}
 use Rattle.generation_book.specs.Refusals.{IsRefusalOf}
 use Rattle.generation_book.specs.declared.events.Event.{Event}
 use Rattle.generation_book.specs.declared.events.Event.TheVariants.{Kept}
@@ -79,12 +79,12 @@ invariant_of-self-in-Err-append g c =
     let legal = subst IsLegal told c.self.invariant.0.legal in
     let next : c.in-Ok-push.number.0 ≡ accepted history + 1 =
     omega (arith, c.in-Ok-push.ensures.number, ap length c.in-Ok-push.ensures.kept, length-append c.self.inside.journal (c.args.item ∷ []), ap length held) in
-    let text : c.as_slice.result.now ≡ record_text c.args.item = c.as_slice.ensures ∙ c.in-Ok-record_text.ensures.text in
+    let text = subst (IsHanded (g.K.Keeper.tells c.self.inside.keeper) (g.K.Keeper.may_leave c.self.inside.keeper) c.args.item) (sym c.as_slice.ensures) c.in-Ok-handed_text.ensures in
     let journal : c.pop.new.self ≡ c.self.inside.journal =
     c.pop.ensures ∙ ap (λ (rs : List Record). take (length rs - 1) rs) c.in-Ok-push.ensures.kept ∙ popped c.self.inside.journal c.args.item in
     let now = kept-unappended history (g.K.Keeper.tells c.self.inside.keeper) (g.K.Keeper.may_leave c.self.inside.keeper)
     (g.K.Keeper.tells c.append.new.self) (g.K.Keeper.may_leave c.append.new.self) kept c.in-Ok-push.number c.args.item c.as_slice.result.now
-    next text legal (legal-kept history c.args.item legal c.in-Ok.ensures.sound) c.in-Err-append.ensures.tables_kept c.in-Err-append.ensures.crash in
+    next legal text (legal-kept history c.args.item legal c.in-Ok.ensures.sound) c.in-Err-append.ensures.tables_kept c.in-Err-append.ensures.crash in
     rw (c.reserve.ensures.items, journal, c.reserve-2.ensures.unchanged) (
       c.self.invariant.0,
       subst (IsKept (g.K.Keeper.tells c.append.new.self) (g.K.Keeper.may_leave c.append.new.self)) (sym told) now,
@@ -135,13 +135,13 @@ invariant_of-self-2 g c =
     let legal = subst IsLegal told c.self.invariant.0.legal in
     let next : c.in-Ok-push.number.0 ≡ accepted history + 1 =
     omega (arith, c.in-Ok-push.ensures.number, ap length c.in-Ok-push.ensures.kept, length-append c.self.inside.journal (c.args.item ∷ []), ap length held) in
-    let text : c.as_slice.result.now ≡ record_text c.args.item = c.as_slice.ensures ∙ c.in-Ok-record_text.ensures.text in
+    let text = subst (IsHanded (g.K.Keeper.tells c.self.inside.keeper) (g.K.Keeper.may_leave c.self.inside.keeper) c.args.item) (sym c.as_slice.ensures) c.in-Ok-handed_text.ensures in
     let events = c.push_reserved.ensures.items ∙ ap (λ (es : List Event). es ++ Kept ∷ []) c.reserve.ensures.items in
     let journal = c.in-Ok-push.ensures.kept in
     let all = c.add.ensures.added ∙ put_all-entries c.self.inside.journal c.args.item c.reserve-2.new.self.entries c.as_slice-2.result.now line new in
     let now = kept-appended history (g.K.Keeper.tells c.self.inside.keeper) (g.K.Keeper.may_leave c.self.inside.keeper)
     (g.K.Keeper.tells c.append.new.self) (g.K.Keeper.may_leave c.append.new.self) kept c.in-Ok-push.number c.args.item c.as_slice.result.now
-    next text legal c.in_default-append.ensures.made c.in_default-append.ensures.durable in
+    next legal text c.in_default-append.ensures.made c.in_default-append.ensures.durable in
     let longer = ap (λ (h : List Deed). h ++ deed.Kept c.args.item ∷ []) told in
     rw (events, journal) (
       IsBook-kept c.self.inside.events.items c.self.inside.journal c.self.inside.movements.entries c.self.inside.covered.0 c.self.inside.rows c.args.item c.add.new.self.entries c.self.invariant.0 none all,

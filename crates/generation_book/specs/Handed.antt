@@ -1,0 +1,10 @@
+-- What a keeper is handed of a record.
+use Rattle.std.specs.Prelude.{◌≡◌, ◌⊎◌, ℕ, List}
+use Rattle.stock_model.specs.declared.records.Record.{Record}
+use Rattle.stock_keeper.specs.Keeping.{HoldsOfNone}
+use Rattle.stock_keeper.specs.declared.tables.Tables.{Tables}
+use Rattle.voucher_json.specs.RecordTexts.{record_text}
+
+-- the stored text of the record, unless no tables are told and a crash leaves none
+abbrev pub IsHanded : (Tables → Type 0) → (Tables → Type 0) → Record → List ℕ → Type 0
+IsHanded tells may_leave item text = (HoldsOfNone tells × HoldsOfNone may_leave) ⊎ (text ≡ record_text item)
