@@ -12,6 +12,7 @@ pub mod StoredRecords
 pub mod TargetRanges
 pub mod Texts
 pub mod UsualLines
+pub mod UsualRecords
 pub mod UsualTexts
 pub mod VoucherLines
 pub mod Walks

@@ -1,13 +1,15 @@
 -- What the front of a text gives to the tokens of JSON.
-use Rattle.std.proofs.Common.{◌≡◌, ℕ, suc, ◌+◌, ◌-◌, ◌*◌, ◌^◌, ◌<◌, ◌≤◌, ◌||◌, ◌==◌, nat_le, IsUtf8, append-nil, lt-ltb, lt_of_not-le, List, [], ◌∷◌, ◌++◌, length, take, drop, get_or, Bool, true, false, cond, Some, None, option_and_then, ⊎_elim, refl, sym, ap, ap₂, ◌∙◌, subst, arith}
+use Rattle.std.proofs.Common.{◌≡◌, ℕ, suc, ◌+◌, ◌-◌, ◌*◌, ◌^◌, ◌<◌, ◌≤◌, ◌||◌, ◌==◌, nat_le, IsUtf8, append-nil, lt-ltb, lt_of_not-le, List, [], ◌∷◌, ◌++◌, length, take, drop, get_or, decimal, Bool, true, false, cond, Some, None, option_and_then, ⊎_elim, refl, sym, ap, ap₂, ◌∙◌, subst, arith}
 use Rattle.std.proofs.lemmas.Bool.{or_cases, eqb-true, and_parts, leb-true, false≢true, ne_eqb}
 use Rattle.std.proofs.Math.Seq.{take-suc}
+use Rattle.std.proofs.lemmas.Fmt.{decimal-digits_value}
 use Rattle.std.proofs.lemmas.Grind.{flat_map-append}
 use Rattle.std.proofs.lemmas.List.{drop_all, drop_more, get_or_default, get_or_past}
 use Rattle.std.proofs.lemmas.List.Folds.{list_all-append}
 use Rattle.std.proofs.lemmas.Str.{IsCharBoundary-after_ascii}
 use Rattle.std.proofs.lemmas.Int.Digits.{digits_value_push}
 use Rattle.std.proofs.lemmas.Str.{digit_value_digit}
+use Rattle.std.proofs.lemmas.Str.Parse.{IsNumeralModel}
 use Rattle.std.specs.Char.{is_ascii_digit, digit_value}
 use Rattle.std.specs.List.{list_all, prefix_len}
 use Rattle.std.specs.Str.{IsCharBoundary}
@@ -127,6 +129,20 @@ numeral-reads (x ∷ xs) all some small =
     let no_minus : (x == 45) ≡ false = ne_eqb x 45 (λ e. omega (arith, e, digit_spells x both.0)) in
     let value : digits_value 10 (s ++ []) ≡ digits_value 10 s = ap (digits_value 10) (append-nil s) in
     rw (no_minus, digits-scan s (all_digits s all), lt-ltb 0 (length s) some, value, lt-ltb (digits_value 10 s) (2 ^ 64) small) refl
+
+-- and with no 0 in front they are what is written of that number
+own_digits : IsNumeralModel (AllDigits 10) (digits_value 10)
+own_digits = record { to = λ s are. are; from = λ s are. are; same = λ s are. refl }
+
+pub numeral-written : (s : List ℕ) → list_all is_ascii_digit s ≡ true → 0 < length s → (1 < length s → head s ≡ 48 → ⊥) → digits_value 10 s < 2 ^ 64 → s ≡ decimal (digits_value 10 s)
+numeral-written [] all some no_zero small = absurd (omega (arith, some))
+numeral-written (x ∷ xs) all some no_zero small =
+    let alone : x ≡ 48 → length (x ∷ xs) ≡ 1 = λ zero. single xs (λ more. no_zero more zero) in
+    sym (decimal-digits_value own_digits (x ∷ xs) (all_digits (x ∷ xs) all) some alone small)
+  where
+    single : (ys : List ℕ) → (1 < length (x ∷ ys) → ⊥) → length (x ∷ ys) ≡ 1
+    single [] none = refl
+    single (y ∷ ys) none = absurd (none (omega arith))
 
 -- one digit more
 pub number_more : (d : List ℕ) (n : ℕ) → n < length d → is_ascii_digit (get_or d n 0) ≡ true → digits_value 10 (take (n + 1) d) ≡ digits_value 10 (take n d) * 10 + (get_or d n 0 - 48)

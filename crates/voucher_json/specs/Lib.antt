@@ -8,5 +8,6 @@ pub mod Requests
 pub mod StoredRecords
 pub mod Tables
 pub mod Texts
+pub mod UsualRecords
 pub mod UsualTexts
 pub mod Walks

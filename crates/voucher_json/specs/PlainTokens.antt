@@ -1,5 +1,5 @@
 -- The tokens of a text, where they are read as they stand.
-use Rattle.std.specs.Prelude.{◌≡◌, ℕ, List, ◌∷◌, ◌++◌, Bool, true, false, ◌||◌, ◌==◌, Some}
+use Rattle.std.specs.Prelude.{◌≡◌, ℕ, List, ◌∷◌, ◌++◌, Bool, true, false, ◌||◌, ◌==◌, Some, decimal}
 use Rattle.json.specs.Lex.{between, lex, punctuate, fresh, after_comma, after_value}
 use Rattle.json.specs.Print.{escape, IsNumber}
 use Rattle.json.specs.Token.{Token}
@@ -38,10 +38,11 @@ pub record IsQuotedText (whole text rest : List ℕ) : Type 0 where
   pub parts : whole ≡ text ++ 34 ∷ rest
   pub plain : escape text ≡ text
 
--- a whole number that ends where the rest begins
+-- a whole number, written in one way, that ends where the rest begins
 pub record IsNumeral (whole : List ℕ) (n : ℕ) (rest : List ℕ) : Type 0 where
   pub numeral : List ℕ
   pub parts : whole ≡ numeral ++ rest
+  pub written : numeral ≡ decimal n
   pub number : IsNumber numeral
   pub reads : number_of numeral ≡ Some (unsigned n)
   pub ends : follows_value (head rest) ≡ true

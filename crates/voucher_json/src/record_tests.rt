@@ -1,6 +1,7 @@
 use crate::field_names::field_text;
 use crate::record_reading::read_record;
 use crate::record_texts::{is_text_of, record_text};
+use crate::usual_records::usual_record;
 use std::alloc::Global;
 use std::test::Fail;
 use stock_model::read_faults::ReadFault;
@@ -107,5 +108,74 @@ fn knows_the_one_stored_spelling(rt: HostRuntime) -> Result<(), Fail> {
             Err(_) => assert!(rt; false, "{text}"),
         }
     }
+    Ok(())
+}
+
+/// The stored text of the record that a text is read as in one pass, or `none`.
+fn read_at_once(alloc: Global, text: &str) -> Result<String, Fail> {
+    match usual_record(alloc, text.as_bytes())? {
+        Some(found) => {
+            let text = record_text(alloc, &found)?;
+            Ok(String::from_utf8_lossy(alloc, text.as_slice())?)
+        }
+        None => Ok(String::from_str(alloc, "none")?),
+    }
+}
+
+#[test]
+fn reads_usual_records_at_once(rt: HostRuntime) -> Result<(), Fail> {
+    let table = [
+        r#"{"at":"2026-01-02T09:00:00","desk":0,"do":"receipt","lines":[{"amount":0,"item":"B","qty":1000000000,"store":"W1"}]}"#,
+        r#"{"at":"2026-01-02T09:00:00","desk":16,"do":"receipt","lines":[{"amount":10,"item":"Tür","qty":1,"store":"W1"},{"amount":1000000000000,"item":"","qty":10,"store":"a longer code than twenty-four bytes"}]}"#,
+        r#"{"at":"2024-02-29T23:59:59","desk":3,"do":"issue","lines":[{"item":"B","qty":1,"store":"W1"},{"item":"C","qty":20,"store":"W2"}],"use":"sold"}"#,
+        r#"{"at":"2026-01-02T09:00:00","desk":3,"do":"issue","lines":[{"item":"B","qty":1,"store":"W1"}],"use":"used"}"#,
+    ];
+    for text in table {
+        let found = read_at_once(rt.alloc(), text)?;
+        assert_eq!(rt; found.as_str(), text);
+    }
+    Ok(())
+}
+
+#[test]
+fn leaves_other_texts(rt: HostRuntime) -> Result<(), Fail> {
+    let table = [
+        // An item, and a transfer.
+        r#"{"code":"A","desk":0,"do":"item","method":"fifo"}"#,
+        r#"{"at":"2026-01-02T09:00:00","desk":0,"do":"transfer","lines":[{"from":"W1","item":"A","qty":4,"to":"W2"}]}"#,
+        // A space, and one at the end.
+        r#"{"at":"2026-01-02T09:00:00", "desk":0,"do":"receipt","lines":[{"amount":1,"item":"B","qty":1,"store":"W1"}]}"#,
+        r#"{"at":"2026-01-02T09:00:00","desk":0,"do":"receipt","lines":[{"amount":1,"item":"B","qty":1,"store":"W1"}]} "#,
+        // Keys in another order.
+        r#"{"desk":0,"at":"2026-01-02T09:00:00","do":"receipt","lines":[{"amount":1,"item":"B","qty":1,"store":"W1"}]}"#,
+        r#"{"at":"2026-01-02T09:00:00","desk":0,"do":"issue","lines":[{"item":"B","store":"W1","qty":1}],"use":"sold"}"#,
+        // An escape.
+        r#"{"at":"2026-01-02T09:00:00","desk":0,"do":"receipt","lines":[{"amount":1,"item":"\u0042","qty":1,"store":"W1"}]}"#,
+        r#"{"at":"2026-01-02T09:00:00","desk":0,"do":"receipt","lines":[{"amount":1,"item":"a\"b","qty":1,"store":"W1"}]}"#,
+        // Numbers with a leading zero, a point, a sign, or out of range.
+        r#"{"at":"2026-01-02T09:00:00","desk":00,"do":"receipt","lines":[{"amount":1,"item":"B","qty":1,"store":"W1"}]}"#,
+        r#"{"at":"2026-01-02T09:00:00","desk":0,"do":"receipt","lines":[{"amount":01,"item":"B","qty":1,"store":"W1"}]}"#,
+        r#"{"at":"2026-01-02T09:00:00","desk":0,"do":"receipt","lines":[{"amount":1.0,"item":"B","qty":1,"store":"W1"}]}"#,
+        r#"{"at":"2026-01-02T09:00:00","desk":0,"do":"receipt","lines":[{"amount":-1,"item":"B","qty":1,"store":"W1"}]}"#,
+        r#"{"at":"2026-01-02T09:00:00","desk":17,"do":"receipt","lines":[{"amount":1,"item":"B","qty":1,"store":"W1"}]}"#,
+        r#"{"at":"2026-01-02T09:00:00","desk":0,"do":"receipt","lines":[{"amount":1000000000001,"item":"B","qty":1,"store":"W1"}]}"#,
+        r#"{"at":"2026-01-02T09:00:00","desk":0,"do":"receipt","lines":[{"amount":1,"item":"B","qty":0,"store":"W1"}]}"#,
+        // No moment, no line, no such use, another field.
+        r#"{"at":"2026-02-30T09:00:00","desk":0,"do":"receipt","lines":[{"amount":1,"item":"B","qty":1,"store":"W1"}]}"#,
+        r#"{"at":"2026-01-02T09:00:00","desk":0,"do":"receipt","lines":[]}"#,
+        r#"{"at":"2026-01-02T09:00:00","desk":0,"do":"issue","lines":[{"item":"B","qty":1,"store":"W1"}],"use":"lost"}"#,
+        r#"{"at":"2026-01-02T09:00:00","desk":0,"do":"receipt","lines":[{"amount":1,"item":"B","qty":1,"store":"W1"}],"use":"sold"}"#,
+        // Cut off.
+        "",
+        r#"{"at":"2026-01-02T09:00:00","desk":0"#,
+        r#"{"at":"2026-01-02T09:00:00","desk":0,"do":"receipt","lines":[{"amount":1,"item":"B","qty":1,"store":"W1"},"#,
+        r#"{"at":"2026-01-02T09:00:00","desk":0,"do":"receipt","lines":[{"amount":1,"item":"B","qty":1,"store":"W1"}]"#,
+    ];
+    for text in table {
+        let found = read_at_once(rt.alloc(), text)?;
+        assert_eq!(rt; found.as_str(), "none", "{text}");
+    }
+    let no_text = usual_record(rt.alloc(), b"{\"at\":\"\xff")?;
+    assert!(rt; no_text.is_none());
     Ok(())
 }

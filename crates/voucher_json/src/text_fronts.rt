@@ -1,10 +1,10 @@
 //! What a JSON text begins with (RFC 8259).
-ghost use Rattle.std.specs.Prelude.{◌≡◌, ◌+◌, ◌<◌, ◌≤◌, ◌∷◌, ◌++◌, length, take, get_or, true, IfSome};
+ghost use Rattle.std.specs.Prelude.{◌≡◌, ◌+◌, ◌<◌, ◌≤◌, ◌∷◌, ◌++◌, length, take, get_or, true, decimal, IfSome};
 ghost use Rattle.std.specs.Char.{is_ascii_digit};
 ghost use Rattle.std.specs.List.{list_all};
 ghost use Rattle.std.specs.Str.Parse.{digits_value};
 ghost use Rattle.json.specs.Lex.{between, lex};
-ghost use Rattle.json.specs.Print.{escape};
+ghost use Rattle.json.specs.Print.{escape, quoted};
 ghost use Rattle.json.specs.Word.{head};
 ghost use Rattle.voucher_json.specs.PlainTokens.{is_blank, follows_value, IsQuotedText, IsNumeral};
 
@@ -65,6 +65,22 @@ pub fn after_key<'a>(text: &'a str, name: &str) -> Option<&'a str>
         return None;
     }
     Some(&opened[len + 2..])
+}
+
+/// The text in quotes that comes after this front, and what comes after that, where nothing is escaped (section 7).
+#[inline(always)]
+pub fn text_after<'a>(text: &'a str, front: &str) -> Option<(&'a str, &'a str)>
+    ensures { IfSome result (λ parts. text.now ≡ front.now ++ (quoted parts.0.now ++ parts.1.now)) }
+{
+    split_text(after_byte(text.strip_prefix(front)?, b'"')?)
+}
+
+/// The whole number that comes after this front, below 10^16, and what comes after it.
+#[inline(always)]
+pub fn number_after<'a>(text: &'a str, front: &str) -> Option<(u64, &'a str)>
+    ensures { IfSome result (λ parts. text.now ≡ front.now ++ (decimal parts.0 ++ parts.1.now)) }
+{
+    split_number(text.strip_prefix(front)?)
 }
 
 /// The text up to its closing quote, and what comes after that, where nothing is escaped (section 7).

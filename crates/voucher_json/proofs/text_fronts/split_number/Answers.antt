@@ -1,4 +1,4 @@
-use Rattle.std.proofs.Common.{◌≡◌, ◌+◌, ◌^◌, ◌<◌, ◌≤◌, ◌++◌, Some, length, take, get_or, true, sym, ap, ◌∙◌, arith}
+use Rattle.std.proofs.Common.{◌≡◌, ◌+◌, ◌^◌, ◌<◌, ◌≤◌, ◌++◌, Some, decimal, length, take, get_or, true, sym, ap, ◌∙◌, arith}
 use Rattle.std.proofs.lemmas.Bool.{eqb-false}
 use Rattle.std.proofs.lemmas.List.{get_or-drop, get_or-take, take-append-drop, length-take-le}
 use Rattle.std.specs.Char.{is_ascii_digit}
@@ -7,7 +7,7 @@ use Rattle.std.specs.Str.Parse.{digits_value}
 use Rattle.json.specs.Word.{head}
 use Rattle.serde_json.specs.Data.{unsigned}
 use Rattle.voucher_json.specs.PlainTokens.{follows_value}
-use Rattle.voucher_json.proofs.PlainTokens.{numeral-number, numeral-reads}
+use Rattle.voucher_json.proofs.PlainTokens.{numeral-number, numeral-reads, numeral-written}
 use Rattle.voucher_json.proofs.text_fronts.split_number.Goals as goal
 use Rattle.voucher_json.proofs.text_fronts.split_number.Goals.{then-len-gt1, else-len-gt1}
 
@@ -33,6 +33,7 @@ returns c =
     record {
       numeral = take len text;
       parts = sym (ap (λ b. take len text ++ b) c.range_from.ensures.value ∙ take-append-drop len text);
+      written = numeral-written (take len text) digits some (λ more. no_zero (omega (arith, size, more))) small ∙ ap decimal (sym spells);
       number = numeral-number (take len text) digits some (λ more. no_zero (omega (arith, size, more)));
       reads = numeral-reads (take len text) digits some small ∙ ap (λ n. Some (unsigned n)) (sym spells);
       ends = ap follows_value (tail ∙ sym c.byte_at-else-has_leading_zero.ensures) ∙ sym c.follows_value.ensures ∙ c.if-not-follows_value.false;
