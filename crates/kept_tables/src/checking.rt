@@ -22,6 +22,7 @@ use stock_nums::entry::Row;
 use stock_nums::numbers::RecordNo;
 use voucher_json::record_reading::read_record;
 use voucher_json::record_texts::is_text_of;
+use voucher_json::usual_records::usual_record;
 
 /// How many records the worths are made from, from 0 to the number of records. The only error is a bad head: another
 /// version than 1, or another number covered.
@@ -76,6 +77,24 @@ pub fn next_record(
 
 // The one record of which this text is written.
 fn written(alloc: Global, number: RecordNo, text: &[u8]) -> Result<Record, OpenFault>
+    ensures ok { IfOk result (λ item. text.now ≡ record_text item) }
+    ensures one { IfOk result (λ item. (other : Record) → IsUtf8 (record_text other) → record_text other ≡ record_text item
+        → other ≡ item) }
+    ensures utf8 { IfOk result (λ item. IsUtf8 (record_text item)) }
+    ensures fault { IfErr result (λ f. (f ≡ OpenFault.NoMemory) ⊎ ((f ≡ OpenFault.BadStored number.0)
+        × ((item : Record) → IsUtf8 (record_text item) → text.now ≢ record_text item))) }
+{
+    let Ok(usual) = usual_record(alloc, text) else {
+        return Err(OpenFault::NoMemory);
+    };
+    match usual {
+        Some(item) => Ok(item),
+        None => written_at_length(alloc, number, text),
+    }
+}
+
+// The same, by a record's JSON value and the text that is written of it.
+fn written_at_length(alloc: Global, number: RecordNo, text: &[u8]) -> Result<Record, OpenFault>
     ensures ok { IfOk result (λ item. text.now ≡ record_text item) }
     ensures one { IfOk result (λ item. (other : Record) → IsUtf8 (record_text other) → record_text other ≡ record_text item
         → other ≡ item) }
