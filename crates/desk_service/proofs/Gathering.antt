@@ -2,12 +2,14 @@
 use Rattle.std.proofs.Common.{◌≡◌, ◌≢◌, ℕ, zero, suc, ◌+◌, ◌<◌, List, [], ◌∷◌, ◌++◌, length, map, refl, sym, ap, ◌∙◌, subst, eq-eqb, ne_eqb, arith}
 use mathlib.Core.Logic.{dite}
 use native.Mathlib.Decide.{ℕ_discrete}
-use Rattle.std.specs.Prelude.{All, ◌==◌, if◌then◌else◌, slice_index_or}
+use Rattle.std.specs.Prelude.{All, ◌==◌, if◌then◌else◌, slice_index_or, sum_by}
 use Rattle.std.proofs.lemmas.List.{map-append}
+use Rattle.std.proofs.lemmas.List.Sums.{sum_by-cons}
 use Rattle.std.proofs.lemmas.List.Elements.{All-nil, All-cons, All-head, All-tail, All-weaker}
 use Rattle.atomic_table.specs.Seated.{TableId}
 use Rattle.turn_lock.specs.Passes.{PassView}
-use Rattle.turn_lock.specs.Views.{joined_made, made_through}
+use Rattle.turn_lock.specs.Views.{all_faults, joined_made, kept_of, made_through}
+use Rattle.turn_lock.specs.declared.view.Joined.{Joined}
 use Rattle.turn_lock.specs.declared.view.View.{View}
 use Rattle.desk_service.specs.Passes.{fresh, passes_from, joined_all}
 
@@ -38,6 +40,10 @@ module _ {E : Type 0} where
   joined_all-number view [] = refl
   joined_all-number view (pass ∷ passes) = joined_all-number view passes
 
+  pub joined_all-first_faults : (view : View E) (passes : List (PassView E)) → (joined_all view passes).first_faults ≡ view.first_faults
+  joined_all-first_faults view [] = refl
+  joined_all-first_faults view (pass ∷ passes) = joined_all-first_faults view passes
+
   joined_all-made : (view : View E) (passes : List (PassView E)) → (joined_all view passes).made ≡ view.made
   joined_all-made view [] = refl
   joined_all-made view (pass ∷ passes) = joined_all-made view passes
@@ -50,6 +56,20 @@ module _ {E : Type 0} where
       → length (joined_all view passes).joined ≡ length view.joined + length passes
   joined_all-count view [] = omega arith
   joined_all-count view (pass ∷ passes) = omega (arith, joined_all-count view passes)
+
+  -- and keeps how many faults were counted in the turns of each
+  pub joined_all-faults : (view : View E) (passes : List (PassView E))
+      → all_faults (joined_all view passes) ≡ all_faults view + sum_by (λ pass. pass.view.faults) passes
+  joined_all-faults view [] = omega arith
+  joined_all-faults view (pass ∷ passes) =
+      let before = joined_all view passes in
+      let own = λ (p : PassView E). p.view.faults in
+      let others = sum_by-cons (λ (j : Joined E). j.faults) (kept_of before pass.view) before.joined in
+      let each = sum_by-cons own pass passes in
+      let all : all_faults (joined_all view (pass ∷ passes)) ≡ all_faults before + own pass =
+      ap (λ (n : ℕ). before.faults + n) others ∙ omega arith
+      in
+      omega (arith, all, each, joined_all-faults view passes)
 
   joined_all-others : (k : ℕ) (view : View E) (passes : List (PassView E)) → view.joined ≡ []
       → joined_made k (joined_all view passes).joined ≡ made_in k passes

@@ -1,7 +1,8 @@
 -- What a service does, by what its worker, its desks and the end of its lock tell.
 use Rattle.std.proofs.Common.{◌≡◌, ◌≢◌, ℕ, zero, suc, ◌+◌, ◌<◌, ◌≤◌, Bool, Option, List, [], ◌∷◌, ◌++◌, length, map, reverse, refl, sym, ap, ◌∙◌, subst, append-nil, append_assoc, length-append, arith}
-use Rattle.std.specs.Prelude.{All}
+use Rattle.std.specs.Prelude.{All, sum, sum_by}
 use Rattle.std.proofs.lemmas.List.{map-append, reverse-append, length-map}
+use Rattle.std.proofs.lemmas.List.Sums.{sum_by-cons, sum_by_push}
 use Rattle.std.proofs.lemmas.List.Elements.{All-nil, All-cons, All-head, All-tail, All-weaker}
 use Rattle.atomic_table.specs.Seated.{TableId}
 use Rattle.turn_lock.specs.Histories.{BeginsWith, past, made_by}
@@ -23,7 +24,7 @@ use Rattle.desk_service.specs.Listening.{Heard, Accepts, HangsUp}
 use Rattle.desk_service.specs.Passes.{fresh, passes_from}
 use Rattle.desk_service.specs.Service.{IsPeerServed, AreServed, IsService}
 use Rattle.desk_service.specs.Teams.{IsTeamwork}
-use Rattle.desk_service.proofs.Gathering.{made_in, numbers, IsDown, passes_from-down, found, made_in-unused, made_through-zero, made_through-other, All-both}
+use Rattle.desk_service.proofs.Gathering.{made_in, numbers, IsDown, passes_from-down, found, joined_all-faults, made_in-unused, made_through-zero, made_through-other, All-both}
 use Rattle.desk_service.proofs.Revaluing.{Owns, own-turns, work-final}
 use Rattle.desk_service.proofs.SplitOff.{All-last, All-front, passes_from-length}
 
@@ -58,6 +59,18 @@ module _ {P A : Type 0} (f : Work P → A) where
       in
       let rest = each_work Q unused works split.0 in
       (rest.0, All-cons (λ (w : Work P). Q (f w)) work works split.1 rest.1)
+
+-- the sum over works, whose last comes first
+module _ {P A : Type 0} (f : Work P → A) (size : A → ℕ) where
+  sum-last_first : (unused : List A) (works : List (Work P))
+      → sum_by size (unused ++ last_first f works) ≡ sum_by size unused + sum (map (λ w. size (f w)) works)
+  sum-last_first unused [] = ap (sum_by size) (append-nil unused) ∙ omega arith
+  sum-last_first unused (work ∷ works) =
+      let sizes = λ (w : Work P). size (f w) in
+      let front = unused ++ last_first f works in
+      let whole = ap (sum_by size) (sym (append_assoc unused (last_first f works) (f work ∷ []))) ∙ sum_by_push size front (f work) in
+      let each : sum (map sizes (work ∷ works)) ≡ size (f work) + sum (map sizes works) = sum_by-cons (λ n. n) (size (f work)) (map sizes works) in
+      omega (arith, whole, each, sum-last_first unused works)
 
 module _ {P : Type 0} (left : P → Option (List ℕ)) (taken : P → ℕ) (written : P → Option (List ℕ)) (faults : P → ℕ) (ended : P → Bool) where
   abbrev attends : ℕ → PassView Deed → PassView Deed → P → P → Type 0
@@ -98,7 +111,7 @@ module _ {P : Type 0} (left : P → Option (List ℕ)) (taken : P → ℕ) (writ
     peer_served : (number : ℕ) (work : Work P) → 0 < number → attends number work.pass work.pass_then work.peer work.peer_then
         → IsNew lock (with_makers first) work.pass → BeginsWith (with_makers final) work.pass_then.view.seen
         → made_in work.pass_then.view.number all ≡ work.pass_then.view.made
-        → IsPeerServed left taken written faults ended number first final work.peer work.peer_then
+        → IsPeerServed left taken written faults ended number work.pass_then.view.faults first final work.peer work.peer_then
     peer_served number work some did new ends is =
         let own : work.pass_then.view.number ≡ number = ap (λ (v : View Deed). v.number) did.rest ∙ did.number in
         let deeds = made_by number (past (with_makers first) (with_makers final)) in
@@ -112,14 +125,15 @@ module _ {P : Type 0} (left : P → Option (List ℕ)) (taken : P → ℕ) (writ
           shared = λ exchanges session. Served-by_session number first final work.pass.view work.pass_then.view exchanges session
               (subst (λ (z : List (ℕ × Deed)). BeginsWith z (with_makers first)) (sym new.saw) (begins_self (with_makers first))) ends
               (sym (ap (λ (z : List (ℕ × Deed)). z ++ deeds) new.nothing ∙ made_is));
+          failed = λ exchanges session below_end. let told = session.failed below_end in omega (arith, told);
         }
 
     peers_served : (number : ℕ) (works : List (Work P)) → 0 < number → AreAttended attends number works
         → All (λ work. IsNew lock (with_makers first) work.pass) works
         → All (λ work. BeginsWith (with_makers final) work.pass_then.view.seen) works
         → All (λ work. made_in work.pass_then.view.number all ≡ work.pass_then.view.made) works
-        → AreServed (λ desk. IsPeerServed left taken written faults ended desk first final) number
-        (map (λ work. work.peer) works) (map (λ work. work.peer_then) works)
+        → AreServed (λ desk counted. IsPeerServed left taken written faults ended desk counted first final) number
+        (map (λ work. work.pass_then.view.faults) works) (map (λ work. work.peer) works) (map (λ work. work.peer_then) works)
     peers_served number [] some did new ends is = tt
     peers_served number (work ∷ works) some did new ends is = (
       peer_served number work some did.0 (All-head (λ (w : Work P). IsNew lock (with_makers first) w.pass) work works new)
@@ -207,7 +221,7 @@ module _ {P : Type 0} (left : P → Option (List ℕ)) (taken : P → ℕ) (writ
         team.worked.turns
 
     -- the lock ended, and the peers were hung up
-    module _ (final : List Deed) (closed : IsClosed pass'.view passes' final) (new : Heard P) (up : HangsUp mid new (reverse peers)) where
+    module _ (final : List Deed) (faults' : ℕ) (closed : IsClosed pass'.view passes' final faults') (new : Heard P) (up : HangsUp mid new (reverse peers)) where
       made : (k : ℕ) → 0 < k → made_by k (past (with_makers first) (with_makers final)) ≡ made_in k passes'
       made k some =
           ap (λ (z : List (ℕ × Deed)). made_by k (past z (with_makers final))) (sym first_is) ∙ closed.made k
@@ -254,8 +268,22 @@ module _ {P : Type 0} (left : P → Option (List ℕ)) (taken : P → ℕ) (writ
           (without_makers-begins (with_makers final) (with_makers first)
           (subst (λ (z : List (ℕ × Deed)). BeginsWith (with_makers final) z) first_is closed.begins))
 
+      counted : count_of_faults + sum (map (λ w. w.pass_then.view.faults) team.serving.works) ≤ faults'
+      counted =
+          let s = team.serving in
+          let own = λ (p : PassView Deed). p.view.faults in
+          omega (
+            arith,
+            closed.rose,
+            joined_all-faults pass'.view passes',
+            ap (λ (v : View Deed). v.first_faults) view_is,
+            ap (λ (v : View Deed). v.first_faults) split,
+            ap (sum_by own) s.after,
+            sum-last_first (λ (w : Work P). w.pass_then) own s.unused s.works,
+          )
+
       pub service_is : (accepted : ℕ) → accepted ≡ length peers
-          → IsService (IsPeerServed left taken written faults ended) is_fresh count accepted first final old new
+          → IsService (IsPeerServed left taken written faults ended) is_fresh count accepted first final count_of_faults faults' old new
       service_is accepted count_is =
           let s = team.serving in
           let then = λ (w : Work P). w.pass_then in
@@ -273,11 +301,13 @@ module _ {P : Type 0} (left : P → Option (List ℕ)) (taken : P → ℕ) (writ
             closed = mid;
             peers = map (λ w. w.peer) s.works;
             peers_then = map (λ w. w.peer_then) s.works;
+            counts = map (λ w. w.pass_then.view.faults) s.works;
             count = count_is ∙ peers-length ∙ sym (length-map s.works (λ (w : Work P). w.peer));
             came = subst (λ (n : ℕ). Accepts is_fresh n old mid (map (λ (w : Work P). w.peer) s.works)) wanted s.accepted;
             served = peers_served lock first final passes' made 1 s.works (omega arith) s.attended new_ones.1 ends.1 is.1;
             hung_up = subst (HangsUp mid new) back up;
             grows = grows;
             published = published;
+            among = counted;
             no_others = λ k more. no_others k (omega (arith, count_is));
           }

@@ -75,7 +75,7 @@ pub fn serve<K: Keeper + Send, P: Link, L: Listener<Peer = P> + Drop, R: Threads
     ensures served { IfOk result (λ served. IsService
         (IsPeerServed P.left P.taken P.written P.Source.faults P.ended)
         (IsFresh P.taken P.written P.Source.faults P.ended)
-        desks served.accepted book.history served.book.history
+        desks served.accepted book.history served.book.history book.keeper.faults served.book.keeper.faults
         (heard L.waiting L.hung_up L.accepts L.hang_ups L.faults listener)
         (heard L.waiting L.hung_up L.accepts L.hang_ups L.faults served.listener)) }
     ensures work { IfOk result (λ served. IsWorkOf served.book.history served.build) }
@@ -226,7 +226,7 @@ fn ended<K: Keeper, L: Listener>(lock: TurnLock<Book<K>>, team: Team<K, L>) -> S
     requires none_joined { team.worker.pass.view.joined ≡ [] }
     requires split { team.worker.pass.view.split ≡ length team.desks.passes.items }
     requires outstanding { L.hang_ups team.desks.listener + length team.desks.peers.items ≤ L.accepts team.desks.listener }
-    ensures closed { IsClosed team.worker.pass.view team.desks.passes.items result.book.history }
+    ensures closed { IsClosed team.worker.pass.view team.desks.passes.items result.book.history result.book.keeper.faults }
     ensures hung_up { HangsUp (heard L.waiting L.hung_up L.accepts L.hang_ups L.faults team.desks.listener)
         (heard L.waiting L.hung_up L.accepts L.hang_ups L.faults result.listener) (reverse team.desks.peers.items) }
     ensures build { result.build ≡ team.worker.build }

@@ -1,13 +1,14 @@
 -- All passes were joined into pass 0, and the lock ended.
-use Rattle.std.proofs.Common.{◌≡◌, ℕ, List, length, sym, ap, ◌∙◌, subst, arith}
+use Rattle.std.proofs.Common.{◌≡◌, ℕ, ◌+◌, List, length, sym, ap, ◌∙◌, subst, arith}
 use Rattle.std.specs.Prelude.{All}
 use Rattle.stock_model.specs.declared.deeds.Deed.{Deed}
 use Rattle.turn_lock.specs.Histories.{BeginsWith, past, made_by}
 use Rattle.turn_lock.specs.Passes.{PassView}
-use Rattle.turn_lock.specs.Views.{made_through}
+use Rattle.turn_lock.specs.Views.{all_faults, made_through}
 use Rattle.turn_lock.specs.declared.view.View.{View}
 use Rattle.session_laws.specs.Makers.{with_makers}
-use Rattle.desk_service.proofs.Gathering.{joined_all-number, joined_all-count, joined_all-split, joined_all-first}
+use Rattle.desk_service.specs.Passes.{joined_all}
+use Rattle.desk_service.proofs.Gathering.{joined_all-number, joined_all-count, joined_all-split, joined_all-first, joined_all-first_faults}
 use Rattle.desk_service.proofs.service.ended.Goals as goal
 
 pub close-requires-clause-zero : goal.close-requires-clause-zero
@@ -34,5 +35,8 @@ returns-clause-closed g c =
       begins = subst (λ (z : List (ℕ × Deed)). BeginsWith final z) first_is c.close.ensures.begins;
       saw_own = subst (λ (z : List (ℕ × Deed)). BeginsWith z view.seen) (sym c.close.ensures.seen) c.join_all-pass.ensures.saw_own;
       saw_all = subst (λ (z : List (ℕ × Deed)). All (λ (p : PassView Deed). BeginsWith z p.view.seen) passes) (sym c.close.ensures.seen) c.join_all-pass.ensures.saw_all;
+      rose =
+          ap (λ (n : ℕ). n + all_faults (joined_all view passes)) (sym (joined_all-first_faults view passes))
+          ∙ ap (λ (v : View Deed). v.first_faults + all_faults v) (sym joined) ∙ c.close.ensures.rose;
       made = λ k. ap (λ (z : List (ℕ × Deed)). made_by k (past z final)) (sym first_is) ∙ c.close.ensures.made k ∙ ap (made_through k) joined;
     }

@@ -91,7 +91,7 @@ returns-clause-served g c =
     ∙ ap (λ (n : ℕ). record known { split = n }) whole
     in
     let team = c.in_threads-team.ensures in
-    service_is _ _ _ _ _ _ lock c.args.book.history c.args.book.keeper.faults c.args.desks _ _ _ _ _ _ _ _ _ split are team c.ended.result.book.history c.ended.ensures.closed _
+    service_is _ _ _ _ _ _ lock c.args.book.history c.args.book.keeper.faults c.args.desks _ _ _ _ _ _ _ _ _ split are team c.ended.result.book.history c.ended.result.book.keeper.faults c.ended.ensures.closed _
     c.ended.ensures.hung_up c.ended.result.accepted c.ended.ensures.accepted
 
 pub returns-clause-work : goal.returns-clause-work
@@ -109,4 +109,4 @@ returns-clause-work g c =
     in
     let team = c.in_threads-team.ensures in
     subst (IsWorkOf c.ended.result.book.history) (sym c.ended.ensures.build)
-    (work_is _ _ _ _ _ _ lock c.args.book.history c.args.book.keeper.faults c.args.desks _ _ _ _ _ _ _ _ _ split are team c.ended.result.book.history c.ended.ensures.closed _ c.ended.ensures.hung_up)
+    (work_is _ _ _ _ _ _ lock c.args.book.history c.args.book.keeper.faults c.args.desks _ _ _ _ _ _ _ _ _ split are team c.ended.result.book.history c.ended.result.book.keeper.faults c.ended.ensures.closed _ c.ended.ensures.hung_up)
