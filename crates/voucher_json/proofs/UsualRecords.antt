@@ -11,7 +11,6 @@ use Rattle.stock_nums.proofs.MomentSpelling.{one_spelling}
 use Rattle.stock_nums.proofs.MomentWriting.{moment_text-spells}
 use Rattle.stock_model.specs.declared.vouchers.IssueLine.{IssueLine}
 use Rattle.stock_model.specs.declared.vouchers.Purpose.{Purpose}
-use Rattle.stock_model.specs.declared.vouchers.Purpose.TheVariants.{Sold, Used}
 use Rattle.stock_model.specs.declared.vouchers.ReceiptLine.{ReceiptLine}
 use Rattle.stock_model.specs.declared.vouchers.What.TheVariants.{Receipt, Issue}
 use Rattle.voucher_json.specs.RecordTexts.{purpose_word}
