@@ -179,3 +179,28 @@ fn leaves_other_texts(rt: HostRuntime) -> Result<(), Fail> {
     assert!(rt; no_text.is_none());
     Ok(())
 }
+
+/// The stored text of an issue of so many lines.
+fn issue_of(alloc: Global, count: u32) -> Result<String, Fail> {
+    let head = r#"{"at":"2026-01-02T09:00:00","desk":0,"do":"issue","lines":["#;
+    let mut text = String::from_str(alloc, head)?;
+    for place in 0..count {
+        if place > 0 {
+            text.push(',')?;
+        }
+        text.push_str(r#"{"item":"B","qty":1,"store":"W1"}"#)?;
+    }
+    text.push_str(r#"],"use":"used"}"#)?;
+    Ok(text)
+}
+
+#[test]
+fn reads_a_hundred_lines_at_once(rt: HostRuntime) -> Result<(), Fail> {
+    let most = issue_of(rt.alloc(), 100)?;
+    let found = read_at_once(rt.alloc(), most.as_str())?;
+    assert_eq!(rt; found.as_str(), most.as_str());
+    let too_many = issue_of(rt.alloc(), 101)?;
+    let none = read_at_once(rt.alloc(), too_many.as_str())?;
+    assert_eq!(rt; none.as_str(), "none");
+    Ok(())
+}

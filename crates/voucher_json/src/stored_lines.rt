@@ -72,7 +72,7 @@ impl StoredLine for IssueLine {
 
 /// What a line says of its goods, and what comes after the line.
 #[derive(Clone, Copy, Drop)]
-pub(crate) struct Goods<'a> {
+struct Goods<'a> {
     item: &'a str,
     qty: u64,
     store: &'a str,
