@@ -20,4 +20,5 @@ mod RecordTexts
 mod Reports
 mod RowsByKey
 mod RunningHoldings
+mod SummedRows
 pub mod WholeReports

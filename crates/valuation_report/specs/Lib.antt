@@ -1,3 +1,4 @@
+pub mod BalanceSums
 pub mod SheetRows
 pub mod SheetTexts
 pub mod Adding

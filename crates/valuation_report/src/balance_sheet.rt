@@ -41,8 +41,8 @@ fn add_row(by_key: &mut BTreeMap<Key, Holding>, key: Key, row: &Row) -> Result<(
     Ok(())
 }
 
-// What is held of each key that is asked for. No row is copied.
-fn holdings_by_key(
+/// What is held of each key that is asked for. No row is copied.
+pub(crate) fn holdings_by_key(
     alloc: Global,
     query: &Query,
     heads: &[Head],

@@ -4,6 +4,7 @@
 mod account_rows;
 mod account_sheet;
 mod balance_sheet;
+pub mod balance_sums;
 mod balance_texts;
 mod code_texts;
 mod framing;
