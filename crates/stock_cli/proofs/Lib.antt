@@ -7,3 +7,6 @@ pub mod Ends
 pub mod KeeperCalls
 pub mod Told
 pub mod FiledRuns
+pub mod Loading
+pub mod LoadEnds
+pub mod CountWords

@@ -1,6 +1,8 @@
 -- What the kit's parser finds in the words that the program knows.
-use Rattle.std.proofs.Common.{◌≡◌, true, false, refl, List, [], ◌∷◌, ◌++◌, Option, Some, None, inl, inr, sym, ap, ◌∙◌, subst}
+use Rattle.std.proofs.Common.{◌≡◌, ◌⊎◌, ℕ, true, false, refl, List, [], ◌∷◌, ◌++◌, get_or, Option, Some, None, inl, inr, sym, ap, ◌∙◌, subst, arith}
 use Rattle.std.proofs.lemmas.Bool.{ne_eqb}
+use Rattle.std.proofs.lemmas.List.Elements.{All-head}
+use Rattle.std.specs.Char.{IsAsciiDigit}
 use Rattle.std.proofs.lemmas.Bool.Decides.{eqb_tells}
 use Rattle.std.specs.Prelude.{codes, MatchOption}
 use Rattle.std.specs.Option.{option_map_or}
@@ -9,9 +11,9 @@ use Rattle.clap.specs.Lexer.{long_of, short_of}
 use Rattle.clap.specs.Words.{Row, Text, first_of, takes, subcommand_of}
 use Rattle.clap.proofs.OnLiterals.{clap_on_literals}
 use Rattle.stock_cli.specs.Commands.{program, AsksFor, AsksForNothing}
-use Rattle.stock_cli.specs.Words.{Spells, SpellsBatchOver, SpellsSome, SpellsNothing, IsPath}
+use Rattle.stock_cli.specs.Words.{Spells, SpellsBatchOver, SpellsSome, SpellsNothing, IsPath, IsCount}
 use Rattle.stock_cli.specs.declared.words.Asked.{Asked}
-use Rattle.stock_cli.specs.declared.words.Asked.TheVariants.{Batch, BatchOver}
+use Rattle.stock_cli.specs.declared.words.Asked.TheVariants.{Batch, BatchOver, Load}
 
 -- the word is a value: no `--`, no long option and no short one
 record IsValue (word : Text) : Type 0 where
@@ -54,52 +56,119 @@ reads-one : (path : Text) → Reads (codes "batch" ∷ (codes "--file=" ++ path)
 unfolding clap_on_literals
 reads-one path = record { taken = refl; found = refl }
 
+-- the parser finds a load in them, with this word
+abbrev named_load : Option (Text × List Row) → Option (Text × Option Text)
+named_load None = None
+named_load (Some (name, rows)) = Some (name, first_of (codes "count") rows)
+
+record ReadsLoad (words : List Text) (word : Text) : Type 0 where
+  taken : takes program words ≡ true
+  found : named_load (subcommand_of program words) ≡ Some (codes "load", Some word)
+
+reads-load : (word : Text) → IsValue word → ReadsLoad (codes "load" ∷ word ∷ []) word
+unfolding clap_on_literals
+reads-load word value = record {
+  taken = rw (value.no_end, value.no_long, value.no_short) refl;
+  found = rw (value.no_end, value.no_long, value.no_short) refl;
+}
+
+-- digits are no option
+count_is_path : (word : Text) (n : ℕ) → IsCount word n → IsPath word
+count_is_path [] n count = absurd (omega (arith, count.some))
+count_is_path (digit ∷ []) n count = tt
+count_is_path (digit ∷ next ∷ rest) n count =
+    let first = All-head IsAsciiDigit digit (next ∷ rest) count.digits in
+    λ dash. absurd (omega (arith, first.0, dash))
+
 -- the words spell a batch, over this file if they name one
 abbrev SpellsFile : List Text → Option Text → Type 0
 SpellsFile words None = words ≡ codes "batch" ∷ []
 SpellsFile words (Some path) = SpellsBatchOver words path
 
-known-read : (words : List Text) → SpellsSome words → (file : Option Text) × SpellsFile words file × Reads words file
-known-read words (inl batch) = (None, batch, subst (λ (ws : List Text). Reads ws None) (sym batch) reads-batch)
-known-read words (inr (path, inl two)) =
-    (Some path, inl two, subst (λ (ws : List Text). Reads ws (Some path)) (sym two.0) (reads-two path (path_is_value path two.1)))
-known-read words (inr (path, inr one)) =
-    (Some path, inr one, subst (λ (ws : List Text). Reads ws (Some path)) (sym one.0) (reads-one path))
+-- the words that the program knows spell a batch, or a load
+abbrev IsKnownBatch : List Text → Type 0
+IsKnownBatch words = (file : Option Text) × SpellsFile words file × Reads words file
+
+record IsKnownLoad (words : List Text) : Type 0 where
+  word : Text
+  count : ℕ
+  words_are : words ≡ codes "load" ∷ word ∷ []
+  is_count : IsCount word count
+  reads : ReadsLoad words word
+
+known-read : (words : List Text) → SpellsSome words → IsKnownBatch words ⊎ IsKnownLoad words
+known-read words (inl batch) = inl (None, batch, subst (λ (ws : List Text). Reads ws None) (sym batch) reads-batch)
+known-read words (inr (inl (path, inl two))) =
+    inl (Some path, inl two, subst (λ (ws : List Text). Reads ws (Some path)) (sym two.0) (reads-two path (path_is_value path two.1)))
+known-read words (inr (inl (path, inr one))) =
+    inl (Some path, inr one, subst (λ (ws : List Text). Reads ws (Some path)) (sym one.0) (reads-one path))
+known-read words (inr (inr (n, (word, is, count)))) =
+    inr (record {
+      word = word;
+      count = n;
+      words_are = is;
+      is_count = count;
+      reads =
+          subst (λ (ws : List Text). ReadsLoad ws word) (sym is) (reads-load word (path_is_value word (count_is_path word n count)));
+    })
 
 -- the parser refuses no words that the program knows
 pub known-taken : (words : List Text) → SpellsSome words → takes program words ≡ true
-known-taken words known = (known-read words known).2.taken
+known-taken words known = elim (known-read words known) [ inl batch ↦ batch.2.taken | inr load ↦ load.reads.taken ]
 
-abbrev file_of : Asked → Option Text
-file_of Batch = None
-file_of (BatchOver path) = Some path.now
+-- no command is both
+batch_is_no_load : codes "batch" ≡ codes "load" → ⊥
+batch_is_no_load is = let first : 98 ≡ 108 = ap (λ (word : Text). get_or word 0 0) is in absurd (omega (arith, first))
 
-asks-named : (found : Option (Text × List Row)) (file : Option Text) (asked : Asked) → named found ≡ Some (codes "batch", file)
-    → AsksFor found asked → file_of asked ≡ file
-asks-named None file asked is asks = absurd asks
-asks-named (Some (name, rows)) file Batch is asks = sym asks.1 ∙ ap (λ o. option_map_or (λ p. p.1) o file) is
-asks-named (Some (name, rows)) file (BatchOver path) is asks = sym asks.1 ∙ ap (λ o. option_map_or (λ p. p.1) o file) is
+-- what the parser finds in a batch asks for it
+asks-batch : (words : List Text) (found : Option (Text × List Row)) (file : Option Text) (asked : Asked)
+    → named found ≡ Some (codes "batch", file) → SpellsFile words file → AsksFor found asked → Spells words asked
+asks-batch words None file asked is spells asks = absurd asks
+asks-batch words (Some (name, rows)) file Batch is spells (inl asks) =
+    subst (SpellsFile words) (sym (ap (λ o. option_map_or (λ p. p.1) o file) is) ∙ asks.1) spells
+asks-batch words (Some (name, rows)) file (BatchOver path) is spells (inl asks) =
+    subst (SpellsFile words) (sym (ap (λ o. option_map_or (λ p. p.1) o file) is) ∙ asks.1) spells
+asks-batch words (Some (name, rows)) file (Load n) is spells (inl asks) = absurd asks.1
+asks-batch words (Some (name, rows)) file asked is spells (inr asks) =
+    absurd (batch_is_no_load (sym (ap (λ o. option_map_or (λ p. p.0) o name) is) ∙ asks.0))
 
-something-named : (found : Option (Text × List Row)) (file : Option Text) → named found ≡ Some (codes "batch", file)
+-- and so does what it finds in a load
+asks-load : (words : List Text) (found : Option (Text × List Row)) (word : Text) (asked : Asked)
+    → named_load found ≡ Some (codes "load", Some word) → words ≡ codes "load" ∷ word ∷ [] → AsksFor found asked → Spells words asked
+asks-load words None word asked is spells asks = absurd asks
+asks-load words (Some (name, rows)) word asked is spells (inl asks) =
+    absurd (batch_is_no_load (sym asks.0 ∙ ap (λ o. option_map_or (λ p. p.0) o name) is))
+asks-load words (Some (name, rows)) word Batch is spells (inr asks) = absurd asks.1
+asks-load words (Some (name, rows)) word (BatchOver path) is spells (inr asks) = absurd asks.1
+asks-load words (Some (name, rows)) word (Load n) is spells (inr (named_so, (told, first, count))) =
+    let same : Some told ≡ Some word = sym first ∙ ap (λ o. option_map_or (λ p. p.1) o (Some word)) is in
+    let word_is : told ≡ word = cc in (word, spells, subst (λ (w : Text). IsCount w n) word_is count)
+
+something-in_batch : (found : Option (Text × List Row)) (file : Option Text) → named found ≡ Some (codes "batch", file)
     → AsksForNothing found → ⊥
-something-named None file is nothing = cc
-something-named (Some (name, rows)) file is nothing = absurd (nothing (ap (λ o. option_map_or (λ p. p.0) o name) is))
+something-in_batch None file is nothing = cc
+something-in_batch (Some (name, rows)) file is nothing = absurd (nothing.0 (ap (λ o. option_map_or (λ p. p.0) o name) is))
 
-spelled-file : (words : List Text) (asked : Asked) (file : Option Text) → file_of asked ≡ file → SpellsFile words file
-    → Spells words asked
-spelled-file words Batch file is spelled = subst (SpellsFile words) (sym is) spelled
-spelled-file words (BatchOver path) file is spelled = subst (SpellsFile words) (sym is) spelled
+something-in_load : (found : Option (Text × List Row)) (word : Text) (n : ℕ) → named_load found ≡ Some (codes "load", Some word)
+    → IsCount word n → AsksForNothing found → ⊥
+something-in_load None word n is count nothing = cc
+something-in_load (Some (name, rows)) word n is count nothing =
+    nothing.1 (ap (λ o. option_map_or (λ p. p.0) o name) is) word (ap (λ o. option_map_or (λ p. p.1) o (Some word)) is) n count
 
 -- what the parser finds in them is what they spell
 pub known-asked : (words : List Text) (asked : Option Asked) → SpellsSome words
     → MatchOption asked (AsksForNothing (subcommand_of program words)) (AsksFor (subcommand_of program words))
     → MatchOption asked (SpellsNothing words) (Spells words)
 known-asked words None known nothing =
-    let read = known-read words known in
-    absurd (something-named (subcommand_of program words) read.0 read.2.found nothing)
+    elim (known-read words known) [
+      | inl batch ↦ absurd (something-in_batch (subcommand_of program words) batch.0 batch.2.found nothing)
+      | inr load ↦ absurd (something-in_load (subcommand_of program words) load.word load.count load.reads.found load.is_count nothing)
+    ]
 known-asked words (Some asked) known asks =
-    let read = known-read words known in
-    spelled-file words asked read.0 (asks-named (subcommand_of program words) read.0 asked read.2.found asks) read.1
+    elim (known-read words known) [
+      | inl batch ↦ asks-batch words (subcommand_of program words) batch.0 asked batch.2.found batch.1 asks
+      | inr load ↦ asks-load words (subcommand_of program words) load.word asked load.reads.found load.words_are asks
+    ]
 
 -- what is asked for, by its case
 pub spelled : (words : List Text) (asked : Option Asked) (some : Asked) → asked ≡ Some some

@@ -31,3 +31,11 @@ GoesOn old piece new = (first : Pace) (taken written : List ℕ) → StandsFor f
 -- after all that waited was written
 abbrev pub WritesOut : {K : Type 0} → Batch K → Batch K → Type 0
 WritesOut old new = (first : Pace) (taken written : List ℕ) → StandsFor first old taken written → StandsFor first new taken (written ++ old.waiting.items)
+
+-- these bytes were taken, and some replies written or dropped
+abbrev pub HasTaken : {K : Type 0} → Pace → Batch K → List ℕ → Type 0
+HasTaken first batch taken = (written : List ℕ) × StandsFor first batch taken written
+
+-- after these further bytes were taken
+abbrev pub TakesMore : {K : Type 0} → Batch K → List ℕ → Batch K → Type 0
+TakesMore old bytes new = (first : Pace) (taken : List ℕ) → HasTaken first old taken → HasTaken first new (taken ++ bytes)

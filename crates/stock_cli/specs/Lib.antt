@@ -10,3 +10,5 @@ pub mod Damages
 pub mod Filed
 pub mod Words
 pub mod Commands
+pub mod LoadScript
+pub mod Loads

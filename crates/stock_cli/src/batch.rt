@@ -96,6 +96,13 @@ impl<K: Keeper> Batch<K> {
         Ok(())
     }
 
+    /// Drops the replies that wait, for those who tell none of them.
+    pub fn drop_replies(&mut self)
+        ensures { WritesOut self.old self.new }
+    {
+        self.waiting.clear();
+    }
+
     fn end_line(&mut self, alloc: Global) -> Result<(), NoMemory>
         ensures goes_on { OnOk result (GoesOn self.old (10 ∷ []) self.new) }
         ensures blank { IsTrue self.old.line.blank → IsOk result }

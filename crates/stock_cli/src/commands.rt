@@ -1,10 +1,11 @@
 //! The commands of the program, as the kit's `clap` reads them.
-ghost use Rattle.std.specs.Prelude.{◌≡◌, IfOk, IfErr, MatchOption, map, string_bytes};
+ghost use Rattle.std.specs.Prelude.{◌≡◌, false, IfOk, IfErr, MatchOption, map, string_bytes};
+ghost use Rattle.clap.specs.declared.builder.command.Command.TheViews.{out-Command};
 ghost use Rattle.clap.specs.Words.{app_of, found_of, kind_of, rows_of, subcommand_of, subcommand_rows_of};
-ghost use Rattle.stock_cli.specs.Commands.{AsksFor, AsksForNothing, IsBatchFor, program};
+ghost use Rattle.stock_cli.specs.Commands.{AsksFor, AsksForNothing, IsBatchFor, IsLoadFor, IsLoadForNothing, batch_command, load_command, program};
 ghost use Rattle.stock_cli.specs.Words.{SpellsSome};
 
-use crate::words::Asked;
+use crate::words::{Asked, load_count};
 use clap::error::ErrorKind;
 use clap::{Arg, ArgMatches, Command, Error};
 use std::alloc::{AllocError, Global};
@@ -20,15 +21,31 @@ pub(crate) fn matches_of<'a>(alloc: Global, words: &'a [String]) -> Result<ArgMa
     program(alloc)?.try_get_matches_from(words)
 }
 
-/// The program, with its commands and their options. The words begin after its name.
+/// The program, with its commands and their arguments. The words begin after its name.
 fn program<'a>(alloc: Global) -> Result<Command<'a>, AllocError>
     ensures { IfOk result (λ command. app_of command ≡ program) }
 {
+    let batch = batch_command(alloc)?;
+    let load = load_command(alloc)?;
+    let named = Command::new(alloc, "stockd").no_binary_name(true);
+    let answering = named.subcommand(batch)?;
+    answering.subcommand(load)
+}
+
+fn batch_command<'a>(alloc: Global) -> Result<Command<'a>, AllocError>
+    ensures app { IfOk result (λ command. app_of command ≡ batch_command) }
+    ensures local { IfOk result (λ command. (out-Command command).has_globals ≡ false) }
+{
     let file = Arg::new(alloc, "file").long("file");
-    let batch = Command::new(alloc, "batch").arg(file)?;
-    Command::new(alloc, "stockd")
-        .no_binary_name(true)
-        .subcommand(batch)
+    Command::new(alloc, "batch").arg(file)
+}
+
+fn load_command<'a>(alloc: Global) -> Result<Command<'a>, AllocError>
+    ensures app { IfOk result (λ command. app_of command ≡ load_command) }
+    ensures local { IfOk result (λ command. (out-Command command).has_globals ≡ false) }
+{
+    let count = Arg::new(alloc, "count");
+    Command::new(alloc, "load").arg(count)
 }
 
 /// What the command that was found asks for, or None where it is none of the program's.
@@ -38,6 +55,7 @@ pub(crate) fn asked_in<'a>(matches: &ArgMatches<'a>) -> Option<Asked<'a>>
 {
     match matches.subcommand()? {
         ("batch", batch) => Some(batch_asked(batch)),
+        ("load", load) => load_asked(load),
         _ => None,
     }
 }
@@ -50,4 +68,13 @@ fn batch_asked<'a>(batch: &ArgMatches<'a>) -> Asked<'a>
         Some(path) => Asked::BatchOver(path),
         None => Asked::Batch,
     }
+}
+
+/// What `load` asks for, if it is a number of vouchers.
+fn load_asked<'a>(load: &ArgMatches<'a>) -> Option<Asked<'a>>
+    ensures { MatchOption result (IsLoadForNothing (rows_of (found_of load.now)))
+        (IsLoadFor (rows_of (found_of load.now))) }
+{
+    let count = load_count(load.get_str("count")?)?;
+    Some(Asked::Load(count))
 }

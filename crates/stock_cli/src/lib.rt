@@ -8,6 +8,8 @@ mod commands;
 pub mod damage;
 pub mod end;
 mod filed;
+mod load;
+mod load_script;
 pub mod open_line;
 mod split;
 pub mod top;

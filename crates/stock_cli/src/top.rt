@@ -6,13 +6,15 @@ ghost use Rattle.stock_cli.specs.declared.end.End.{End};
 ghost use Rattle.stock_cli.specs.Batches.{StandsFor};
 ghost use Rattle.stock_cli.specs.Statuses.{IsBatch, status_of, note_text, usage_text, IsToldAs, IsNote, WritesOrFails, CountsNoFault, max_input};
 ghost use Rattle.stock_cli.specs.Filed.{RunsOverShelf};
-ghost use Rattle.stock_cli.specs.Words.{IsBatchOver};
+ghost use Rattle.stock_cli.specs.Loads.{IsLoaded};
+ghost use Rattle.stock_cli.specs.Words.{IsBatchOver, IsLoad};
 ghost use Rattle.stock_cli.specs.Ran.{Ran, TakesPiece, Stops, Finishes, IsOutputEnd, IsLastEnd};
 
 use crate::batch::Batch;
 use crate::damage::{Damage, damage_note};
 use crate::end::End;
 use crate::filed::run_over;
+use crate::load::load;
 use crate::words::{Asked, asked_by};
 use generation_book::book::Book;
 use repost_worker::revalued_book::RevaluedBook;
@@ -44,8 +46,9 @@ const MEMORY: &str = "stockd: memory\n";
 
 /// Does what the words ask for, and answers the status: 0, 2, 3, 4, 5, 6, 7 or 8. `batch` answers the lines of
 /// the input on the output, and ends at the first fault of either; with a file over the ledger that the shelf has there, and
-/// else over a new one that is kept nowhere. Other words have status 2. A status other than 0 is told by a line of the notes,
-/// whose own faults change no status.
+/// else over a new one that is kept nowhere. `load` answers a script of its own over a new ledger that is kept nowhere, and writes
+/// what the balance sums to then. Other words have status 2. A status other than 0 is told by a line of the notes, whose own faults
+/// change no status.
 pub fn stockd<H: Shelf, S: Source, O: Sink, N: Sink>(
     alloc: Global,
     words: &[String],
@@ -54,8 +57,9 @@ pub fn stockd<H: Shelf, S: Source, O: Sink, N: Sink>(
     output: &mut O,
     notes: &mut N,
 ) -> u8
-    // The words are no batch exactly where the status is 2. Then nothing is taken or written, and the usage is noted.
-    ensures words { (result ≡ 2) ↔ ((IsBatch words.now → ⊥) × ((path : List ℕ) → IsBatchOver words.now path → ⊥)) }
+    // The words are no batch and no load exactly where the status is 2. Then nothing is taken or written, and the usage is noted.
+    ensures words { (result ≡ 2) ↔ ((IsBatch words.now → ⊥) × ((path : List ℕ) → IsBatchOver words.now path → ⊥)
+        × ((n : ℕ) → IsLoad words.now n → ⊥)) }
     ensures nothing_taken { result ≡ 2 → input.new ≡ input.old }
     ensures nothing_written { result ≡ 2 → output.new ≡ output.old }
     ensures nothing_opened { (result ≡ 2) ⊎ IsBatch words.now → shelf.new ≡ shelf.old }
@@ -69,6 +73,13 @@ pub fn stockd<H: Shelf, S: Source, O: Sink, N: Sink>(
     ensures over { (path : List ℕ) → IsBatchOver words.now path → (end : End) × (result ≡ status_of end)
         × RunsOverShelf H.Kept.tells H.tells H.plan H.faults H.kept_faults S.left S.taken S.faults O.written O.faults
         shelf.old shelf.new input.old input.new output.old output.new end }
+
+    // A load writes the summary of its script, or for want of memory nothing, or where the output fails a front of it. It takes
+    // nothing from the input, and the shelf stays.
+    ensures load { (n : ℕ) → IsLoad words.now n → (end : End) × (result ≡ status_of end)
+        × IsLoaded O.written O.faults output.old output.new n end }
+    ensures load_takes_nothing { (n : ℕ) → IsLoad words.now n → input.new ≡ input.old }
+    ensures load_opens_nothing { (n : ℕ) → IsLoad words.now n → shelf.new ≡ shelf.old }
 
     // Without a fault, and with fewer bytes than are too many, only want of memory keeps it from being done.
     ensures complete { IsBatch words.now
@@ -86,6 +97,10 @@ pub fn stockd<H: Shelf, S: Source, O: Sink, N: Sink>(
         → S.taken input.new < S.taken input.old + max_input
         → (result ≡ 0) ⊎ (result ≡ 3) ⊎ (result ≡ 7) }
 
+    // So it is of a load, where the output had no fault.
+    ensures complete_load { (n : ℕ) → IsLoad words.now n → CountsNoFault (O.faults output.old) (O.faults output.new)
+        → (result ≡ 0) ⊎ (result ≡ 3) }
+
     // The line of the status is noted, or a front of it where the notes fail. Status 0 has none.
     ensures noted { (result ≡ 2 → ⊥) → (end : End) × (result ≡ status_of end)
         × WritesOrFails N.written N.faults notes.old notes.new (note_text end) }
@@ -99,6 +114,10 @@ pub fn stockd<H: Shelf, S: Source, O: Sink, N: Sink>(
         }
         Ok(Some(Asked::BatchOver(path))) => {
             let end = run_over(alloc, shelf, path, input, output);
+            tell(alloc, notes, end)
+        }
+        Ok(Some(Asked::Load(count))) => {
+            let end = load(alloc, count, output);
             tell(alloc, notes, end)
         }
         Ok(None) => {

@@ -1,10 +1,14 @@
 //! What the words of the program ask for.
 ghost use Rattle.std.specs.Prelude.{◌≡◌, ◌↔◌, ℕ, List, ◌∷◌, IsTrue, IfOk, IfErr, MatchOption, map, codes, string_bytes};
-ghost use Rattle.stock_cli.specs.Words.{Spells, SpellsSome, SpellsNothing, IsPath, IsFileOption};
+ghost use Rattle.stock_cli.specs.Words.{Spells, SpellsSome, SpellsNothing, IsPath, IsFileOption, IsCount, IsNoCount};
 
 use crate::commands::{asked_in, matches_of};
+use crate::load_script::MAX_LOAD;
 use std::alloc::Global;
 use stock_nums::memory::NoMemory;
+
+/// The most digits of the word after `load`.
+pub(crate) const MAX_DIGITS: usize = 10;
 
 /// What the words ask for.
 #[derive(Clone, Copy, Debug)]
@@ -13,6 +17,8 @@ pub enum Asked<'a> {
     Batch,
     /// `batch --file P`: over the ledger in the file at this path.
     BatchOver(&'a str),
+    /// `load N`: a script of so many vouchers, over a new ledger that is kept nowhere.
+    Load(u32),
 }
 
 /// What the words ask for, or None exactly where they are none that the program knows.
@@ -40,6 +46,7 @@ fn is_known(words: &[String]) -> bool
     };
     match command.as_str() {
         "batch" => are_batch_options(options),
+        "load" => is_load_count(options),
         _ => false,
     }
 }
@@ -79,4 +86,27 @@ fn is_file_option(word: &str) -> bool
 {
     word.strip_prefix("--file=")
         .is_some_and(|path| !path.is_empty())
+}
+
+/// Whether the words after `load` are one, a number of vouchers.
+fn is_load_count(rest: &[String]) -> bool
+    ensures { IsTrue result ↔ SpellsSome (codes "load" ∷ map string_bytes rest.now) }
+{
+    match rest {
+        [word] => load_count(word.as_str()).is_some(),
+        _ => false,
+    }
+}
+
+/// The number of vouchers that the word tells, if it tells one.
+pub(crate) fn load_count(word: &str) -> Option<u32>
+    ensures { MatchOption result (IsNoCount word.now) (IsCount word.now) }
+{
+    if word.len() > MAX_DIGITS || !word.as_bytes().iter().all(|b| b.is_ascii_digit()) {
+        return None;
+    }
+    match word.parse::<u32>() {
+        Ok(count) if 0 < count && count <= MAX_LOAD => Some(count),
+        _ => None,
+    }
 }

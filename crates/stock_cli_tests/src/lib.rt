@@ -8,4 +8,6 @@ mod builds_tests;
 #[cfg(test)]
 mod keeper_tests;
 #[cfg(test)]
+mod load_tests;
+#[cfg(test)]
 mod running;
