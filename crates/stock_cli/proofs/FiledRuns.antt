@@ -1,10 +1,8 @@
 -- A run over a keeper is one over the shelf that handed it out and has it back.
-use Rattle.std.proofs.Common.{◌≡◌, ◌⊎◌, ◌<◌, ℕ, List, Option, Some, None, IfSome, OnSome, inl, inr, refl, ap, ◌∙◌, subst, arith}
+use Rattle.std.proofs.Common.{◌≡◌, ℕ, List, Option, Some, None, IfSome, OnSome, inl, inr, ap, ◌∙◌, subst, arith}
 use Rattle.stock_io.specs.Counts.{Rose, raised}
-use Rattle.stock_keeper.specs.Calls.{KeeperState, IsDone}
 use Rattle.stock_keeper.specs.Keeping.{Within, TellSame}
 use Rattle.stock_keeper.specs.declared.tables.Tables.{Tables}
-use Rattle.repost_worker.specs.Openings.{state_of}
 use Rattle.stock_cli.specs.Filed.{IsUnopened, IsUnbegunFor, RunsOverShelf, RunsOverKeeper}
 use Rattle.stock_cli.specs.declared.end.End.{End}
 use Rattle.stock_cli.specs.declared.end.End.TheVariants.{Done, NoMemory, ReadFailed, WriteFailed, TooLong, StoreFailed, Damaged}

@@ -1,5 +1,5 @@
 -- The number's word stands in the rows of what was found.
-use Rattle.std.proofs.Common.{◌≡◌, List, ℕ, Some, sym, ◌∙◌, subst, codes}
+use Rattle.std.proofs.Common.{◌≡◌, Some, sym, ◌∙◌, subst, codes}
 use Rattle.clap.specs.Words.{found_of}
 use Rattle.clap.proofs.WalkLemmas.{first_value-rows}
 use Rattle.stock_cli.specs.Words.{IsNoCount}

@@ -1,9 +1,9 @@
 -- The program with its commands, one after another.
-use Rattle.std.proofs.Common.{◌≡◌, true, sym, ap, ◌∙◌, codes}
+use Rattle.std.proofs.Common.{◌≡◌, true, ap, ◌∙◌, codes}
 use Rattle.std.proofs.lemmas.Result.{IfOk-weaker}
 use Rattle.clap.specs.Simple.{on_top, app_of_fields, Shape}
 use Rattle.clap.specs.Words.{app_of, new_app, with_subcommand}
-use Rattle.stock_cli.specs.Commands.{batch_command, load_command}
+use Rattle.stock_cli.specs.Commands.{batch_command}
 use Rattle.stock_cli.proofs.commands.program.Goals as goal
 
 pub returns : goal.returns

@@ -1,5 +1,5 @@
 -- The words ask for what was done, and no end has the status of other words.
-use Rattle.std.proofs.Common.{◌≡◌, ℕ, List, map, inl, inr, refl, subst, sym, ◌∙◌, string_bytes}
+use Rattle.std.proofs.Common.{ℕ, map, inl, inr, refl, subst, sym, ◌∙◌, string_bytes}
 use Rattle.repost_worker.specs.Paces.{first_pace}
 use Rattle.stock_cli.specs.Loads.{IsLoaded}
 use Rattle.stock_cli.specs.Statuses.{WritesOrFails}

@@ -1,5 +1,5 @@
 -- The damage is told, or that memory was wanting.
-use Rattle.std.proofs.Common.{◌≡◌, ℕ, List, inl, inr, refl, subst, ◌∙◌}
+use Rattle.std.proofs.Common.{inl, inr, refl, subst, ◌∙◌}
 use Rattle.stock_cli.specs.Statuses.{WritesOrFails}
 use Rattle.stock_cli.specs.declared.end.End.TheVariants.{NoMemory, Damaged}
 use Rattle.stock_cli.proofs.top.tell_damage.Goals as goal
