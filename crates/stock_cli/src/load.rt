@@ -69,11 +69,7 @@ fn opened(alloc: Global, count: u32) -> Result<Batch<Nowhere>, NoMemory>
 }
 
 /// Answers the voucher with this number, and what comes after it.
-fn take_voucher(
-    alloc: Global,
-    batch: &mut Batch<Nowhere>,
-    number: u32,
-) -> Result<(), NoMemory>
+fn take_voucher(alloc: Global, batch: &mut Batch<Nowhere>, number: u32) -> Result<(), NoMemory>
     requires { number ≤ MAX_LOAD }
     ensures { OnOk result (TakesMore batch.old (voucher_line number ++ work_line number) batch.new) }
 {
@@ -110,7 +106,9 @@ fn summary_text(alloc: Global, book: &Book<Nowhere>) -> Result<String, NoMemory>
     let sums = balance_sums(alloc, &selected, &query)?;
     let (covered, records) = (book.covered().0, book.accepted().0);
     let (stock, worth) = (sums.stock, sums.worth);
-    let text = format!(in alloc; "{{\"covered\":{covered},\"records\":{records},\"stock\":{stock},\"worth\":{worth}}}\n")?;
+    let text = format!(in alloc;
+        "{{\"covered\":{covered},\"records\":{records},\"stock\":{stock},\"worth\":{worth}}}\n"
+    )?;
     Ok(text)
 }
 

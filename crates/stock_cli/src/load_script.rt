@@ -32,7 +32,9 @@ pub(crate) fn first_receipt(alloc: Global, count: u32) -> Result<String, AllocEr
         first_units(alloc, "L2", "S1", count)?,
         first_units(alloc, "L2", "S2", count)?,
     );
-    format!(in alloc; "{{\"do\":\"receipt\",\"at\":\"2026-01-01T00:00:00\",\"lines\":[{a},{b},{c},{d}]}}\n")
+    format!(in alloc;
+        "{{\"do\":\"receipt\",\"at\":\"2026-01-01T00:00:00\",\"lines\":[{a},{b},{c},{d}]}}\n"
+    )
 }
 
 fn first_units(alloc: Global, item: &str, store: &str, count: u32) -> Result<String, AllocError>
@@ -40,7 +42,9 @@ fn first_units(alloc: Global, item: &str, store: &str, count: u32) -> Result<Str
     ensures { IfOk result (λ text. string_bytes text ≡ first_units item.now store.now count) }
 {
     let amount = 10 * count;
-    format!(in alloc; "{{\"item\":\"{item}\",\"store\":\"{store}\",\"qty\":{count},\"amount\":{amount}}}")
+    format!(in alloc;
+        "{{\"item\":\"{item}\",\"store\":\"{store}\",\"qty\":{count},\"amount\":{amount}}}"
+    )
 }
 
 /// The voucher with this number, from 1. The only error is want of memory.
@@ -62,7 +66,9 @@ fn issue_line(alloc: Global, number: u32) -> Result<String, AllocError>
 {
     let moment = moment_of(alloc, number)?;
     let item = item_of(number);
-    format!(in alloc; "{{\"do\":\"issue\",\"at\":\"{moment}\",\"use\":\"sold\",\"lines\":[{{\"item\":\"{item}\",\"store\":\"S1\",\"qty\":1}}]}}\n")
+    format!(in alloc;
+        "{{\"do\":\"issue\",\"at\":\"{moment}\",\"use\":\"sold\",\"lines\":[{{\"item\":\"{item}\",\"store\":\"S1\",\"qty\":1}}]}}\n"
+    )
 }
 
 fn transfer_line(alloc: Global, number: u32) -> Result<String, AllocError>
@@ -71,7 +77,9 @@ fn transfer_line(alloc: Global, number: u32) -> Result<String, AllocError>
 {
     let moment = moment_of(alloc, number)?;
     let item = item_of(number);
-    format!(in alloc; "{{\"do\":\"transfer\",\"at\":\"{moment}\",\"lines\":[{{\"item\":\"{item}\",\"from\":\"S1\",\"to\":\"S2\",\"qty\":1}}]}}\n")
+    format!(in alloc;
+        "{{\"do\":\"transfer\",\"at\":\"{moment}\",\"lines\":[{{\"item\":\"{item}\",\"from\":\"S1\",\"to\":\"S2\",\"qty\":1}}]}}\n"
+    )
 }
 
 fn receipt_line(alloc: Global, number: u32) -> Result<String, AllocError>
@@ -81,7 +89,9 @@ fn receipt_line(alloc: Global, number: u32) -> Result<String, AllocError>
     let moment = moment_of(alloc, number)?;
     let item = item_of(number);
     let amount = number % 100 + 1;
-    format!(in alloc; "{{\"do\":\"receipt\",\"at\":\"{moment}\",\"lines\":[{{\"item\":\"{item}\",\"store\":\"S1\",\"qty\":1,\"amount\":{amount}}}]}}\n")
+    format!(in alloc;
+        "{{\"do\":\"receipt\",\"at\":\"{moment}\",\"lines\":[{{\"item\":\"{item}\",\"store\":\"S1\",\"qty\":1,\"amount\":{amount}}}]}}\n"
+    )
 }
 
 /// The moment of a voucher, on one of 27 days, so that vouchers come in no order.

@@ -40,7 +40,10 @@ fn a_load_prints_its_sums(rt: HostRuntime) -> Result<(), Fail> {
             "{\"covered\":13,\"records\":13,\"stock\":30,\"worth\":295}\n",
         ),
     ] {
-        assert!(rt; ends(alloc, &["load", count], NEVER, 0, output, "")?, "{count}");
+        assert!(rt;
+            ends(alloc, &["load", count], NEVER, 0, output, "")?,
+            "{count}"
+        );
     }
     Ok(())
 }
@@ -48,8 +51,20 @@ fn a_load_prints_its_sums(rt: HostRuntime) -> Result<(), Fail> {
 #[test]
 fn other_words_are_no_load(rt: HostRuntime) -> Result<(), Fail> {
     let alloc = rt.alloc();
-    for count in ["0", "40001", "x", "", "+4", "00000000004", "4294967300", "--"] {
-        assert!(rt; ends(alloc, &["load", count], NEVER, 2, "", USAGE)?, "{count}");
+    for count in [
+        "0",
+        "40001",
+        "x",
+        "",
+        "+4",
+        "00000000004",
+        "4294967300",
+        "--",
+    ] {
+        assert!(rt;
+            ends(alloc, &["load", count], NEVER, 2, "", USAGE)?,
+            "{count}"
+        );
     }
     assert!(rt; ends(alloc, &["load"], NEVER, 2, "", USAGE)?);
     assert!(rt; ends(alloc, &["load", "4", "4"], NEVER, 2, "", USAGE)?);
@@ -63,6 +78,15 @@ fn an_output_that_fails_is_told(rt: HostRuntime) -> Result<(), Fail> {
         write: Some(1),
         ..NEVER
     };
-    assert!(rt; ends(alloc, &["load", "4"], write, 5, "", "stockd: write failed\n")?);
+    assert!(rt;
+        ends(
+            alloc,
+            &["load", "4"],
+            write,
+            5,
+            "",
+            "stockd: write failed\n"
+        )?
+    );
     Ok(())
 }

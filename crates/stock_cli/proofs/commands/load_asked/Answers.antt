@@ -16,7 +16,7 @@ returns-in_err-count c =
     let no_count = c.in_err-count.ensures in
     rw c.from_residual-in_err-count.ensures
     (λ word some. let both : Some c.in_ok-get_str.field-0.now ≡ Some word = found ∙ some in
-        let is : c.in_ok-get_str.field-0.now ≡ word = cc in subst IsNoCount is no_count)
+    let is : c.in_ok-get_str.field-0.now ≡ word = cc in subst IsNoCount is no_count)
 
 pub returns : goal.returns
 returns c = (

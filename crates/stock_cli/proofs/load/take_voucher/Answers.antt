@@ -14,5 +14,5 @@ returns c =
     let voucher = subst (λ (lines : List ℕ). TakesMore old lines mid) (c.as_str.ensures.value ∙ c.in_ok-voucher.ensures) c.in_ok-take_lines.ensures in
     on_ok_weaker c.take_lines-2.result
     (λ work. TakesMore-trans old mid new (voucher_line c.args.number) (work_line c.args.number) voucher
-        (subst (λ (lines : List ℕ). TakesMore mid lines new) c.work_line.ensures work))
+    (subst (λ (lines : List ℕ). TakesMore mid lines new) c.work_line.ensures work))
     c.take_lines-2.ensures

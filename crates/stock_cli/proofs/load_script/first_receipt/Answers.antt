@@ -9,6 +9,6 @@ unfolding first_receipt
 returns c =
     IfOk-weaker c.format.result _ _
     (λ text is. is
-        ∙ (λ i. codes "{\"do\":\"receipt\",\"at\":\"2026-01-01T00:00:00\",\"lines\":[" ++ (c.in_ok-a.ensures i ++ (codes ","
-        ++ (c.in_ok-b.ensures i ++ (codes "," ++ (c.in_ok-c.ensures i ++ (codes "," ++ (c.in_ok-d.ensures i ++ codes "]}\n")))))))))
+    ∙ (λ i. codes "{\"do\":\"receipt\",\"at\":\"2026-01-01T00:00:00\",\"lines\":[" ++ (c.in_ok-a.ensures i ++ (codes ","
+    ++ (c.in_ok-b.ensures i ++ (codes "," ++ (c.in_ok-c.ensures i ++ (codes "," ++ (c.in_ok-d.ensures i ++ codes "]}\n")))))))))
     c.format.ensures.ok

@@ -8,6 +8,6 @@ pub returns : goal.returns
 returns c =
     IfOk-weaker c.format.result _ _
     (λ text is. is
-        ∙ (λ i. codes "{\"do\":\"receipt\",\"at\":\"" ++ (c.in_ok-moment.ensures i ++ (codes "\",\"lines\":[{\"item\":\"" ++ (c.item_of-item.ensures i
-        ++ (codes "\",\"store\":\"S1\",\"qty\":1,\"amount\":" ++ (decimal (c.args.number % 100 + 1) ++ codes "}]}\n")))))))
+    ∙ (λ i. codes "{\"do\":\"receipt\",\"at\":\"" ++ (c.in_ok-moment.ensures i ++ (codes "\",\"lines\":[{\"item\":\"" ++ (c.item_of-item.ensures i
+    ++ (codes "\",\"store\":\"S1\",\"qty\":1,\"amount\":" ++ (decimal (c.args.number % 100 + 1) ++ codes "}]}\n")))))))
     c.format.ensures.ok

@@ -225,9 +225,9 @@ pub returns-in-Err-clause-words : goal.returns-in-Err-clause-words
 returns-in-Err-clause-words g c = (
   (λ two. absurd (status_not_2 NoMemory (sym c.without_memory.ensures.status ∙ two))),
   (λ none. elim c.in-Err.ensures.memory [
-        | inl batch ↦ absurd (none.0 batch)
-        | inr other ↦ elim other [ inl over ↦ absurd (none.1 over.0 over.1) | inr load ↦ absurd (none.2 load.0 load.1) ]
-      ]),
+    | inl batch ↦ absurd (none.0 batch)
+    | inr other ↦ elim other [ inl over ↦ absurd (none.1 over.0 over.1) | inr load ↦ absurd (none.2 load.0 load.1) ]
+  ]),
 )
 
 pub returns-in-Err-clause-run : goal.returns-in-Err-clause-run
