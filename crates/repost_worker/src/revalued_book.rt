@@ -89,6 +89,14 @@ impl<K: Keeper> RevaluedBook<K> {
         book
     }
 
+    /// The book with a build that works for it.
+    pub fn from_parts(book: Book<K>, build: Build) -> RevaluedBook<K>
+        requires work { IsWorkOf book.history build }
+        ensures pace { result ≡ pace_of book build }
+    {
+        RevaluedBook { book, build }
+    }
+
     /// The book and the build that works for it, for good.
     pub fn into_parts(self) -> (Book<K>, Build)
         ensures pace { pace_of result.0 result.1 ≡ self }
