@@ -9,4 +9,5 @@ pub mod Told
 pub mod FiledRuns
 pub mod Loading
 pub mod LoadEnds
-pub mod CountWords
+pub mod NumberWords
+pub mod ServeWords

@@ -12,3 +12,6 @@ pub mod Words
 pub mod Commands
 pub mod LoadScript
 pub mod Loads
+pub mod NumberWords
+pub mod Paths
+pub mod ServeWords

@@ -1,18 +1,12 @@
 -- What the program's words ask for, each word as its bytes.
-use Rattle.std.specs.Prelude.{ℕ, ◌≡◌, ◌≢◌, ◌≤◌, ◌<◌, ◌⊎◌, List, [], ◌∷◌, ◌++◌, All, length, map, codes, String, string_bytes}
-use Rattle.std.specs.Char.{IsAsciiDigit}
-use Rattle.std.specs.Str.Parse.{digits_value}
+use Rattle.std.specs.Prelude.{ℕ, ◌≡◌, ◌≢◌, ◌⊎◌, List, [], ◌∷◌, ◌++◌, map, codes, String, string_bytes}
 use Rattle.std.specs.declared.alloc.Global.{Global}
 use Rattle.stock_cli.specs.declared.load_script.TheConstants.{MAX_LOAD}
-use Rattle.stock_cli.specs.declared.words.TheConstants.{MAX_DIGITS}
+use Rattle.stock_cli.specs.NumberWords.{IsNumber, IsNoNumber}
+pub use Rattle.stock_cli.specs.Paths.{IsPath}
+use Rattle.stock_cli.specs.ServeWords.{SpellsServe, SpellsNoService}
 use Rattle.stock_cli.specs.declared.words.Asked.{Asked}
-use Rattle.stock_cli.specs.declared.words.Asked.TheVariants.{Batch, BatchOver, Load}
-
--- a word that may be the path after `--file`: it has a byte, and where it has more than one it is no option
-abbrev pub IsPath : List ℕ → Type 0
-IsPath [] = ⊥
-IsPath (byte ∷ []) = Unit {0}
-IsPath (byte ∷ next ∷ rest) = byte ≢ 45
+use Rattle.stock_cli.specs.declared.words.Asked.TheVariants.{Batch, BatchOver, Load, Serve}
 
 -- the word is `--file=` followed by a path
 abbrev pub IsFileOption : List ℕ → List ℕ → Type 0
@@ -23,17 +17,12 @@ abbrev pub SpellsBatchOver : List (List ℕ) → List ℕ → Type 0
 SpellsBatchOver words path = ((words ≡ codes "batch" ∷ codes "--file" ∷ path ∷ []) × IsPath path)
     ⊎ ((words ≡ codes "batch" ∷ (codes "--file=" ++ path) ∷ []) × (path ≢ []))
 
--- the word is 1 to 10 digits, and they tell this number, from 1 to 40,000
-pub record IsCount (word : List ℕ) (n : ℕ) : Type 0 where
-  pub some : 0 < length word
-  pub few : length word ≤ MAX_DIGITS
-  pub digits : All IsAsciiDigit word
-  pub told : digits_value 10 word ≡ n
-  pub least : 0 < n
-  pub most : n ≤ MAX_LOAD
+-- the word tells a number of vouchers, from 1 to 40,000
+abbrev pub IsCount : List ℕ → ℕ → Type 0
+IsCount word n = IsNumber MAX_LOAD word n
 
 abbrev pub IsNoCount : List ℕ → Type 0
-IsNoCount word = (n : ℕ) → IsCount word n → ⊥
+IsNoCount word = IsNoNumber MAX_LOAD word
 
 -- the words are `load` and a word that tells the number
 abbrev pub SpellsLoad : List (List ℕ) → ℕ → Type 0
@@ -44,12 +33,14 @@ abbrev pub Spells : List (List ℕ) → Asked → Type 0
 Spells words Batch = words ≡ codes "batch" ∷ []
 Spells words (BatchOver path) = SpellsBatchOver words path.now
 Spells words (Load n) = SpellsLoad words n
+Spells words (Serve asked) = SpellsServe words asked.path.now asked.port asked.desks
 
 -- the words ask for nothing that the program knows
 abbrev pub SpellsNothing : List (List ℕ) → Type 0
 SpellsNothing words = (words ≢ codes "batch" ∷ []) × ((path : List ℕ) → SpellsBatchOver words path → ⊥) × ((n : ℕ) → SpellsLoad words n → ⊥)
+    × SpellsNoService words
 
--- the words ask for something that the program knows
+-- the words ask for a batch or a load
 abbrev pub SpellsSome : List (List ℕ) → Type 0
 SpellsSome words = (words ≡ codes "batch" ∷ []) ⊎ ((path : List ℕ) × SpellsBatchOver words path) ⊎ ((n : ℕ) × SpellsLoad words n)
 
@@ -60,3 +51,7 @@ IsBatchOver words path = SpellsBatchOver (map string_bytes words) path
 -- `load` with this number of vouchers
 abbrev pub IsLoad : List (String Global) → ℕ → Type 0
 IsLoad words n = SpellsLoad (map string_bytes words) n
+
+-- `serve` over the file at this path, at this port, for so many desks
+abbrev pub IsServe : List (String Global) → List ℕ → ℕ → ℕ → Type 0
+IsServe words path port desks = SpellsServe (map string_bytes words) path port desks

@@ -120,6 +120,7 @@ pub fn stockd<H: Shelf, S: Source, O: Sink, N: Sink>(
             let end = load(alloc, count, output);
             tell(alloc, notes, end)
         }
+        Ok(Some(Asked::Serve(_))) => without_memory(notes),
         Ok(None) => {
             note(notes, USAGE.as_bytes());
             2

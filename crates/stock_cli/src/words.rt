@@ -4,11 +4,10 @@ ghost use Rattle.stock_cli.specs.Words.{Spells, SpellsSome, SpellsNothing, IsPat
 
 use crate::commands::{asked_in, matches_of};
 use crate::load_script::MAX_LOAD;
+use crate::number_words::number_in;
+use crate::serve_words::{ServeWords, serve_words};
 use std::alloc::Global;
 use stock_nums::memory::NoMemory;
-
-/// The most digits of the word after `load`.
-pub(crate) const MAX_DIGITS: usize = 10;
 
 /// What the words ask for.
 #[derive(Clone, Copy, Debug)]
@@ -19,6 +18,8 @@ pub enum Asked<'a> {
     BatchOver(&'a str),
     /// `load N`: a script of so many vouchers, over a new ledger that is kept nowhere.
     Load(u32),
+    /// `serve`: desks over the ledger in a file.
+    Serve(ServeWords<'a>),
 }
 
 /// What the words ask for, or None exactly where they are none that the program knows.
@@ -28,6 +29,9 @@ pub(crate) fn asked_by(alloc: Global, words: &[String]) -> Result<Option<Asked<'
         MatchOption asked (SpellsNothing (map string_bytes words.now)) (Spells (map string_bytes words.now))) }
     ensures memory { IfErr result (λ _. SpellsSome (map string_bytes words.now)) }
 {
+    if let Some(asked) = serve_words(words) {
+        return Ok(Some(Asked::Serve(asked)));
+    }
     if !is_known(words) {
         return Ok(None);
     }
@@ -37,7 +41,7 @@ pub(crate) fn asked_by(alloc: Global, words: &[String]) -> Result<Option<Asked<'
     Ok(asked_in(&matches))
 }
 
-/// Whether the words are a form that the program knows. The parser alone would take more: `--`, and a path of no bytes.
+/// Whether the words are a batch or a load. The parser alone would take more: `--`, and a path of no bytes.
 fn is_known(words: &[String]) -> bool
     ensures { IsTrue result ↔ SpellsSome (map string_bytes words.now) }
 {
@@ -70,7 +74,7 @@ fn is_file(word: &str) -> bool
 }
 
 /// A path has a byte, and where it has more than one it is no option.
-fn is_path(word: &str) -> bool
+pub(crate) fn is_path(word: &str) -> bool
     ensures { IsTrue result ↔ IsPath word.now }
 {
     match word.as_bytes() {
@@ -102,11 +106,5 @@ fn is_load_count(rest: &[String]) -> bool
 pub(crate) fn load_count(word: &str) -> Option<u32>
     ensures { MatchOption result (IsNoCount word.now) (IsCount word.now) }
 {
-    if word.len() > MAX_DIGITS || !word.as_bytes().iter().all(|b| b.is_ascii_digit()) {
-        return None;
-    }
-    match word.parse::<u32>() {
-        Ok(count) if 0 < count && count <= MAX_LOAD => Some(count),
-        _ => None,
-    }
+    number_in(word, MAX_LOAD)
 }

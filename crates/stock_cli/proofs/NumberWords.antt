@@ -1,4 +1,4 @@
--- A word that tells a number of vouchers is one that is parsed.
+-- A word that tells a number is one that is parsed.
 use Rattle.std.proofs.Common.{◌≢◌, ℕ, ◌<◌, ◌^◌, List, [], ◌∷◌, get_or, arith}
 use Rattle.std.specs.Prelude.{All}
 use Rattle.std.specs.Char.{IsAsciiDigit}
@@ -6,7 +6,7 @@ use Rattle.std.specs.Str.Parse.{IsNumeral, AllDigits, digits_value, without_lead
 use Rattle.std.proofs.lemmas.List.Elements.{All-head, All-tail}
 use Rattle.std.proofs.lemmas.Str.{digit_value_digit}
 use Rattle.std.proofs.lemmas.Str.Parse.{without_leading_plus_none, digit_at}
-use Rattle.stock_cli.specs.Words.{IsCount}
+use Rattle.stock_cli.specs.NumberWords.{IsNumber}
 
 all_digits : (word : List ℕ) → All IsAsciiDigit word → AllDigits 10 word
 all_digits [] h = tt
@@ -17,10 +17,10 @@ all_digits (c ∷ cs) h =
       all_digits cs (All-tail IsAsciiDigit c cs h),
     )
 
-pub count-parses : (word : List ℕ) (n : ℕ) → IsCount word n
+pub number-parses : (most : ℕ) (word : List ℕ) (n : ℕ) → most < 2 ^ 32 → IsNumber most word n
     → IsNumeral 10 (without_leading_plus word) × (digits_value 10 (without_leading_plus word) < 2 ^ 32)
-count-parses word n count =
-    let digits = all_digits word count.digits in
-    let first = digit_at word 0 digits count.some in
+number-parses most word n fits number =
+    let digits = all_digits word number.digits in
+    let first = digit_at word 0 digits number.some in
     let no_plus : get_or word 0 0 ≢ 43 = λ plus. omega (arith, plus, first) in
-    rw (without_leading_plus_none word no_plus) ((count.some, digits), omega (arith, count.told, count.most))
+    rw (without_leading_plus_none word no_plus) ((number.some, digits), omega (arith, number.told, number.within, fits))
