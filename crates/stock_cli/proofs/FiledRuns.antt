@@ -1,11 +1,18 @@
 -- A run over a keeper is one over the shelf that handed it out and has it back.
-use Rattle.std.proofs.Common.{◌≡◌, ℕ, List, Option, Some, None, IfSome, OnSome, inl, inr, ap, ◌∙◌, subst, arith}
+use Rattle.std.proofs.Common.{◌≡◌, ◌⊎◌, ◌<◌, ℕ, List, Option, Some, None, IfSome, OnSome, inl, inr, refl, sym, ap, ◌∙◌, subst, arith}
 use Rattle.stock_io.specs.Counts.{Rose, raised}
+use Rattle.stock_model.specs.History.{IsLegal}
+use Rattle.stock_keeper.specs.Calls.{KeeperState, IsDone}
 use Rattle.stock_keeper.specs.Keeping.{Within, TellSame}
+use Rattle.stock_keeper.specs.declared.fault.KeepFault.{KeepFault}
+use Rattle.stock_keeper.specs.declared.fault.KeepFault.TheVariants as keep
 use Rattle.stock_keeper.specs.declared.tables.Tables.{Tables}
-use Rattle.stock_cli.specs.Filed.{IsUnopened, IsUnbegunFor, RunsOverShelf, RunsOverKeeper}
+use Rattle.kept_tables.specs.TablesOf.{tables_of}
+use Rattle.repost_worker.specs.Openings.{state_of}
+use Rattle.repost_worker.specs.Paces.{Pace}
+use Rattle.stock_cli.specs.Filed.{end_of_refusal, IsUnopened, IsUnbegunFor, IsOpenedAs, RunsOverShelf, RunsOverKeeper}
 use Rattle.stock_cli.specs.declared.end.End.{End}
-use Rattle.stock_cli.specs.declared.end.End.TheVariants.{Done, NoMemory, ReadFailed, WriteFailed, TooLong, StoreFailed, Damaged}
+use Rattle.stock_cli.specs.declared.end.End.TheVariants.{Done, NoMemory, ReadFailed, WriteFailed, TooLong, StoreFailed, ListenFailed, Damaged}
 
 -- the keeper has the plan that the shelf told
 opened-plan : (told kept first : Option (List ℕ)) → IfSome told (λ numbers. kept ≡ Some numbers) → first ≡ kept
@@ -20,7 +27,22 @@ opened-calls None kept before after plan none counted = tt
 opened-calls (Some numbers) kept before after plan none counted =
     subst (λ (p : Option (List ℕ)). OnSome p (after ≡ raised before)) plan counted ∙ ap raised none
 
-unopened : {Kt : Type 0} (kept_tells : Kt → Tables → Type 0) (keeper : Kt) (told : Tables → Type 0) → TellSame told (kept_tells keeper)
+-- the book was opened by the first call of the keeper that the shelf handed out
+pub opened-as : {Kt : Type 0} (kept_tells : Kt → Tables → Type 0) (keeper : Kt) (told : Tables → Type 0) (plan kept_plan : Option (List ℕ))
+    (faults calls : ℕ) (first : Pace) → TellSame told (kept_tells keeper) → IfSome plan (λ numbers. kept_plan ≡ Some numbers)
+    → OnSome plan (calls ≡ 0) → ((t : Tables) → kept_tells keeper t → t ≡ tables_of first.history) → IsLegal first.history
+    → IsDone (state_of faults kept_plan calls) first.keeper → IsOpenedAs kept_tells told plan first
+opened-as kept_tells keeper told plan kept_plan faults calls first same planned uncalled tables legal begun =
+    record {
+      kept = keeper;
+      same = same;
+      tables = tables;
+      legal = legal;
+      plan_is = opened-plan plan kept_plan first.keeper.plan planned begun.count.plan_kept;
+      calls = opened-calls plan kept_plan calls first.keeper.calls planned uncalled begun.count.counted;
+    }
+
+pub unopened : {Kt : Type 0} (kept_tells : Kt → Tables → Type 0) (keeper : Kt) (told : Tables → Type 0) → TellSame told (kept_tells keeper)
     → (end : End) (faults faults' before after back : ℕ) → before ≡ 0 → back ≡ after
     → IsUnbegunFor end (kept_tells keeper) before after → IsUnopened kept_tells end told faults faults' back
 unopened kept_tells keeper told same NoMemory faults faults' before after back fresh is cause = tt
@@ -31,6 +53,16 @@ unopened kept_tells keeper told same Done faults faults' before after back fresh
 unopened kept_tells keeper told same ReadFailed faults faults' before after back fresh is cause = absurd cause
 unopened kept_tells keeper told same WriteFailed faults faults' before after back fresh is cause = absurd cause
 unopened kept_tells keeper told same TooLong faults faults' before after back fresh is cause = absurd cause
+unopened kept_tells keeper told same ListenFailed faults faults' before after back fresh is cause = absurd cause
+
+-- the shelf refused to open a keeper
+pub unopened-refused : {Kt : Type 0} (kept_tells : Kt → Tables → Type 0) (told : Tables → Type 0) (faults faults' kept_faults : ℕ)
+    (fault : KeepFault) (end : End) → end ≡ end_of_refusal fault → (fault ≡ keep.Failed → Rose faults faults')
+    → IsUnopened kept_tells end told faults faults' kept_faults
+unopened-refused kept_tells told faults faults' kept_faults keep.Failed end is cause =
+    subst (λ (e : End). IsUnopened kept_tells e told faults faults' kept_faults) (sym is) (inl (cause refl))
+unopened-refused kept_tells told faults faults' kept_faults keep.NoMemory end is cause =
+    subst (λ (e : End). IsUnopened kept_tells e told faults faults' kept_faults) (sym is) tt
 
 module _ {H Kt S O : Type 0} (kept_tells : Kt → Tables → Type 0) (k_faults : Kt → ℕ) (k_plan : Kt → Option (List ℕ)) (k_calls : Kt → ℕ)
     (tells : H → Tables → Type 0) (plan : H → Option (List ℕ)) (faults kept_faults : H → ℕ) (left : S → Option (List ℕ))
@@ -54,14 +86,9 @@ module _ {H Kt S O : Type 0} (kept_tells : Kt → Tables → Type 0) (k_faults :
       inr (record {
         first = run.first;
         last = run.last;
-        opened = record {
-          kept = keeper;
-          same = same;
-          tables = run.tables;
-          legal = run.legal;
-          plan_is = opened-plan (plan shelf) (k_plan keeper) run.first.keeper.plan planned run.begun.count.plan_kept;
-          calls = opened-calls (plan shelf) (k_plan keeper) (k_calls keeper) run.first.keeper.calls planned uncalled run.begun.count.counted;
-        };
+        opened =
+            opened-as kept_tells keeper (tells shelf) (plan shelf) (k_plan keeper) (k_faults keeper) (k_calls keeper) run.first same planned
+            uncalled run.tables run.legal run.begun;
         put_back = record { tables = λ t told. run.kept t (back t told); faults = counted ∙ run.faults_are };
         ran = run.ran;
       })

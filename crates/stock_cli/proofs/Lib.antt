@@ -11,3 +11,5 @@ pub mod Loading
 pub mod LoadEnds
 pub mod NumberWords
 pub mod ServeWords
+pub mod Services
+pub mod ServedRuns

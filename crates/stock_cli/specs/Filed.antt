@@ -4,6 +4,8 @@ use Rattle.stock_io.specs.Counts.{Rose}
 use Rattle.stock_model.specs.History.{IsLegal}
 use Rattle.stock_keeper.specs.Calls.{IsDone}
 use Rattle.stock_keeper.specs.Keeping.{Within, TellSame}
+use Rattle.stock_keeper.specs.declared.fault.KeepFault.{KeepFault}
+use Rattle.stock_keeper.specs.declared.fault.KeepFault.TheVariants as keep
 use Rattle.stock_keeper.specs.declared.tables.Tables.{Tables}
 use Rattle.kept_tables.specs.TablesOf.{tables_of}
 use Rattle.kept_tables.specs.declared.open_fault.OpenFault.{OpenFault}
@@ -48,6 +50,11 @@ end_of (open_fault.BadHead version covered records) = Damaged Head
 end_of (open_fault.BadStored number) = Damaged (Record number)
 end_of (open_fault.StoredDiffers difference) = Damaged (Worth difference.spot)
 end_of open_fault.NoMemory = NoMemory
+
+-- and how one ends where the shelf or its keeper refuses a call for this
+abbrev pub end_of_refusal : KeepFault → End
+end_of_refusal keep.Failed = StoreFailed
+end_of_refusal keep.NoMemory = NoMemory
 
 -- a keeper could not be begun with: it failed, what it tells is damaged so, or memory was wanting
 abbrev pub IsUnbegunFor : End → (Tables → Type 0) → ℕ → ℕ → Type 0

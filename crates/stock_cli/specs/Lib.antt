@@ -8,6 +8,7 @@ pub mod Ran
 pub mod Paces
 pub mod Damages
 pub mod Filed
+pub mod Serving
 pub mod Words
 pub mod Commands
 pub mod LoadScript

@@ -3,7 +3,7 @@ use Rattle.std.specs.Prelude.{ℕ, ◌≡◌, ◌+◌, Option, List, [], ◌++�
 use Rattle.std.specs.Io.KnownBytes.{Appends, Consumes}
 use Rattle.stock_io.specs.Counts.{Rose, NeverFalls}
 use Rattle.stock_cli.specs.declared.end.End.{End}
-use Rattle.stock_cli.specs.declared.end.End.TheVariants.{Done, NoMemory, ReadFailed, WriteFailed, TooLong, StoreFailed, Damaged}
+use Rattle.stock_cli.specs.declared.end.End.TheVariants.{Done, NoMemory, ReadFailed, WriteFailed, TooLong, StoreFailed, ListenFailed, Damaged}
 use Rattle.repost_worker.specs.Paces.{Pace}
 use Rattle.stock_cli.specs.declared.batch.Batch.{Batch}
 use Rattle.stock_cli.specs.Batches.{StandsFor}
@@ -68,6 +68,7 @@ IsOutputEnd before after ReadFailed = ⊥
 IsOutputEnd before after WriteFailed = Rose before after
 IsOutputEnd before after TooLong = ⊥
 IsOutputEnd before after StoreFailed = ⊥
+IsOutputEnd before after ListenFailed = ⊥
 IsOutputEnd before after (Damaged damage) = ⊥
 
 -- an end at the end of the source
@@ -78,4 +79,5 @@ IsLastEnd before after ReadFailed = ⊥
 IsLastEnd before after WriteFailed = Rose before after
 IsLastEnd before after TooLong = ⊥
 IsLastEnd before after StoreFailed = ⊥
+IsLastEnd before after ListenFailed = ⊥
 IsLastEnd before after (Damaged damage) = ⊥

@@ -6,7 +6,7 @@ use Rattle.stock_io.specs.Counts.{Rose}
 use Rattle.stock_io.specs.Streams.{AppendsFront}
 use Rattle.stock_model.specs.InputLines.{lines_of, whole_lines_of}
 use Rattle.stock_cli.specs.declared.end.End.{End}
-use Rattle.stock_cli.specs.declared.end.End.TheVariants.{Done, NoMemory, ReadFailed, WriteFailed, TooLong, StoreFailed, Damaged}
+use Rattle.stock_cli.specs.declared.end.End.TheVariants.{Done, NoMemory, ReadFailed, WriteFailed, TooLong, StoreFailed, ListenFailed, Damaged}
 use Rattle.repost_worker.specs.Paces.{Pace}
 use Rattle.stock_cli.specs.Damages.{damage_note}
 use Rattle.stock_cli.specs.Replies.{Answered}
@@ -23,6 +23,7 @@ status_of ReadFailed = 4
 status_of WriteFailed = 5
 status_of TooLong = 8
 status_of StoreFailed = 6
+status_of ListenFailed = 9
 status_of (Damaged damage) = 7
 
 -- the line that notes this end; a run that is done needs none
@@ -33,6 +34,7 @@ note_text ReadFailed = codes "stockd: read failed\n"
 note_text WriteFailed = codes "stockd: write failed\n"
 note_text TooLong = codes "stockd: input too long\n"
 note_text StoreFailed = codes "stockd: store failed\n"
+note_text ListenFailed = codes "stockd: listen failed\n"
 note_text (Damaged damage) = damage_note damage
 
 -- the end that is told: the same, or want of memory where a damage could not be noted for want of it
@@ -82,8 +84,9 @@ Says TooLong first last left taken text = Answered first (whole_lines_of taken) 
 Says WriteFailed first last left taken text =
     (rest : List ℕ) × (Answered first (whole_lines_of taken) (text ++ rest) last
     ⊎ (IsReadToEnd left taken × Answered first (lines_of taken) (text ++ rest) last))
--- these come before the first read
+-- these come before the first read, or to no run over lines
 Says StoreFailed first last left taken text = ⊥
+Says ListenFailed first last left taken text = ⊥
 Says (Damaged damage) first last left taken text = ⊥
 
 -- Each end comes only with its cause, and the first fault ends a run: no other end has a count that rose.
@@ -99,4 +102,5 @@ HasCause WriteFailed read_before read_after write_before write_after taken =
 HasCause TooLong read_before read_after write_before write_after taken =
     (taken ≡ max_input) × (read_after ≡ read_before) × (write_after ≡ write_before)
 HasCause StoreFailed read_before read_after write_before write_after taken = ⊥
+HasCause ListenFailed read_before read_after write_before write_after taken = ⊥
 HasCause (Damaged damage) read_before read_after write_before write_after taken = ⊥

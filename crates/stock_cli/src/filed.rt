@@ -1,14 +1,12 @@
 //! A batch over a ledger that is kept.
-ghost use Rattle.std.specs.Prelude.{◌≡◌, ◌<◌, length};
+ghost use Rattle.std.specs.Prelude.{◌<◌, length};
 ghost use Rattle.stock_keeper.specs.Keeping.{Within};
-ghost use Rattle.kept_tables.specs.Kept.{IsKept};
-ghost use Rattle.stock_cli.specs.Filed.{RunsOverShelf, RunsOverKeeper, end_of};
+ghost use Rattle.stock_cli.specs.Filed.{RunsOverShelf, RunsOverKeeper};
 
 use crate::batch::Batch;
-use crate::damage::Damage;
 use crate::end::End;
+use crate::opening::{end_of, keeper_of};
 use crate::top::{BUFFER, pump};
-use kept_tables::open_fault::OpenFault;
 use repost_worker::opening::NotOpened;
 use repost_worker::revalued_book::RevaluedBook;
 use std::alloc::Global;
@@ -68,41 +66,12 @@ fn run_kept<K: Keeper, S: Source, O: Sink>(
             let end = pump(alloc, &mut batch, buffer, input, output);
             Ended {
                 end,
-                keeper: keeper_of(batch),
+                keeper: keeper_of(batch.into_book()),
             }
         }
         Err(NotOpened { fault, keeper }) => Ended {
             end: end_of(fault),
             keeper,
         },
-    }
-}
-
-// The keeper of a batch, for good.
-fn keeper_of<K: Keeper>(batch: Batch<K>) -> K
-    ensures kept { IsKept (K.tells result) (K.may_leave result) batch.book.history }
-    ensures faults { K.faults result ≡ batch.book.keeper.faults }
-{
-    batch.into_book().into_book().into_keeper()
-}
-
-// How a run ends over tables with this fault.
-fn end_of(fault: OpenFault) -> End
-    ensures { result ≡ end_of fault }
-{
-    match fault {
-        OpenFault::KeeperFailed => End::StoreFailed,
-        OpenFault::BadHead {
-            version: _,
-            covered: _,
-            records: _,
-        } => End::Damaged(Damage::Head),
-        OpenFault::BadStored { number } => End::Damaged(Damage::Record { number }),
-        OpenFault::StoredDiffers(difference) => {
-            End::Damaged(Damage::Worth {
-                spot: difference.spot,
-            })
-        }
-        OpenFault::NoMemory => End::NoMemory,
     }
 }

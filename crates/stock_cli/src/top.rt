@@ -181,6 +181,7 @@ fn note_of(end: End) -> &'static str
         End::WriteFailed => "stockd: write failed\n",
         End::TooLong => "stockd: input too long\n",
         End::StoreFailed => "stockd: store failed\n",
+        End::ListenFailed => "stockd: listen failed\n",
     }
 }
 
@@ -202,6 +203,7 @@ fn status_of(end: End) -> u8
         End::WriteFailed => 5,
         End::TooLong => 8,
         End::StoreFailed => 6,
+        End::ListenFailed => 9,
         End::Damaged(_) => 7,
     }
 }
