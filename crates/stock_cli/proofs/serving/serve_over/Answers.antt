@@ -22,7 +22,7 @@ returns-in-Err-clause-serves g c =
 
 pub returns-clause-serves : goal.returns-clause-serves
 returns-clause-serves g c =
-    let opened = c.in-Ok-open_keeper in
+    let opened = c.in-Ok in
     let served = c.serve_kept-summary in
     over-served g.H.Kept.Keeper.tells g.H.Kept.Keeper.faults g.H.Kept.Keeper.plan g.H.Kept.Keeper.calls g.H.Shelf.tells g.H.Shelf.plan
     g.H.Shelf.faults g.H.Shelf.kept_faults
