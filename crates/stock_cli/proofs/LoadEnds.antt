@@ -6,7 +6,7 @@ use Rattle.stock_cli.specs.Loads.{IsLoaded}
 use Rattle.stock_cli.specs.Statuses.{status_of, IsToldAs, CountsNoFault}
 use Rattle.stock_cli.specs.Words.{SpellsBatchOver, SpellsLoad}
 use Rattle.stock_cli.specs.declared.end.End.{End}
-use Rattle.stock_cli.specs.declared.end.End.TheVariants.{Done, NoMemory, ReadFailed, WriteFailed, TooLong, StoreFailed, Damaged}
+use Rattle.stock_cli.specs.declared.end.End.TheVariants.{Done, NoMemory, ReadFailed, WriteFailed, TooLong, StoreFailed, ListenFailed, Damaged}
 
 -- the first of some words
 abbrev first_word : List (List ℕ) → List ℕ
@@ -46,6 +46,7 @@ module _ {O : Type 0} (written : O → Option (List ℕ)) (faults : O → ℕ) (
   loaded-told WriteFailed told is loaded = subst (IsLoaded written faults before after n) (sym is) loaded
   loaded-told TooLong told is loaded = absurd loaded
   loaded-told StoreFailed told is loaded = absurd loaded
+  loaded-told ListenFailed told is loaded = absurd loaded
   loaded-told (Damaged damage) told is loaded = absurd loaded
 
   -- without a fault it is done, or memory was wanting
@@ -59,4 +60,5 @@ module _ {O : Type 0} (written : O → Option (List ℕ)) (faults : O → ℕ) (
       absurd (omega (arith, rose, none.0))
   loaded-complete TooLong loaded none = absurd loaded
   loaded-complete StoreFailed loaded none = absurd loaded
+  loaded-complete ListenFailed loaded none = absurd loaded
   loaded-complete (Damaged damage) loaded none = absurd loaded

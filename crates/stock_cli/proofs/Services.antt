@@ -29,22 +29,22 @@ unsettled keep.Failed served last refused =
     (refused, rose)
 unsettled keep.NoMemory served last refused = inl refused
 
-module _ {P : Type 0} (serves : ℕ → List Deed → List Deed → P → P → Type 0) (is_fresh : P → Type 0) (desks : ℕ) where
+module _ {P : Type 0} (serves : ℕ → ℕ → List Deed → List Deed → P → P → Type 0) (is_fresh : P → Type 0) (desks : ℕ) where
   -- the count of the listener did not fall
-  pub service-falls : (came : ℕ) (first final : List Deed) (old new : Heard P) → IsService serves is_fresh desks came first final old new
+  pub service-falls : (came : ℕ) (first final : List Deed) (faults faults' : ℕ) (old new : Heard P) → IsService serves is_fresh desks came first final faults faults' old new
       → NeverFalls old.faults new.faults
-  service-falls came first final old new service = omega (arith, service.came.never_falls, service.hung_up.faults)
+  service-falls came first final faults faults' old new service = omega (arith, service.came.never_falls, service.hung_up.faults)
 
   -- no more came than were wanted
-  service-all : (came : ℕ) (first final : List Deed) (old new : Heard P) → IsService serves is_fresh desks came first final old new
-      → desks ≤ came → IsService serves is_fresh desks desks first final old new
-  service-all came first final old new service all =
+  service-all : (came : ℕ) (first final : List Deed) (faults faults' : ℕ) (old new : Heard P) → IsService serves is_fresh desks came first final faults faults' old new
+      → desks ≤ came → IsService serves is_fresh desks desks first final faults faults' old new
+  service-all came first final faults faults' old new service all =
       let same : came ≡ desks = omega (arith, all, service.count, service.came.no_more) in
-      subst (λ (n : ℕ). IsService serves is_fresh desks n first final old new) same service
+      subst (λ (n : ℕ). IsService serves is_fresh desks n first final faults faults' old new) same service
 
   -- fewer came, as the listener failed
   service-few : (came : ℕ) (first last : Pace) (old new : Heard P)
-      → IsService serves is_fresh desks came first.history last.history old new → came < desks
+      → IsService serves is_fresh desks came first.history last.history first.keeper.faults last.keeper.faults old new → came < desks
       → IsCutShort serves is_fresh desks first last old new
   service-few came first last old new service few =
       record {
@@ -56,7 +56,7 @@ module _ {P : Type 0} (serves : ℕ → List Deed → List Deed → P → P → 
 
   -- all came, and what they had left of the ledger was settled, or that was refused
   leaves-settled : (summary : Result (String Global) End) (first served last : Pace) (old new : Heard P)
-      → IsService serves is_fresh desks desks first.history served.history old new → Settles summary served last
+      → IsService serves is_fresh desks desks first.history served.history first.keeper.faults served.keeper.faults old new → Settles summary served last
       → Leaves serves is_fresh desks summary first last old new
   leaves-settled (Ok text) first served last old new service settles =
       (record { served = served; service = service; then = settles.0 }, settles.1)
@@ -72,7 +72,7 @@ module _ {P : Type 0} (serves : ℕ → List Deed → List Deed → P → P → 
   leaves-settled (Err (Damaged damage)) first served last old new service settles = absurd settles
 
   leaves-few : (summary : Result (String Global) End) (came : ℕ) (first served last : Pace) (old new : Heard P)
-      → IsService serves is_fresh desks came first.history served.history old new → came < desks
+      → IsService serves is_fresh desks came first.history served.history first.keeper.faults served.keeper.faults old new → came < desks
       → (summary ≡ Err ListenFailed) × (last ≡ served) → Leaves serves is_fresh desks summary first last old new
   leaves-few summary came first served last old new service few ended =
       subst (λ (s : Result (String Global) End). Leaves serves is_fresh desks s first last old new) (sym ended.0)
@@ -80,24 +80,24 @@ module _ {P : Type 0} (serves : ℕ → List Deed → List Deed → P → P → 
       (inr (service-few came first served old new service few)))
 
   pub leaves : (summary : Result (String Global) End) (came : ℕ) (first served last : Pace) (old new : Heard P)
-      → IsService serves is_fresh desks came first.history served.history old new
+      → IsService serves is_fresh desks came first.history served.history first.keeper.faults served.keeper.faults old new
       → (came < desks → (summary ≡ Err ListenFailed) × (last ≡ served)) → (desks ≤ came → Settles summary served last)
       → Leaves serves is_fresh desks summary first last old new
   leaves summary came first served last old new service few all = elim (cases_lt came desks) [
     | inl short ↦ leaves-few summary came first served last old new service short (few short)
     | inr enough ↦ leaves-settled summary first served last old new
-        (service-all came first.history served.history old new service enough) (all enough)
+        (service-all came first.history served.history first.keeper.faults served.keeper.faults old new service enough) (all enough)
   ]
 
   -- the same from equal states of the book and what is heard
   pub leaves-of : (summary : Result (String Global) End) (came : ℕ) (before first served last : Pace) (old new heard : Heard P)
-      → before ≡ first → heard ≡ new → IsService serves is_fresh desks came before.history served.history old new
+      → before ≡ first → heard ≡ new → IsService serves is_fresh desks came before.history served.history before.keeper.faults served.keeper.faults old new
       → (came < desks → (summary ≡ Err ListenFailed) × (last ≡ served)) → (desks ≤ came → Settles summary served last)
       → Leaves serves is_fresh desks summary first last old heard
   leaves-of summary came before first served last old new heard same_book same_heard service few all =
       subst (λ (h : Heard P). Leaves serves is_fresh desks summary first last old h) (sym same_heard)
       (leaves summary came first served last old new
-      (subst (λ (p : Pace). IsService serves is_fresh desks came p.history served.history old new) same_book service) few all)
+      (subst (λ (p : Pace). IsService serves is_fresh desks came p.history served.history p.keeper.faults served.keeper.faults old new) same_book service) few all)
 
   pub leaves-heard : (summary : Result (String Global) End) (first last : Pace) (old mid new : Heard P) → mid ≡ old
       → Leaves serves is_fresh desks summary first last mid new → Leaves serves is_fresh desks summary first last old new
@@ -106,7 +106,7 @@ module _ {P : Type 0} (serves : ℕ → List Deed → List Deed → P → P → 
 
 -- what was begun leaves a summary or none
 module _ {Kt L P : Type 0} (tells : Kt → Tables → Type 0) (faults : Kt → ℕ) (plan : Kt → Option (List ℕ)) (calls : Kt → ℕ)
-    (hears : L → Heard P) (serves : ℕ → List Deed → List Deed → P → P → Type 0) (is_fresh : P → Type 0) (desks : ℕ) where
+    (hears : L → Heard P) (serves : ℕ → ℕ → List Deed → List Deed → P → P → Type 0) (is_fresh : P → Type 0) (desks : ℕ) where
   pub leaves-begun : (summary : Result (String Global) End) (keeper keeper' : Kt) (listener listener' : L)
       → IsBegun tells faults plan calls (λ first last. Leaves serves is_fresh desks summary first last (hears listener) (hears listener')) keeper keeper'
       → LeavesKept tells faults plan calls hears serves is_fresh desks summary keeper keeper' listener listener'

@@ -13,7 +13,7 @@ use Rattle.clap.proofs.OnLiterals.{clap_on_literals}
 use Rattle.stock_cli.specs.Commands.{program, AsksFor, AsksForNothing}
 use Rattle.stock_cli.specs.Words.{Spells, SpellsBatchOver, SpellsSome, SpellsNothing, IsPath, IsCount}
 use Rattle.stock_cli.specs.declared.words.Asked.{Asked}
-use Rattle.stock_cli.specs.declared.words.Asked.TheVariants.{Batch, BatchOver, Load, Serve}
+use Rattle.stock_cli.specs.declared.words.Asked.TheVariants.{Batch, BatchOver, Load}
 
 -- the word is a value: no `--`, no long option and no short one
 record IsValue (word : Text) : Type 0 where
@@ -129,7 +129,6 @@ asks-batch words (Some (name, rows)) file Batch is spells (inl asks) =
 asks-batch words (Some (name, rows)) file (BatchOver path) is spells (inl asks) =
     subst (SpellsFile words) (sym (ap (λ o. option_map_or (λ p. p.1) o file) is) ∙ asks.1) spells
 asks-batch words (Some (name, rows)) file (Load n) is spells (inl asks) = absurd asks.1
-asks-batch words (Some (name, rows)) file (Serve asked) is spells (inl asks) = absurd asks.1
 asks-batch words (Some (name, rows)) file asked is spells (inr asks) =
     absurd (batch_is_no_load (sym (ap (λ o. option_map_or (λ p. p.0) o name) is) ∙ asks.0))
 
@@ -141,7 +140,6 @@ asks-load words (Some (name, rows)) word asked is spells (inl asks) =
     absurd (batch_is_no_load (sym asks.0 ∙ ap (λ o. option_map_or (λ p. p.0) o name) is))
 asks-load words (Some (name, rows)) word Batch is spells (inr asks) = absurd asks.1
 asks-load words (Some (name, rows)) word (BatchOver path) is spells (inr asks) = absurd asks.1
-asks-load words (Some (name, rows)) word (Serve asked) is spells (inr asks) = absurd asks.1
 asks-load words (Some (name, rows)) word (Load n) is spells (inr (named_so, (told, first, count))) =
     let same : Some told ≡ Some word = sym first ∙ ap (λ o. option_map_or (λ p. p.1) o (Some word)) is in
     let word_is : told ≡ word = cc in (word, spells, subst (λ (w : Text). IsCount w n) word_is count)

@@ -3,7 +3,7 @@ use Rattle.std.specs.Prelude.{◌≡◌, ◌≢◌, ◌⊎◌, ℕ, true, List, 
 use Rattle.clap.specs.Words.{App, Row, Rule, Text, first_of, new_app, new_rule, with_rule, with_subcommand}
 use Rattle.clap.specs.Simple.{on_top}
 use Rattle.stock_cli.specs.declared.words.Asked.{Asked}
-use Rattle.stock_cli.specs.declared.words.Asked.TheVariants.{Batch, BatchOver, Load, Serve}
+use Rattle.stock_cli.specs.declared.words.Asked.TheVariants.{Batch, BatchOver, Load}
 use Rattle.stock_cli.specs.Words.{IsCount, IsNoCount}
 
 -- `--file` with a value
@@ -27,7 +27,6 @@ abbrev pub IsBatchFor : List Row → Asked → Type 0
 IsBatchFor rows Batch = first_of (codes "file") rows ≡ None
 IsBatchFor rows (BatchOver path) = first_of (codes "file") rows ≡ Some path.now
 IsBatchFor rows (Load n) = ⊥
-IsBatchFor rows (Serve asked) = ⊥
 
 -- what was found of the command `load` asks for this
 abbrev pub IsLoadFor : List Row → Asked → Type 0

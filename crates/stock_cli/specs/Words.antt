@@ -4,9 +4,9 @@ use Rattle.std.specs.declared.alloc.Global.{Global}
 use Rattle.stock_cli.specs.declared.load_script.TheConstants.{MAX_LOAD}
 use Rattle.stock_cli.specs.NumberWords.{IsNumber, IsNoNumber}
 pub use Rattle.stock_cli.specs.Paths.{IsPath}
-use Rattle.stock_cli.specs.ServeWords.{SpellsServe, SpellsNoService}
+use Rattle.stock_cli.specs.ServeWords.{SpellsServe}
 use Rattle.stock_cli.specs.declared.words.Asked.{Asked}
-use Rattle.stock_cli.specs.declared.words.Asked.TheVariants.{Batch, BatchOver, Load, Serve}
+use Rattle.stock_cli.specs.declared.words.Asked.TheVariants.{Batch, BatchOver, Load}
 
 -- the word is `--file=` followed by a path
 abbrev pub IsFileOption : List ℕ → List ℕ → Type 0
@@ -28,17 +28,15 @@ IsNoCount word = IsNoNumber MAX_LOAD word
 abbrev pub SpellsLoad : List (List ℕ) → ℕ → Type 0
 SpellsLoad words n = (word : List ℕ) × (words ≡ codes "load" ∷ word ∷ []) × IsCount word n
 
--- the words ask for this
+-- the words ask for this batch or load
 abbrev pub Spells : List (List ℕ) → Asked → Type 0
 Spells words Batch = words ≡ codes "batch" ∷ []
 Spells words (BatchOver path) = SpellsBatchOver words path.now
 Spells words (Load n) = SpellsLoad words n
-Spells words (Serve asked) = SpellsServe words asked.path.now asked.port asked.desks
 
--- the words ask for nothing that the program knows
+-- the words ask for neither
 abbrev pub SpellsNothing : List (List ℕ) → Type 0
 SpellsNothing words = (words ≢ codes "batch" ∷ []) × ((path : List ℕ) → SpellsBatchOver words path → ⊥) × ((n : ℕ) → SpellsLoad words n → ⊥)
-    × SpellsNoService words
 
 -- the words ask for a batch or a load
 abbrev pub SpellsSome : List (List ℕ) → Type 0

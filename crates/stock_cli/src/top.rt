@@ -7,7 +7,11 @@ ghost use Rattle.stock_cli.specs.Batches.{StandsFor};
 ghost use Rattle.stock_cli.specs.Statuses.{IsBatch, status_of, note_text, usage_text, IsToldAs, IsNote, WritesOrFails, CountsNoFault, max_input};
 ghost use Rattle.stock_cli.specs.Filed.{RunsOverShelf};
 ghost use Rattle.stock_cli.specs.Loads.{IsLoaded};
-ghost use Rattle.stock_cli.specs.Words.{IsBatchOver, IsLoad};
+ghost use Rattle.stock_cli.specs.Serving.{ServesOverShelf};
+ghost use Rattle.stock_cli.specs.Words.{IsBatchOver, IsLoad, IsServe};
+ghost use Rattle.stock_io.specs.Listeners.{IsFresh};
+ghost use Rattle.desk_service.specs.Listening.{heard};
+ghost use Rattle.desk_service.specs.Service.{IsPeerServed};
 ghost use Rattle.stock_cli.specs.Ran.{Ran, TakesPiece, Stops, Finishes, IsOutputEnd, IsLastEnd};
 
 use crate::batch::Batch;
@@ -15,10 +19,16 @@ use crate::damage::{Damage, damage_note};
 use crate::end::End;
 use crate::filed::run_over;
 use crate::load::load;
+use crate::serve_words::serve_words;
+use crate::serving::{ServiceEnd, serve_over};
 use crate::words::{Asked, asked_by};
 use generation_book::book::Book;
 use repost_worker::revalued_book::RevaluedBook;
 use std::alloc::Global;
+use std::sync::Wait;
+use std::thread::Threads;
+use stock_io::link::Link;
+use stock_io::listener::Listener;
 use stock_io::sink::{Sink, write_all};
 use stock_io::source::Source;
 use stock_keeper::keeper::Keeper;
@@ -44,12 +54,134 @@ const USAGE: &str =
 /// What is noted where memory is wanting.
 const MEMORY: &str = "stockd: memory\n";
 
-/// Does what the words ask for, and answers the status: 0, 2, 3, 4, 5, 6, 7 or 8. `batch` answers the lines of
+/// What a run leaves: its status, and the listener.
+#[derive(Drop)]
+pub struct Finished<L> {
+    pub status: u8,
+    pub listener: L,
+}
+
+/// Does what the words ask for, and answers the status: 0, 2, 3, 4, 5, 6, 7, 8 or 9. `batch` answers the lines of
 /// the input on the output, and ends at the first fault of either; with a file over the ledger that the shelf has there, and
 /// else over a new one that is kept nowhere. `load` answers a script of its own over a new ledger that is kept nowhere, and writes
-/// what the balance sums to then. Other words have status 2. A status other than 0 is told by a line of the notes, whose own faults
-/// change no status.
-pub fn stockd<H: Shelf, S: Source, O: Sink, N: Sink>(
+/// what the balance sums to then. `serve` listens, serves each peer by a desk in a thread of its own over the ledger in a file, and
+/// writes how many records are covered and accepted once all have ended. Other words have status 2. A status other than 0 is told
+/// by a line of the notes, whose own faults change no status. It may wait where it serves desks, for peers and for the lock.
+pub fn stockd<
+    H: Shelf,
+    P: Link,
+    L: Listener<Peer = P> + Drop,
+    S: Source,
+    O: Sink,
+    N: Sink,
+    R: Threads + Wait + Sync,
+>(
+    rt: &R,
+    alloc: Global,
+    words: &[String],
+    shelf: &mut H,
+    listener: L,
+    input: &mut S,
+    output: &mut O,
+    notes: &mut N,
+) -> Finished<L>
+    requires outstanding { L.hang_ups listener ≤ L.accepts listener }
+
+    // The words are no batch, no load and no service exactly where the status is 2. Then nothing is taken or written, and the usage
+    // is noted.
+    ensures words { (result.status ≡ 2) ↔ ((IsBatch words.now → ⊥) × ((path : List ℕ) → IsBatchOver words.now path → ⊥)
+        × ((n : ℕ) → IsLoad words.now n → ⊥)
+        × ((path : List ℕ) (port desks : ℕ) → IsServe words.now path port desks → ⊥)) }
+    ensures nothing_taken { result.status ≡ 2 → input.new ≡ input.old }
+    ensures nothing_written { result.status ≡ 2 → output.new ≡ output.old }
+    ensures nothing_opened { (result.status ≡ 2) ⊎ IsBatch words.now → shelf.new ≡ shelf.old }
+    ensures usage { result.status ≡ 2 → WritesOrFails N.written N.faults notes.old notes.new usage_text }
+
+    // A batch ends in one of five ways, each with its status: what was read and written then, and why.
+    ensures run { IsBatch words.now → (end : End) × (result.status ≡ status_of end)
+        × (last : Pace) × Ran S.left S.taken S.faults O.written O.faults input.old input.new output.old output.new first_pace last end }
+
+    // So does one over a file that was opened, and its ledger is that of the run; or it could not be opened, and why.
+    ensures over { (path : List ℕ) → IsBatchOver words.now path → (end : End) × (result.status ≡ status_of end)
+        × RunsOverShelf H.Kept.tells H.tells H.plan H.faults H.kept_faults S.left S.taken S.faults O.written O.faults
+        shelf.old shelf.new input.old input.new output.old output.new end }
+
+    // A load writes the summary of its script, or for want of memory nothing, or where the output fails a front of it. It takes
+    // nothing from the input, and the shelf stays.
+    ensures load { (n : ℕ) → IsLoad words.now n → (end : End) × (result.status ≡ status_of end)
+        × IsLoaded O.written O.faults output.old output.new n end }
+    ensures load_takes_nothing { (n : ℕ) → IsLoad words.now n → input.new ≡ input.old }
+    ensures load_opens_nothing { (n : ℕ) → IsLoad words.now n → shelf.new ≡ shelf.old }
+
+    // A service serves desks over a file that was opened, settles, and writes how many records are covered and accepted; or an end
+    // comes before, and why. It takes nothing from the input. Nothing else listens.
+    ensures serve { (path : List ℕ) (port desks : ℕ) → IsServe words.now path port desks → (end : End) × (result.status ≡ status_of end)
+        × ServesOverShelf H.Kept.tells H.tells H.plan H.faults H.kept_faults
+        (heard L.waiting L.hung_up L.accepts L.hang_ups L.faults) O.written O.faults
+        (IsPeerServed P.left P.taken P.written P.Source.faults P.ended)
+        (IsFresh P.taken P.written P.Source.faults P.ended) desks
+        shelf.old shelf.new listener result.listener output.old output.new end }
+    ensures serve_takes_nothing { (path : List ℕ) (port desks : ℕ) → IsServe words.now path port desks → input.new ≡ input.old }
+    ensures nothing_heard { ((path : List ℕ) (port desks : ℕ) → IsServe words.now path port desks → ⊥) → result.listener ≡ listener }
+
+    // Without a fault, and with fewer bytes than are too many, only want of memory keeps it from being done.
+    ensures complete { IsBatch words.now
+        → CountsNoFault (S.faults input.old) (S.faults input.new)
+        → CountsNoFault (O.faults output.old) (O.faults output.new)
+        → S.taken input.new < S.taken input.old + max_input
+        → (result.status ≡ 0) ⊎ (result.status ≡ 3) }
+
+    // So it is over a file, where the shelf and its keeper had no fault either, but for tables that are none of a ledger.
+    ensures complete_over { (path : List ℕ) → IsBatchOver words.now path
+        → CountsNoFault (S.faults input.old) (S.faults input.new)
+        → CountsNoFault (O.faults output.old) (O.faults output.new)
+        → CountsNoFault (H.faults shelf.old) (H.faults shelf.new)
+        → CountsNoFault 0 (H.kept_faults shelf.new)
+        → S.taken input.new < S.taken input.old + max_input
+        → (result.status ≡ 0) ⊎ (result.status ≡ 3) ⊎ (result.status ≡ 7) }
+
+    // So it is of a load, where the output had no fault.
+    ensures complete_load { (n : ℕ) → IsLoad words.now n → CountsNoFault (O.faults output.old) (O.faults output.new)
+        → (result.status ≡ 0) ⊎ (result.status ≡ 3) }
+
+    // And of a service, where neither the listener, the output, the shelf nor its keeper had a fault.
+    ensures complete_serve { (path : List ℕ) (port desks : ℕ) → IsServe words.now path port desks
+        → CountsNoFault (H.faults shelf.old) (H.faults shelf.new)
+        → CountsNoFault 0 (H.kept_faults shelf.new)
+        → CountsNoFault (L.faults listener) (L.faults result.listener)
+        → CountsNoFault (O.faults output.old) (O.faults output.new)
+        → (result.status ≡ 0) ⊎ (result.status ≡ 3) ⊎ (result.status ≡ 7) }
+
+    // The line of the status is noted, or a front of it where the notes fail. Status 0 has none.
+    ensures noted { (result.status ≡ 2 → ⊥) → (end : End) × (result.status ≡ status_of end)
+        × WritesOrFails N.written N.faults notes.old notes.new (note_text end) }
+    ensures silent { result.status ≡ 0 → notes.new ≡ notes.old }
+    ensures notes_never_fall { NeverFalls (N.faults notes.old) (N.faults notes.new) }
+{
+    let Some(asked) = serve_words(words) else {
+        return Finished {
+            status: batch_or_load(alloc, words, shelf, input, output, notes),
+            listener,
+        };
+    };
+    let ServiceEnd { end, listener } = serve_over(
+        rt,
+        alloc,
+        shelf,
+        listener,
+        asked.path,
+        asked.port,
+        asked.desks,
+        output,
+    );
+    Finished {
+        status: tell(alloc, notes, end),
+        listener,
+    }
+}
+
+// Does what words other than those of a service ask for, and answers the status.
+fn batch_or_load<H: Shelf, S: Source, O: Sink, N: Sink>(
     alloc: Global,
     words: &[String],
     shelf: &mut H,
@@ -120,7 +252,6 @@ pub fn stockd<H: Shelf, S: Source, O: Sink, N: Sink>(
             let end = load(alloc, count, output);
             tell(alloc, notes, end)
         }
-        Ok(Some(Asked::Serve(_))) => without_memory(notes),
         Ok(None) => {
             note(notes, USAGE.as_bytes());
             2

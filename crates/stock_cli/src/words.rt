@@ -5,7 +5,6 @@ ghost use Rattle.stock_cli.specs.Words.{Spells, SpellsSome, SpellsNothing, IsPat
 use crate::commands::{asked_in, matches_of};
 use crate::load_script::MAX_LOAD;
 use crate::number_words::number_in;
-use crate::serve_words::{ServeWords, serve_words};
 use std::alloc::Global;
 use stock_nums::memory::NoMemory;
 
@@ -18,8 +17,6 @@ pub enum Asked<'a> {
     BatchOver(&'a str),
     /// `load N`: a script of so many vouchers, over a new ledger that is kept nowhere.
     Load(u32),
-    /// `serve`: desks over the ledger in a file.
-    Serve(ServeWords<'a>),
 }
 
 /// What the words ask for, or None exactly where they are none that the program knows.
@@ -29,9 +26,6 @@ pub(crate) fn asked_by(alloc: Global, words: &[String]) -> Result<Option<Asked<'
         MatchOption asked (SpellsNothing (map string_bytes words.now)) (Spells (map string_bytes words.now))) }
     ensures memory { IfErr result (λ _. SpellsSome (map string_bytes words.now)) }
 {
-    if let Some(asked) = serve_words(words) {
-        return Ok(Some(Asked::Serve(asked)));
-    }
     if !is_known(words) {
         return Ok(None);
     }

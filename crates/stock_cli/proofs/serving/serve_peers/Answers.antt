@@ -25,7 +25,7 @@ returns-in-Ok-clause-never_falls g c =
     let falls =
     service-falls (IsPeerServed g.P.Source.left g.P.Source.taken g.P.Sink.written g.P.Source.faults g.P.Link.ended)
     (IsFresh g.P.Source.taken g.P.Sink.written g.P.Source.faults g.P.Link.ended) c.args.desks
-    served.accepted c.into_parts-book.result.0.history served.book.history (hears c.args.listener) (hears served.listener)
+    served.accepted c.into_parts-book.result.0.history served.book.history c.into_parts-book.result.0.keeper.faults served.book.keeper.faults (hears c.args.listener) (hears served.listener)
     c.in-Ok.ensures.served in
     omega (arith, falls, ap g.L.Listener.faults c.settle_served.ensures.listener)
 

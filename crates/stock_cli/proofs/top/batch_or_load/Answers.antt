@@ -9,7 +9,7 @@ use Rattle.stock_cli.proofs.Ends.{Ran-no_memory}
 use Rattle.stock_cli.proofs.LoadEnds.{load_is_no_batch, load_is_not_over, load_once, loaded-told, loaded-complete}
 use Rattle.stock_cli.proofs.Told.{status_not_2}
 use Rattle.stock_cli.proofs.WordsLemmas.{spelled, spelled-none}
-use Rattle.stock_cli.proofs.top.stockd.Goals as goal
+use Rattle.stock_cli.proofs.top.batch_or_load.Goals as goal
 
 -- the one word `batch`
 pub returns-in-Ok-Some-Batch-clause-words : goal.returns-in-Ok-Some-Batch-clause-words
