@@ -15,7 +15,8 @@ pub enum End {
     WriteFailed,
     /// 2^32 bytes of input were taken. The whole lines among them were answered.
     TooLong,
-    /// The ledger's file could not be opened or loaded, and nothing was taken or written; or what a service left was not published.
+    /// The ledger's file could not be opened or loaded, and nothing was taken or written; or what a service left could not be
+    /// published.
     StoreFailed,
     /// The listener failed. The peers that had come were served, and nothing was written.
     ListenFailed,

@@ -47,8 +47,8 @@ struct BookEnd<K: Keeper, L> {
     listener: L,
 }
 
-/// Listens at the port and serves so many peers, each by a desk in a thread of its own, over the ledger that the shelf has at this
-/// path. Once all sessions have ended it publishes what was accepted, puts the keeper back, and writes how many records are
+/// Listens at the port and serves so many peers, each by a desk in a thread of its own, over the ledger that the shelf has at
+/// this path. Once all sessions have ended it publishes what was accepted, puts the keeper back, and writes how many records are
 /// covered and accepted. Each keeper that is handed out is put back. Where fewer peers come it ends as soon as those are served.
 /// It may wait, for peers and for the lock.
 pub(crate) fn serve_over<
@@ -203,7 +203,8 @@ fn serve_peers<K: Keeper + Send, P: Link, L: Listener<Peer = P> + Drop, R: Threa
 fn settle_served<K: Keeper, L>(alloc: Global, served: Served<K, L>, desks: u32) -> BookEnd<K, L>
     requires work { IsWorkOf served.book.history served.build }
     ensures listener { result.listener ≡ served.listener }
-    ensures few { served.accepted < desks → (result.summary ≡ Err End.ListenFailed) × (result.book ≡ pace_of served.book served.build) }
+    ensures few { served.accepted < desks
+        → (result.summary ≡ Err End.ListenFailed) × (result.book ≡ pace_of served.book served.build) }
     ensures all { desks ≤ served.accepted → Settles result.summary (pace_of served.book served.build) result.book }
 {
     let Served {

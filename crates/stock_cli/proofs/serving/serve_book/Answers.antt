@@ -1,5 +1,5 @@
 -- The listener listens, or it failed.
-use Rattle.std.proofs.Common.{inl, refl, arith}
+use Rattle.std.proofs.Common.{inl, refl}
 use Rattle.stock_io.specs.Listeners.{IsFresh}
 use Rattle.desk_service.specs.Listening.{heard}
 use Rattle.desk_service.specs.Service.{IsPeerServed}
