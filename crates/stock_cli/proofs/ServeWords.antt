@@ -3,7 +3,9 @@ use Rattle.std.proofs.Common.{◌≡◌, ◌≢◌, ℕ, ◌+◌, List, [], ◌�
 use Rattle.std.proofs.lemmas.List.{append_cancel_left}
 use Rattle.stock_cli.specs.Paths.{IsPath}
 use Rattle.std.specs.Prelude.{suc, Option, Some, None, MatchOption}
-use Rattle.stock_cli.specs.ServeWords.{Setting, BeginsWithSetting, BeginsWithNone, IsNotFirst, SpellsSettings, SpellsNone, SpellsServe, SpellsNoService, Means, MeansNothing, option_text}
+use Rattle.stock_cli.specs.ServeWords.{Setting, BeginsWithSetting, BeginsWithNone, IsNotFirst, SpellsSettings, SpellsNone, SpellsServe, SpellsNoService, Means, MeansNothing, option_text, value_of}
+use Rattle.std.specs.Str.Parse.{digits_value}
+use Rattle.stock_cli.specs.Words.{SpellsBatchOver, SpellsLoad}
 use Rattle.stock_cli.specs.declared.serve_words.ServeWords.{ServeWords}
 use Rattle.stock_cli.specs.declared.serve_words.Name.{Name}
 use Rattle.stock_cli.specs.declared.serve_words.Name.TheVariants.{File, Port, Desks}
@@ -135,3 +137,43 @@ service options settings None spelled nothing = λ path port desks serve.
     nothing path port desks (subst (λ (xs : List Setting). Means xs path port desks) (sym one) serve.means)
 service options settings (Some found) spelled means =
     record { options = options; settings = settings; command = refl; spelled = spelled; means = means }
+
+-- the words of a service are those of nothing else
+first_differs : (words : List (List ℕ)) (path : List ℕ) (port desks byte : ℕ) → SpellsServe words path port desks
+    → get_or (first_word words) 0 0 ≡ byte → byte ≡ 115
+first_differs words path port desks byte serve first = sym first ∙ ap (λ (ws : List (List ℕ)). get_or (first_word ws) 0 0) serve.command
+
+pub serve_is_no_batch : (words : List (List ℕ)) (path : List ℕ) (port desks : ℕ) → SpellsServe words path port desks
+    → words ≡ codes "batch" ∷ [] → ⊥
+serve_is_no_batch words path port desks serve batch =
+    let same = first_differs words path port desks 98 serve (ap (λ (ws : List (List ℕ)). get_or (first_word ws) 0 0) batch) in
+    absurd (omega (arith, same))
+
+pub serve_is_not_over : (words : List (List ℕ)) (path file : List ℕ) (port desks : ℕ) → SpellsServe words path port desks
+    → SpellsBatchOver words file → ⊥
+serve_is_not_over words path file port desks serve (inl two) =
+    let same = first_differs words path port desks 98 serve (ap (λ (ws : List (List ℕ)). get_or (first_word ws) 0 0) two.0) in
+    absurd (omega (arith, same))
+serve_is_not_over words path file port desks serve (inr one) =
+    let same = first_differs words path port desks 98 serve (ap (λ (ws : List (List ℕ)). get_or (first_word ws) 0 0) one.0) in
+    absurd (omega (arith, same))
+
+pub serve_is_no_load : (words : List (List ℕ)) (path : List ℕ) (port desks n : ℕ) → SpellsServe words path port desks
+    → SpellsLoad words n → ⊥
+serve_is_no_load words path port desks n serve load =
+    let same = first_differs words path port desks 108 serve (ap (λ (ws : List (List ℕ)). get_or (first_word ws) 0 0) load.1) in
+    absurd (omega (arith, same))
+
+same_some : (a b : List ℕ) → Some a ≡ Some b → a ≡ b
+same_some a b same = cc
+
+-- they tell one number of desks
+pub one_service : (words : List (List ℕ)) (path path' : List ℕ) (port port' desks desks' : ℕ) → SpellsServe words path port desks
+    → SpellsServe words path' port' desks' → desks ≡ desks'
+one_service words path path' port port' desks desks' one other =
+    let options : one.options ≡ other.options = ap behind_first (sym one.command ∙ other.command) in
+    let settings = one_spelling one.options one.settings other.settings one.spelled
+    (subst (λ (ws : List (List ℕ)). SpellsSettings ws other.settings) (sym options) other.spelled) in
+    let word = same_some one.means.desks_word other.means.desks_word
+    (sym one.means.desks_named ∙ ap (value_of Desks) settings ∙ other.means.desks_named) in
+    sym one.means.desks_are.told ∙ ap (digits_value 10) word ∙ other.means.desks_are.told

@@ -1,5 +1,6 @@
 //! The top call: what the words ask for, over an input, an output and notes.
 ghost use Rattle.std.specs.Prelude.{◌≡◌, ◌≢◌, ◌+◌, ◌^◌, ◌<◌, ◌≤◌, ◌⊎◌, ◌↔◌, ℕ, List, [], ◌∷◌, Contains, length, OnOk, OnErr, IfErr, IsTrue};
+ghost use Rattle.stock_nums.specs.declared.limits.TheConstants.{MAX_DESK};
 ghost use Rattle.stock_io.specs.Counts.{NeverFalls};
 ghost use Rattle.repost_worker.specs.Paces.{Pace, first_pace};
 ghost use Rattle.stock_cli.specs.declared.end.End.{End};
@@ -19,7 +20,7 @@ use crate::damage::{Damage, damage_note};
 use crate::end::End;
 use crate::filed::run_over;
 use crate::load::load;
-use crate::serve_words::serve_words;
+use crate::serve_words::{ServeWords, serve_words};
 use crate::serving::{ServiceEnd, serve_over};
 use crate::words::{Asked, asked_by};
 use generation_book::book::Book;
@@ -164,6 +165,45 @@ pub fn stockd<
             listener,
         };
     };
+    serve_asked(rt, alloc, asked, shelf, listener, output, notes)
+}
+
+// Serves the desks that are asked for, and tells how that ended.
+fn serve_asked<
+    H: Shelf,
+    P: Link,
+    L: Listener<Peer = P> + Drop,
+    O: Sink,
+    N: Sink,
+    R: Threads + Wait + Sync,
+>(
+    rt: &R,
+    alloc: Global,
+    asked: ServeWords<'_>,
+    shelf: &mut H,
+    listener: L,
+    output: &mut O,
+    notes: &mut N,
+) -> Finished<L>
+    requires desks { (0 < asked.desks) × (asked.desks ≤ MAX_DESK) }
+    requires outstanding { L.hang_ups listener ≤ L.accepts listener }
+    ensures serves { (end : End) × (result.status ≡ status_of end)
+        × ServesOverShelf H.Kept.tells H.tells H.plan H.faults H.kept_faults
+        (heard L.waiting L.hung_up L.accepts L.hang_ups L.faults) O.written O.faults
+        (IsPeerServed P.left P.taken P.written P.Source.faults P.ended)
+        (IsFresh P.taken P.written P.Source.faults P.ended) asked.entry.desks
+        shelf.old shelf.new listener result.listener output.old output.new end }
+    ensures complete { CountsNoFault (H.faults shelf.old) (H.faults shelf.new)
+        → CountsNoFault 0 (H.kept_faults shelf.new)
+        → CountsNoFault (L.faults listener) (L.faults result.listener)
+        → CountsNoFault (O.faults output.old) (O.faults output.new)
+        → (result.status ≡ 0) ⊎ (result.status ≡ 3) ⊎ (result.status ≡ 7) }
+    ensures served { result.status ≢ 2 }
+    ensures noted { (end : End) × (result.status ≡ status_of end)
+        × WritesOrFails N.written N.faults notes.old notes.new (note_text end) }
+    ensures silent { result.status ≡ 0 → notes.new ≡ notes.old }
+    ensures notes_never_fall { NeverFalls (N.faults notes.old) (N.faults notes.new) }
+{
     let ServiceEnd { end, listener } = serve_over(
         rt,
         alloc,

@@ -3,7 +3,9 @@
 use crate::running::{Failing, NEVER, run, shelf};
 use std::alloc::Global;
 use std::process::Abort;
+use std::sync::Wait;
 use std::test::Fail;
+use std::thread::Threads;
 use stock_nums::memory::NoMemory;
 
 const FIRST: &str = r#"{"do":"item","code":"B","method":"average"}
@@ -159,10 +161,15 @@ const LIMITED: &str = r#"{"record":1,"status":"accepted"}
 
 /// Runs a batch with ample memory, over streams that never fail. That it is done no clause says, since want
 /// of memory is free.
-fn check(rt: &impl Abort, alloc: Global, input: &[u8], want: &str) -> Result<(), Fail> {
+fn check(
+    rt: &(impl Abort + Threads + Wait + Sync),
+    alloc: Global,
+    input: &[u8],
+    want: &str,
+) -> Result<(), Fail> {
     let mut shelf = shelf(alloc, None)?;
     let input = Vec::from_slice(alloc, input)?;
-    let ended = run(alloc, &["batch"], &mut shelf, input, 50_000, NEVER)?;
+    let ended = run(rt, alloc, &["batch"], &mut shelf, input, 50_000, NEVER)?;
     assert_eq!(rt; ended.status, 0);
     assert!(rt; ended.output.bytes() == want.as_bytes());
     Ok(())
@@ -188,6 +195,7 @@ fn a_batch_is_answered(rt: HostRuntime) -> Result<(), Fail> {
 
 /// The status of two settles of which the first read holds one whole and the front of the next.
 fn ends(
+    rt: &(impl Threads + Wait + Sync),
     alloc: Global,
     failing: Failing,
     status: u8,
@@ -199,7 +207,7 @@ fn ends(
     input.extend_from_slice(SETTLE.as_bytes())?;
     let mut shelf = shelf(alloc, None)?;
     let piece = SETTLE.len() + 3;
-    let ended = run(alloc, &["batch"], &mut shelf, input, piece, failing)?;
+    let ended = run(rt, alloc, &["batch"], &mut shelf, input, piece, failing)?;
     Ok(
         ended.status == status
             && ended.output.bytes() == output.as_bytes()
@@ -228,7 +236,7 @@ fn a_failure_is_told(rt: HostRuntime) -> Result<(), Fail> {
         // Notes that fail change no status.
         (silent, 4, SETTLED, ""),
     ] {
-        assert!(rt; ends(alloc, failing, status, output, notes)?);
+        assert!(rt; ends(&rt, alloc, failing, status, output, notes)?);
     }
     Ok(())
 }

@@ -3,7 +3,9 @@
 use crate::running::{NEVER, joined, run, shelf};
 use std::alloc::Global;
 use std::process::Abort;
+use std::sync::Wait;
 use std::test::Fail;
+use std::thread::Threads;
 use stock_keeper::memory_shelf::MemShelf;
 use stock_nums::memory::NoMemory;
 
@@ -90,6 +92,7 @@ const BALANCES: &str = r#"{"covered":4,"report":"balance","rows":[],"status":"ok
 
 /// Whether the batch over the shelf ends so and writes these replies.
 fn writes(
+    rt: &(impl Threads + Wait + Sync),
     alloc: Global,
     shelf: &mut MemShelf,
     lines: &[&str],
@@ -98,13 +101,21 @@ fn writes(
 ) -> Result<bool, NoMemory> {
     let words = ["batch", "--file", "ledger"];
     let wanted = joined(alloc, replies)?;
-    let ended = run(alloc, &words, shelf, joined(alloc, lines)?, 50_000, NEVER)?;
+    let ended = run(
+        rt,
+        alloc,
+        &words,
+        shelf,
+        joined(alloc, lines)?,
+        50_000,
+        NEVER,
+    )?;
     Ok(ended.status == status && ended.output.bytes() == wanted.as_slice())
 }
 
 /// Runs a batch over a new keeper of whose calls one fails.
 fn check(
-    rt: &impl Abort,
+    rt: &(impl Abort + Threads + Wait + Sync),
     alloc: Global,
     failing: u64,
     lines: &[&str],
@@ -112,7 +123,7 @@ fn check(
     replies: &[&str],
 ) -> Result<(), Fail> {
     let mut shelf = shelf(alloc, Some(failing))?;
-    assert!(rt; writes(alloc, &mut shelf, lines, status, replies)?);
+    assert!(rt; writes(rt, alloc, &mut shelf, lines, status, replies)?);
     Ok(())
 }
 
@@ -138,6 +149,7 @@ fn a_ledger_is_opened_again(rt: HostRuntime) -> Result<(), Fail> {
     let alloc = rt.alloc();
     let mut shelf = shelf(alloc, Some(7))?;
     let first = writes(
+        &rt,
         alloc,
         &mut shelf,
         &[HEADS, TWO_RECEIPTS],
@@ -145,6 +157,6 @@ fn a_ledger_is_opened_again(rt: HostRuntime) -> Result<(), Fail> {
         &[FOUR, FAILED_THEN_ACCEPTED],
     )?;
     assert!(rt; first);
-    assert!(rt; writes(alloc, &mut shelf, &[BALANCE], 0, &[BALANCES])?);
+    assert!(rt; writes(&rt, alloc, &mut shelf, &[BALANCE], 0, &[BALANCES])?);
     Ok(())
 }

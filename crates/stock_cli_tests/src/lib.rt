@@ -11,3 +11,5 @@ mod keeper_tests;
 mod load_tests;
 #[cfg(test)]
 mod running;
+#[cfg(test)]
+mod serve_tests;

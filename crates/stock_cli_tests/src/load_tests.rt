@@ -2,7 +2,9 @@
 
 use crate::running::{Failing, NEVER, run, shelf};
 use std::alloc::Global;
+use std::sync::Wait;
 use std::test::Fail;
+use std::thread::Threads;
 use stock_nums::memory::NoMemory;
 
 const USAGE: &str =
@@ -12,6 +14,7 @@ const OF_FOUR: &str = "{\"covered\":9,\"records\":9,\"stock\":15,\"worth\":145}\
 
 /// Whether the run with these words ends so, and writes this. Its input has a line that no load takes.
 fn ends(
+    rt: &(impl Threads + Wait + Sync),
     alloc: Global,
     words: &[&str],
     failing: Failing,
@@ -21,7 +24,7 @@ fn ends(
 ) -> Result<bool, NoMemory> {
     let mut shelf = shelf(alloc, None)?;
     let input = Vec::from_slice(alloc, b"{\"do\":\"settle\"}\n")?;
-    let ended = run(alloc, words, &mut shelf, input, 50_000, failing)?;
+    let ended = run(rt, alloc, words, &mut shelf, input, 50_000, failing)?;
     Ok(
         ended.status == status
             && ended.output.bytes() == output.as_bytes()
@@ -41,7 +44,7 @@ fn a_load_prints_its_sums(rt: HostRuntime) -> Result<(), Fail> {
         ),
     ] {
         assert!(rt;
-            ends(alloc, &["load", count], NEVER, 0, output, "")?,
+            ends(&rt, alloc, &["load", count], NEVER, 0, output, "")?,
             "{count}"
         );
     }
@@ -62,12 +65,12 @@ fn other_words_are_no_load(rt: HostRuntime) -> Result<(), Fail> {
         "--",
     ] {
         assert!(rt;
-            ends(alloc, &["load", count], NEVER, 2, "", USAGE)?,
+            ends(&rt, alloc, &["load", count], NEVER, 2, "", USAGE)?,
             "{count}"
         );
     }
-    assert!(rt; ends(alloc, &["load"], NEVER, 2, "", USAGE)?);
-    assert!(rt; ends(alloc, &["load", "4", "4"], NEVER, 2, "", USAGE)?);
+    assert!(rt; ends(&rt, alloc, &["load"], NEVER, 2, "", USAGE)?);
+    assert!(rt; ends(&rt, alloc, &["load", "4", "4"], NEVER, 2, "", USAGE)?);
     Ok(())
 }
 
@@ -80,6 +83,7 @@ fn an_output_that_fails_is_told(rt: HostRuntime) -> Result<(), Fail> {
     };
     assert!(rt;
         ends(
+            &rt,
             alloc,
             &["load", "4"],
             write,

@@ -1,9 +1,15 @@
 //! Runs of the program over memory. Here alone the top call is made, without clauses, so that its contract is met once for all
 //! tests.
-ghost use Rattle.std.specs.Prelude.{◌<◌};
+ghost use Rattle.std.specs.Prelude.{◌<◌, All};
+ghost use Rattle.stock_io.specs.Listeners.{IsNewPeer};
 
 use std::alloc::Global;
+use std::sync::Wait;
+use std::thread::Threads;
 use stock_cli::top;
+use stock_cli::top::Finished;
+use stock_io::memory_link::MemLink;
+use stock_io::memory_listener::MemListener;
 use stock_io::memory_sink::MemSink;
 use stock_io::memory_source::MemSource;
 use stock_keeper::memory_keeper::MemKeeper;
@@ -30,12 +36,13 @@ pub const NEVER: Failing = Failing {
     note: None,
 };
 
-/// How a run ended, and what it wrote.
+/// How a run ended, what it wrote, and its listener.
 #[derive(Drop)]
 pub struct Ended {
     pub status: u8,
     pub output: MemSink,
     pub notes: MemSink,
+    pub listener: MemListener,
 }
 
 fn calls(alloc: Global, failing: Option<u64>) -> Result<Lines<u64>, NoMemory> {
@@ -67,8 +74,10 @@ pub fn joined(alloc: Global, texts: &[&str]) -> Result<Vec<u8>, NoMemory> {
     Ok(bytes)
 }
 
-/// Runs the program with these words over the shelf, and over an input that is read in pieces of so many bytes.
+/// Runs the program with these words over the shelf, and over an input that is read in pieces of so many bytes. Nobody is there to
+/// be served.
 pub fn run(
+    rt: &(impl Threads + Wait + Sync),
     alloc: Global,
     words: &[&str],
     shelf: &mut MemShelf,
@@ -78,17 +87,61 @@ pub fn run(
 ) -> Result<Ended, NoMemory>
     requires { 0 < piece }
 {
+    let input = MemSource::new(Lines::from_vec(input), piece, calls(alloc, failing.read)?);
+    run_over(
+        rt,
+        alloc,
+        words,
+        shelf,
+        Vec::new(alloc),
+        None,
+        input,
+        failing,
+    )
+}
+
+/// Runs the program with these words over the shelf, with no input, for these peers. The call of the listener with this number
+/// fails, from 1, or none.
+pub fn serve(
+    rt: &(impl Threads + Wait + Sync),
+    alloc: Global,
+    words: &[&str],
+    shelf: &mut MemShelf,
+    peers: Vec<MemLink>,
+    listener: Option<u64>,
+    failing: Failing,
+) -> Result<Ended, NoMemory>
+    requires { All IsNewPeer peers.items }
+{
+    let input = MemSource::new(Lines::new(alloc), 1, Lines::new(alloc));
+    run_over(rt, alloc, words, shelf, peers, listener, input, failing)
+}
+
+fn run_over(
+    rt: &(impl Threads + Wait + Sync),
+    alloc: Global,
+    words: &[&str],
+    shelf: &mut MemShelf,
+    peers: Vec<MemLink>,
+    listener: Option<u64>,
+    mut input: MemSource,
+    failing: Failing,
+) -> Result<Ended, NoMemory>
+    requires { All IsNewPeer peers.items }
+{
     let mut owned = Vec::new(alloc);
     for word in words {
         owned.push(word.to_string(alloc)?)?;
     }
-    let mut input = MemSource::new(Lines::from_vec(input), piece, calls(alloc, failing.read)?);
+    let listener = MemListener::new(alloc, peers, calls(alloc, listener)?)?;
     let mut output = MemSink::new(alloc, ROOM, calls(alloc, failing.write)?)?;
     let mut notes = MemSink::new(alloc, ROOM, calls(alloc, failing.note)?)?;
-    let status = top::stockd(
+    let Finished { status, listener } = top::stockd(
+        rt,
         alloc,
         owned.as_slice(),
         shelf,
+        listener,
         &mut input,
         &mut output,
         &mut notes,
@@ -97,5 +150,6 @@ pub fn run(
         status,
         output,
         notes,
+        listener,
     })
 }

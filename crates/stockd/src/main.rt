@@ -1,5 +1,5 @@
 //! `stockd`: a stock ledger. `stockd batch` answers the lines of standard input on standard output, with `--file P` over the ledger
-//! that is kept in the file P.
+//! that is kept in the file P. `stockd serve` answers requests over HTTP.
 #![tactic(auto)]
 
 use keeper_sqlite::sqlite_shelf::SqliteShelf;
@@ -7,6 +7,7 @@ use std::env::Env;
 use std::process::ExitCode;
 use std::{env, io};
 use stock_cli::top;
+use stock_io::net_listener::NetListener;
 use stock_io::standard::{StdSink, StdSource};
 
 /// The words after the program's name.
@@ -32,13 +33,15 @@ fn main(rt: HostRuntime) -> ExitCode {
     };
     let mut shelf = SqliteShelf::new(&rt);
     let mut output = StdSink::output(rt);
-    let status = top::stockd(
+    let finished = top::stockd(
+        &rt,
         alloc,
         words.as_slice(),
         &mut shelf,
+        NetListener::new(rt),
         &mut input,
         &mut output,
         &mut notes,
     );
-    ExitCode::from(status)
+    ExitCode::from(finished.status)
 }
