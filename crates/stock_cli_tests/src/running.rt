@@ -1,6 +1,6 @@
 //! Runs of the program over memory. Here alone the top call is made, without clauses, so that its contract is met once for all
 //! tests.
-ghost use Rattle.std.specs.Prelude.{◌<◌, All};
+ghost use Rattle.std.specs.Prelude.{◌<◌, ◌≤◌, All};
 ghost use Rattle.stock_io.specs.Listeners.{IsNewPeer};
 
 use std::alloc::Global;
@@ -8,12 +8,17 @@ use std::sync::Wait;
 use std::thread::Threads;
 use stock_cli::top;
 use stock_cli::top::Finished;
+use stock_io::link::Link;
+use stock_io::listener::Listener;
 use stock_io::memory_link::MemLink;
 use stock_io::memory_listener::MemListener;
 use stock_io::memory_sink::MemSink;
 use stock_io::memory_source::MemSource;
+use stock_io::sink::Sink;
+use stock_io::source::Source;
 use stock_keeper::memory_keeper::MemKeeper;
 use stock_keeper::memory_shelf::MemShelf;
+use stock_keeper::shelf::Shelf;
 use stock_keeper::tables::Tables;
 use stock_nums::lines::Lines;
 use stock_nums::memory::NoMemory;
@@ -136,7 +141,7 @@ fn run_over(
     let listener = MemListener::new(alloc, peers, calls(alloc, listener)?)?;
     let mut output = MemSink::new(alloc, ROOM, calls(alloc, failing.write)?)?;
     let mut notes = MemSink::new(alloc, ROOM, calls(alloc, failing.note)?)?;
-    let Finished { status, listener } = top::stockd(
+    let Finished { status, listener } = call(
         rt,
         alloc,
         owned.as_slice(),
@@ -152,4 +157,28 @@ fn run_over(
         notes,
         listener,
     })
+}
+
+// The top call over streams of any types, so that its contract is not worked out over those of the tests.
+fn call<
+    H: Shelf,
+    P: Link,
+    L: Listener<Peer = P> + Drop,
+    S: Source,
+    O: Sink,
+    N: Sink,
+    R: Threads + Wait + Sync,
+>(
+    rt: &R,
+    alloc: Global,
+    words: &[String],
+    shelf: &mut H,
+    listener: L,
+    input: &mut S,
+    output: &mut O,
+    notes: &mut N,
+) -> Finished<L>
+    requires outstanding { L.hang_ups listener ≤ L.accepts listener }
+{
+    top::stockd(rt, alloc, words, shelf, listener, input, output, notes)
 }
