@@ -2,4 +2,14 @@
 #![tactic(auto)]
 
 #[cfg(test)]
+mod script;
+#[cfg(test)]
+mod signals;
+#[cfg(test)]
+mod talker;
+#[cfg(test)]
+mod talkers;
+#[cfg(test)]
 mod tests;
+#[cfg(test)]
+mod waiting_peers;
