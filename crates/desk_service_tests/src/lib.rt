@@ -12,4 +12,6 @@ mod talkers;
 #[cfg(test)]
 mod tests;
 #[cfg(test)]
+mod waiting_gate;
+#[cfg(test)]
 mod waiting_peers;
