@@ -71,7 +71,6 @@ pub fn serve<K: Keeper + Send, P: Link, L: Listener<Peer = P> + Drop, R: Threads
 ) -> Result<Served<K, L>, NotServed<K, L>>
     requires desks { (0 < desks) × (desks ≤ MAX_DESK) }
     requires work { IsWorkOf book.history build }
-    requires outstanding { L.hang_ups listener ≤ L.accepts listener }
     ensures served { IfOk result (λ served. IsService
         (IsPeerServed P.left P.taken P.written P.Source.faults P.ended)
         (IsFresh P.taken P.written P.Source.faults P.ended)

@@ -1,5 +1,5 @@
 //! A listener to which peers with scripts come.
-ghost use Rattle.std.specs.Prelude.{◌≡◌, ◌<◌, OnOk, OnErr, IfOk};
+ghost use Rattle.std.specs.Prelude.{◌≡◌, ◌+◌, ◌<◌, OnOk, OnErr, IfOk};
 ghost use Rattle.stock_io.specs.Counts.{NeverFalls};
 ghost use Rattle.stock_io.specs.Nets.{new_port, new_connection, after_port_fault, after_handing_out, after_taking_back};
 
@@ -21,12 +21,12 @@ pub struct Talkers<R> {
 }
 
 impl<R> Model for Talkers<R> {
-    ghost use Rattle.std.specs.Prelude.{◌≤◌};
+    ghost use Rattle.std.specs.Prelude.{◌-◌, ◌≤◌};
     ghost use Rattle.stock_io.specs.Nets.{Port};
 
     ghost Value = { Port };
 
-    ghost view = { λ s. record { accepts = s.accepts; hang_ups = s.hang_ups; faults = s.faults } };
+    ghost view = { λ s. record { hang_ups = s.hang_ups; outstanding = s.accepts - s.hang_ups; faults = s.faults } };
 
     ghost invariant = { λ s. s.hang_ups ≤ s.accepts };
 }
@@ -61,7 +61,7 @@ impl<R> Talkers<R> {
 
     // Counts one more peer that was hung up. That it was handed out is tested once more, so that the sum is seen to fit.
     fn count_hang_up(&mut self)
-        requires { self.old.hang_ups < self.old.accepts }
+        requires { 0 < self.old.outstanding }
         ensures { self.new ≡ after_taking_back self.old }
     {
         if self.hang_ups < self.accepts {
@@ -74,16 +74,19 @@ impl<R: Wait + Send + Drop> Listener for Talkers<R> {
     type Peer = Talker<R>;
 
     ghost use Rattle.std.specs.Prelude.{None};
+    ghost use Rattle.std.proofs.Math.Nat.{le-add_right};
 
     ghost waiting = { λ _. None };
 
     ghost hung_up = { λ _. None };
 
-    ghost accepts = { λ s. s.accepts };
+    ghost accepts = { λ s. s.hang_ups + s.outstanding };
 
     ghost hang_ups = { λ s. s.hang_ups };
 
     ghost faults = { λ s. s.faults };
+
+    ghost no_more_hung_up = { λ s. le-add_right s.hang_ups s.outstanding };
 
     fn listen(&mut self, _port: u16) -> Result<(), Failed>
         ensures never_falls { NeverFalls self.old.faults self.new.faults }
@@ -96,7 +99,7 @@ impl<R: Wait + Send + Drop> Listener for Talkers<R> {
     fn accept(&mut self) -> Result<Talker<R>, Failed>
         ensures never_falls { NeverFalls self.old.faults self.new.faults }
         ensures fresh { IfOk result (λ peer. peer ≡ new_connection) }
-        ensures outstanding { OnOk result (self.new.hang_ups < self.new.accepts) }
+        ensures outstanding { OnOk result (0 < self.new.outstanding) }
         ensures after_ok { OnOk result (self.new ≡ after_handing_out self.old) }
         ensures after_failed { OnErr result (self.new ≡ after_port_fault self.old) }
     {
@@ -114,7 +117,7 @@ impl<R: Wait + Send + Drop> Listener for Talkers<R> {
 
     // A peer for which memory is wanting is dropped.
     fn hang_up(&mut self, peer: Talker<R>)
-        requires { self.old.hang_ups < self.old.accepts }
+        requires { 0 < self.old.outstanding }
         ensures { self.new ≡ after_taking_back self.old }
     {
         self.count_hang_up();

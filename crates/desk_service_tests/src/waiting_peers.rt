@@ -1,5 +1,4 @@
 //! Two peers, each of which waits for what the service does for the other one.
-ghost use Rattle.std.specs.Prelude.{◌≤◌};
 
 use crate::script::{Script, Step};
 use crate::signals::Signals;
@@ -47,9 +46,11 @@ fn have_ended<R: Wait>(listener: &Talkers<R>) -> bool {
 }
 
 // Serves the peers by two desks; none where memory is wanting.
-fn served<R: Threads + Wait + Sync>(rt: &R, alloc: Global, listener: Talkers<&R>) -> Option<Ending>
-    requires outstanding { listener.hang_ups ≤ listener.accepts }
-{
+fn served<R: Threads + Wait + Sync>(
+    rt: &R,
+    alloc: Global,
+    listener: Talkers<&R>,
+) -> Option<Ending> {
     let (book, build) = RevaluedBook::<Nowhere>::start(alloc).into_parts();
     let Ok(served) = serve(rt, alloc, book, build, listener, 2) else {
         return None;

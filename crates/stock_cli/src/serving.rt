@@ -68,7 +68,6 @@ pub(crate) fn serve_over<
     output: &mut O,
 ) -> ServiceEnd<L>
     requires desks { (0 < desks) × (desks ≤ MAX_DESK) }
-    requires outstanding { L.hang_ups listener ≤ L.accepts listener }
     ensures serves { ServesOverShelf H.Kept.tells H.tells H.plan H.faults H.kept_faults
         (heard L.waiting L.hung_up L.accepts L.hang_ups L.faults) O.written O.faults
         (IsPeerServed P.left P.taken P.written P.Source.faults P.ended)
@@ -108,7 +107,6 @@ fn serve_kept<K: Keeper + Send, P: Link, L: Listener<Peer = P> + Drop, R: Thread
 ) -> KeptEnd<K, L>
     requires settled { Within (K.tells keeper) (K.may_leave keeper) }
     requires desks { (0 < desks) × (desks ≤ MAX_DESK) }
-    requires outstanding { L.hang_ups listener ≤ L.accepts listener }
     ensures serves { LeavesKept K.tells K.faults K.plan K.calls
         (heard L.waiting L.hung_up L.accepts L.hang_ups L.faults)
         (IsPeerServed P.left P.taken P.written P.Source.faults P.ended)
@@ -147,7 +145,6 @@ fn serve_book<K: Keeper + Send, P: Link, L: Listener<Peer = P> + Drop, R: Thread
     desks: u32,
 ) -> BookEnd<K, L>
     requires desks { (0 < desks) × (desks ≤ MAX_DESK) }
-    requires outstanding { L.hang_ups listener ≤ L.accepts listener }
     ensures serves { Leaves
         (IsPeerServed P.left P.taken P.written P.Source.faults P.ended)
         (IsFresh P.taken P.written P.Source.faults P.ended) desks result.summary book result.book
@@ -174,7 +171,6 @@ fn serve_peers<K: Keeper + Send, P: Link, L: Listener<Peer = P> + Drop, R: Threa
     desks: u32,
 ) -> BookEnd<K, L>
     requires desks { (0 < desks) × (desks ≤ MAX_DESK) }
-    requires outstanding { L.hang_ups listener ≤ L.accepts listener }
     ensures serves { Leaves
         (IsPeerServed P.left P.taken P.written P.Source.faults P.ended)
         (IsFresh P.taken P.written P.Source.faults P.ended) desks result.summary book result.book

@@ -86,7 +86,6 @@ pub fn stockd<
     output: &mut O,
     notes: &mut N,
 ) -> Finished<L>
-    requires outstanding { L.hang_ups listener ≤ L.accepts listener }
 
     // The words are no batch, no load and no service exactly where the status is 2. Then nothing is taken or written, and the usage
     // is noted.
@@ -186,7 +185,6 @@ fn serve_asked<
     notes: &mut N,
 ) -> Finished<L>
     requires desks { (0 < asked.desks) × (asked.desks ≤ MAX_DESK) }
-    requires outstanding { L.hang_ups listener ≤ L.accepts listener }
     ensures serves { (end : End) × (result.status ≡ status_of end)
         × ServesOverShelf H.Kept.tells H.tells H.plan H.faults H.kept_faults
         (heard L.waiting L.hung_up L.accepts L.hang_ups L.faults) O.written O.faults

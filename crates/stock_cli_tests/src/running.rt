@@ -1,6 +1,6 @@
 //! Runs of the program over memory. Here alone the top call is made, without clauses, so that its contract is met once for all
 //! tests.
-ghost use Rattle.std.specs.Prelude.{◌<◌, ◌≤◌, All};
+ghost use Rattle.std.specs.Prelude.{◌<◌, All};
 ghost use Rattle.stock_io.specs.Listeners.{IsNewPeer};
 
 use std::alloc::Global;
@@ -177,8 +177,6 @@ fn call<
     input: &mut S,
     output: &mut O,
     notes: &mut N,
-) -> Finished<L>
-    requires outstanding { L.hang_ups listener ≤ L.accepts listener }
-{
+) -> Finished<L> {
     top::stockd(rt, alloc, words, shelf, listener, input, output, notes)
 }

@@ -1,5 +1,5 @@
 -- What the clauses of listeners say, and what contracts see of a listener in memory.
-use Rattle.std.specs.Prelude.{◌≡◌, ℕ, ◌+◌, Bool, false, Option, Some, None, List, [], ◌∷◌, ◌++◌, IfSome, ⊤}
+use Rattle.std.specs.Prelude.{◌≡◌, ℕ, ◌+◌, ◌-◌, Bool, false, Option, Some, None, List, [], ◌∷◌, ◌++◌, IfSome, ⊤}
 use Rattle.stock_io.specs.Memory.{Plan, new_plan, after_call, after_failure}
 use Rattle.stock_io.specs.Links.{PlannedLink, link_faults}
 
@@ -27,17 +27,17 @@ abbrev pub IsNewPeer : PlannedLink → Type 0
 IsNewPeer link =
     (link.source.supply.taken ≡ 0) × (link.sink.written ≡ []) × (link_faults link ≡ 0) × (link.ended ≡ false)
 
--- a listener in memory: the peers that wait, those that were hung up, how many were handed out, and which
--- calls fail
+-- a listener in memory: the peers that wait, those that were hung up, how many were handed out and were not hung up yet, and
+-- which calls fail
 pub record PlannedPeers : Type 0 where
   pub waiting : List PlannedLink
   pub hung_up : List PlannedLink
-  pub accepts : ℕ
+  pub outstanding : ℕ
   pub plan : Plan
 
 -- the listener before the first call
 abbrev pub new_peers : List PlannedLink → List ℕ → PlannedPeers
-new_peers peers failing = record { waiting = peers; hung_up = []; accepts = 0; plan = new_plan failing }
+new_peers peers failing = record { waiting = peers; hung_up = []; outstanding = 0; plan = new_plan failing }
 
 -- the listener after a call that changed no peer, and failed or not
 abbrev pub after_listen : PlannedPeers → PlannedPeers
@@ -49,8 +49,8 @@ after_failed_call peers = record peers { plan = after_failure peers.plan }
 -- the listener once a peer was handed out, and these wait
 abbrev pub after_accept : PlannedPeers → List PlannedLink → PlannedPeers
 after_accept peers rest =
-    record { waiting = rest; hung_up = peers.hung_up; accepts = peers.accepts + 1; plan = after_call peers.plan }
+    record { waiting = rest; hung_up = peers.hung_up; outstanding = peers.outstanding + 1; plan = after_call peers.plan }
 
 -- the listener once a peer was hung up
 abbrev pub after_hang_up : PlannedPeers → PlannedLink → PlannedPeers
-after_hang_up peers peer = record peers { hung_up = peers.hung_up ++ peer ∷ [] }
+after_hang_up peers peer = record peers { hung_up = peers.hung_up ++ peer ∷ []; outstanding = peers.outstanding - 1 }

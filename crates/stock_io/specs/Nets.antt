@@ -1,5 +1,5 @@
 -- What contracts see of sockets.
-use Rattle.std.specs.Prelude.{ℕ, ◌+◌, Bool, true, false}
+use Rattle.std.specs.Prelude.{ℕ, ◌+◌, ◌-◌, Bool, true, false}
 use Rattle.stock_io.specs.Counts.{raised}
 
 -- how many bytes a connection gave, how many faults there were in both directions, and whether it was ended
@@ -22,22 +22,22 @@ after_link_fault link = record link { faults = raised link.faults }
 abbrev pub after_ending : Connection → Connection
 after_ending link = record link { ended = true }
 
--- how many peers a port handed out, how many were hung up, and how many faults there were
+-- how many peers of a port were hung up, how many it handed out that were not yet, and how many faults there were
 pub record Port : Type 0 where
-  pub accepts : ℕ
   pub hang_ups : ℕ
+  pub outstanding : ℕ
   pub faults : ℕ
 
 -- a port that was not listened to yet
 abbrev pub new_port : Port
-new_port = record { accepts = 0; hang_ups = 0; faults = 0 }
+new_port = record { hang_ups = 0; outstanding = 0; faults = 0 }
 
 -- the port after one more fault, one more peer, and one more that was hung up
 abbrev pub after_port_fault : Port → Port
 after_port_fault port = record port { faults = raised port.faults }
 
 abbrev pub after_handing_out : Port → Port
-after_handing_out port = record port { accepts = port.accepts + 1 }
+after_handing_out port = record port { outstanding = port.outstanding + 1 }
 
 abbrev pub after_taking_back : Port → Port
-after_taking_back port = record port { hang_ups = port.hang_ups + 1 }
+after_taking_back port = record port { hang_ups = port.hang_ups + 1; outstanding = port.outstanding - 1 }

@@ -66,4 +66,7 @@ pub trait Listener {
         ensures waiting_kept { waiting self.new ≡ waiting self.old }
         ensures accepts_kept { accepts self.new ≡ accepts self.old }
         ensures faults_kept { faults self.new ≡ faults self.old };
+
+    // No more peers were hung up than were handed out.
+    ghost no_more_hung_up: { (listener : Self) → hang_ups listener ≤ accepts listener };
 }

@@ -24,12 +24,12 @@ pub struct MemListener {
 }
 
 impl Model for MemListener {
-    ghost use Rattle.std.specs.Prelude.{◌≡◌, ◌+◌, ◌≤◌, reverse, vec_len, vec_capacity, All, length};
+    ghost use Rattle.std.specs.Prelude.{◌≡◌, ◌+◌, ◌-◌, ◌≤◌, reverse, vec_len, vec_capacity, All, length};
     ghost use Rattle.stock_io.specs.Listeners.{PlannedPeers, IsNewPeer};
 
     ghost Value = { PlannedPeers };
 
-    ghost view = { λ s. record { waiting = reverse s.waiting.items; hung_up = s.hung_up.items; accepts = s.accepts; plan = s.plan } };
+    ghost view = { λ s. record { waiting = reverse s.waiting.items; hung_up = s.hung_up.items; outstanding = s.accepts - vec_len s.hung_up; plan = s.plan } };
 
     ghost invariant = { λ s. (vec_len s.hung_up ≤ s.accepts) × (s.accepts + vec_len s.waiting ≤ vec_capacity s.hung_up)
         × All IsNewPeer s.waiting.items };
@@ -80,16 +80,19 @@ impl Listener for MemListener {
     type Peer = MemLink;
 
     ghost use Rattle.std.specs.Prelude.{Some, length};
+    ghost use Rattle.std.proofs.Math.Nat.{le-add_right};
 
     ghost waiting = { λ s. Some s.waiting };
 
     ghost hung_up = { λ s. Some s.hung_up };
 
-    ghost accepts = { λ s. s.accepts };
+    ghost accepts = { λ s. length s.hung_up + s.outstanding };
 
     ghost hang_ups = { λ s. length s.hung_up };
 
     ghost faults = { λ s. s.plan.faults };
+
+    ghost no_more_hung_up = { λ s. le-add_right (length s.hung_up) s.outstanding };
 
     fn listen(&mut self, _port: u16) -> Result<(), Failed>
         ensures never_falls { NeverFalls self.old.plan.faults self.new.plan.faults }
@@ -110,7 +113,7 @@ impl Listener for MemListener {
         ensures planned { IsErr result ↔ (NextFails self.old.plan ⊎ (self.old.waiting ≡ [])) }
         ensures first { IfOk result (λ peer. self.old.waiting ≡ peer ∷ self.new.waiting) }
         ensures fresh { IfOk result IsNewPeer }
-        ensures outstanding { OnOk result (length self.new.hung_up < self.new.accepts) }
+        ensures outstanding { OnOk result (0 < self.new.outstanding) }
         ensures after_ok { OnOk result (self.new ≡ after_accept self.old self.new.waiting) }
         ensures after_failed { OnErr result (self.new ≡ after_failed_call self.old) }
     {
@@ -130,7 +133,7 @@ impl Listener for MemListener {
     }
 
     fn hang_up(&mut self, peer: MemLink)
-        requires { length self.old.hung_up < self.old.accepts }
+        requires { 0 < self.old.outstanding }
         ensures { self.new ≡ after_hang_up self.old peer }
     {
         match self.hung_up.push(peer) {
