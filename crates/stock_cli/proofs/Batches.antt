@@ -1,7 +1,8 @@
 -- What the steps of a batch leave it standing for.
-use Rattle.std.proofs.Common.{◌≡◌, ℕ, false, List, [], ◌∷◌, ◌++◌, refl, sym, ap, ◌∙◌, subst, append_assoc, Result, Ok, Err, OnOk}
+use Rattle.std.proofs.Common.{◌≡◌, ℕ, false, List, [], ◌∷◌, ◌++◌, refl, sym, ap, ◌∙◌, subst, append_assoc, Result, Ok, Err, OnOk, OnErr, inl, inr}
 use Rattle.std.specs.Prelude.{filter}
 use Rattle.std.specs.List.{flat_map}
+use Rattle.std.proofs.lemmas.Bool.{false≢true}
 use Rattle.std.proofs.lemmas.List.{append-nil}
 use Rattle.std.proofs.lemmas.List.Elements.{All-nil, All-cons, All-append, filter-append}
 use Rattle.std.proofs.lemmas.Grind.{flat_map-append}
@@ -17,10 +18,10 @@ use Rattle.stock_cli.specs.declared.batch.Batch.{Batch}
 use Rattle.stock_cli.specs.declared.open_line.OpenLine.{OpenLine}
 use Rattle.stock_cli.specs.InputParts.{HasNoFeed}
 use Rattle.stock_cli.specs.OpenLines.{StandsForLine}
-use Rattle.stock_cli.specs.Replies.{PacedOver, Answered, AnswersLine}
+use Rattle.stock_cli.specs.Replies.{PacedOver, Answered, AnswersLine, IsCutShort, EndsWithin, RunsShort}
 use Rattle.stock_cli.specs.Paces.{PacedStep, PacedRun}
-use Rattle.stock_cli.specs.Batches.{StandsFor, GoesOn}
-use Rattle.stock_cli.proofs.Parts.{Parted-start, Parted-more, Parted-feed, asked-parted, whole_lines_of-parted}
+use Rattle.stock_cli.specs.Batches.{StandsFor, GoesOn, StopsShort}
+use Rattle.stock_cli.proofs.Parts.{last_part, lines_of-line, lines_of-parted, lines_of-more, Parted-start, Parted-more, Parted-feed, asked-parted, whole_lines_of-parted}
 use Rattle.stock_cli.proofs.PacedRuns.{PacedRun-append, Run-paced}
 
 -- a line that is not blank has its one answer
@@ -134,6 +135,68 @@ module _ {K : Type 0} (first : Pace) where
         text_is = stands.text_is;
       }
 
+-- nothing more was done
+EndsWithin-same : (lines : List (List ℕ)) (pace : Pace) → EndsWithin lines pace pace
+EndsWithin-same [] pace = refl
+EndsWithin-same (line ∷ lines) pace = inl refl
+
+-- memory was wanting for the last line, which is none where it is empty
+EndsWithin-last : (rest : List ℕ) (old new : Pace) → IsCutShort rest old new → EndsWithin (last_part rest) old new
+unfolding last_part
+EndsWithin-last [] old new cut = absurd (false≢true (sym cut.0))
+EndsWithin-last (b ∷ rest) old new cut = inr cut
+
+module _ {K : Type 0} (first : Pace) where
+  -- memory was wanting for the bytes of a line, of which nothing was done
+  pub RunsShort-same : (batch : Batch K) (taken more written : List ℕ) → StandsFor first batch taken written → RunsShort first (lines_of (taken ++ more)) written batch.book
+  RunsShort-same batch taken more written stands =
+      record {
+        done = whole_lines_of taken;
+        rest = lines_of (stands.rest ++ more);
+        are =
+            lines_of-more taken stands.whole stands.rest more stands.parted
+            ∙ ap (λ (ls : List (List ℕ)). ls ++ lines_of (stands.rest ++ more)) (sym (whole_lines_of-parted taken stands.whole stands.rest stands.parted));
+        untold = batch.waiting.items;
+        mid = batch.book;
+        answered = Answered-whole first batch taken written stands;
+        ends = EndsWithin-same (lines_of (stands.rest ++ more)) batch.book;
+      }
+
+  -- or for the line under way, which ended
+  pub RunsShort-line : (batch : Batch K) (last : Pace) (taken after written : List ℕ)
+      → ((line : List ℕ) → StandsForLine batch.line line → IsCutShort line batch.book last)
+      → StandsFor first batch taken written → RunsShort first (lines_of (taken ++ 10 ∷ after)) written last
+  RunsShort-line batch last taken after written cut stands =
+      record {
+        done = whole_lines_of taken;
+        rest = stands.rest ∷ lines_of after;
+        are =
+            lines_of-more taken stands.whole stands.rest (10 ∷ after) stands.parted
+            ∙ ap (λ (ls : List (List ℕ)). stands.whole ++ ls) (lines_of-line stands.rest after stands.parted.open_line)
+            ∙ ap (λ (ls : List (List ℕ)). ls ++ stands.rest ∷ lines_of after) (sym (whole_lines_of-parted taken stands.whole stands.rest stands.parted));
+        untold = batch.waiting.items;
+        mid = batch.book;
+        answered = Answered-whole first batch taken written stands;
+        ends = inr (cut stands.rest stands.under_way);
+      }
+
+  -- or as the input ended
+  pub RunsShort-end : (batch : Batch K) (last : Pace) (taken written : List ℕ)
+      → ((line : List ℕ) → StandsForLine batch.line line → IsCutShort line batch.book last)
+      → StandsFor first batch taken written → RunsShort first (lines_of taken) written last
+  RunsShort-end batch last taken written cut stands =
+      record {
+        done = whole_lines_of taken;
+        rest = last_part stands.rest;
+        are =
+            lines_of-parted taken stands.whole stands.rest stands.parted
+            ∙ ap (λ (ls : List (List ℕ)). ls ++ last_part stands.rest) (sym (whole_lines_of-parted taken stands.whole stands.rest stands.parted));
+        untold = batch.waiting.items;
+        mid = batch.book;
+        answered = Answered-whole first batch taken written stands;
+        ends = EndsWithin-last stands.rest batch.book last (cut stands.rest stands.under_way);
+      }
+
 module _ {K : Type 0} where
   -- a front of a piece was fed, and this rest of it is left
   pub record HasFed (old now : Batch K) (piece rest : List ℕ) : Type 0 where
@@ -179,3 +242,35 @@ pub Answered-end : {K : Type 0} (old new : Batch K) (r : Result (Unit {0}) NoMem
     → Answered first (lines_of taken) (written ++ new.waiting.items) new.book)
 Answered-end old new (Err e) answers legal = tt
 Answered-end old new (Ok done) answers legal = λ first taken written stands. Answered-ended first old new taken written answers legal stands
+
+module _ {K : Type 0} where
+  -- memory was wanting for the rest of a piece, or for a line of it
+  pub StopsShort-rest : (old now : Batch K) (piece rest : List ℕ) → HasFed old now piece rest → StopsShort old piece now.book
+  StopsShort-rest old now piece rest so_far first taken written stands =
+      subst (λ (bytes : List ℕ). RunsShort first (lines_of bytes) written now.book)
+      (append_assoc taken so_far.fed rest ∙ ap (λ (bytes : List ℕ). taken ++ bytes) so_far.is)
+      (RunsShort-same first now (taken ++ so_far.fed) rest written (so_far.goes first taken written stands))
+
+  -- or for the answer to a line of it
+  pub StopsShort-line : (old now : Batch K) (piece rest line after : List ℕ) (kept : OpenLine) (last : Pace) → HasFed old now piece rest → rest ≡ line ++ 10 ∷ after
+      → HasNoFeed line → ((bytes : List ℕ) → StandsForLine now.line bytes → StandsForLine kept (bytes ++ line))
+      → ((bytes : List ℕ) → StandsForLine kept bytes → IsCutShort bytes now.book last) → StopsShort old piece last
+  StopsShort-line old now piece rest line after kept last so_far is no_feed added cut first taken written stands =
+      let fed = taken ++ so_far.fed in
+      subst (λ (bytes : List ℕ). RunsShort first (lines_of bytes) written last)
+      (append_assoc fed line (10 ∷ after) ∙ ap (λ (bytes : List ℕ). fed ++ bytes) (sym is)
+        ∙ append_assoc taken so_far.fed rest ∙ ap (λ (bytes : List ℕ). taken ++ bytes) so_far.is)
+      (RunsShort-line {K = K} first (record { book = now.book; line = kept; waiting = now.waiting }) last (fed ++ line) after written cut
+        (StandsFor-more first now kept fed written line no_feed added (so_far.goes first taken written stands)))
+
+-- where it was wanting for the last line
+pub RunsShort-ended : {K : Type 0} (old : Batch K) (last : Pace) (r : Result (Unit {0}) NoMemory)
+    → OnErr r ((line : List ℕ) → StandsForLine old.line line → IsCutShort line old.book last)
+    → OnErr r ((first : Pace) (taken written : List ℕ) → StandsFor first old taken written → RunsShort first (lines_of taken) written last)
+RunsShort-ended old last (Ok done) cut = tt
+RunsShort-ended old last (Err e) cut = λ first taken written stands. RunsShort-end first old last taken written cut stands
+
+-- what stands whatever came of a call, where it failed
+pub on_err_of : {A E P : Type 0} (r : Result A E) → P → OnErr r P
+on_err_of (Ok done) p = tt
+on_err_of (Err e) p = p

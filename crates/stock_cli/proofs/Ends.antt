@@ -12,10 +12,10 @@ use Rattle.stock_cli.specs.declared.end.End.{End}
 use Rattle.stock_cli.specs.declared.end.End.TheVariants.{Done, NoMemory, ReadFailed, WriteFailed, TooLong, StoreFailed, ListenFailed, Damaged}
 use Rattle.repost_worker.specs.Paces.{Pace}
 use Rattle.stock_cli.specs.Statuses.{HasCause, IsReadToEnd, max_input}
-use Rattle.stock_cli.specs.Replies.{Answered}
+use Rattle.stock_cli.specs.Replies.{Answered, RunsShort}
 use Rattle.std.proofs.lemmas.List.Elements.{All-nil}
 use Rattle.book_answers.specs.Answers.{ShowsKeptStock}
-use Rattle.stock_cli.specs.Batches.{StandsFor, GoesOn}
+use Rattle.stock_cli.specs.Batches.{StandsFor, GoesOn, StopsShort}
 use Rattle.stock_cli.specs.Ran.{Ran, UnderWay, TakesPiece, Stops, Finishes, IsOutputEnd, IsLastEnd}
 use Rattle.stock_cli.proofs.Batches.{Answered-whole}
 
@@ -32,23 +32,37 @@ Answered-unwritten first batch taken written stands waits =
     subst (λ (text : List ℕ). Answered first (whole_lines_of taken) text batch.book) (sym (append-nil written))
     (Answered-written first batch taken written stands waits)
 
+-- how far a run came where nothing more was written
+RunsShort-unwritten : (first : Pace) (lines : List (List ℕ)) (written : List ℕ) (last : Pace) → RunsShort first lines written last
+    → RunsShort first lines (written ++ []) last
+RunsShort-unwritten first lines written last short = subst (λ (text : List ℕ). RunsShort first lines text last) (sym (append-nil written)) short
+
 -- for want of memory what waits is dropped
 pub Stops-memory : {O K : Type 0} (written : O → Option (List ℕ)) (batch : Batch K) (last : Pace) (piece : List ℕ) (output : O)
-    → Stops written batch last piece output output NoMemory
-Stops-memory written batch last piece output =
+    → StopsShort batch piece last → Stops written batch last piece output output NoMemory
+Stops-memory written batch last piece output short =
     record {
       text = [];
       wrote = Appends-nil (written output);
-      says = λ left first bytes before stands waits. (bytes, piece, batch.book, refl, Answered-unwritten first batch bytes before stands waits);
+      says =
+          λ left first bytes before stands waits. (
+            (bytes, piece, batch.book, refl, Answered-unwritten first batch bytes before stands waits),
+            RunsShort-unwritten first (lines_of (bytes ++ piece)) before last (short first bytes before stands),
+          );
     }
 
 pub Finishes-memory : {O K : Type 0} (written : O → Option (List ℕ)) (batch : Batch K) (last : Pace) (output : O)
+    → ((first : Pace) (taken text : List ℕ) → StandsFor first batch taken text → RunsShort first (lines_of taken) text last)
     → Finishes written batch last output output NoMemory
-Finishes-memory written batch last output =
+Finishes-memory written batch last output short =
     record {
       text = [];
       wrote = Appends-nil (written output);
-      says = λ left first bytes before to_end stands waits. (bytes, [], batch.book, append-nil bytes, Answered-unwritten first batch bytes before stands waits);
+      says =
+          λ left first bytes before to_end stands waits. (
+            (bytes, [], batch.book, append-nil bytes, Answered-unwritten first batch bytes before stands waits),
+            RunsShort-unwritten first (lines_of bytes) before last (short first bytes before stands),
+          );
     }
 
 front_text : (before front rest waiting : List ℕ) → front ++ rest ≡ waiting → before ++ waiting ≡ (before ++ front) ++ rest
@@ -125,18 +139,23 @@ consumed_all (Some xs) (Some ys) taken took at_end = sym (took ∙ ap (λ (rest 
 pub Answered-nothing : (first : Pace) → IsLegal first.history → Answered first [] [] first
 Answered-nothing first legal = record { answers = []; run = refl; paced = refl; legal = legal; keeps = All-nil ShowsKeptStock; text_is = refl }
 
+-- and memory may have been wanting before
+RunsShort-nothing : (first : Pace) → IsLegal first.history → RunsShort first [] [] first
+RunsShort-nothing first legal =
+    record { done = []; rest = []; are = refl; untold = []; mid = first; answered = Answered-nothing first legal; ends = refl }
+
 module _ {S O : Type 0} (left : S → Option (List ℕ)) (taken read_faults : S → ℕ) (written : O → Option (List ℕ)) (write_faults : O → ℕ) where
   -- a run for which memory is wanting before it begins
-  pub Ran-no_memory : (input : S) (output : O) (first last : Pace) → IsLegal first.history
-      → Ran left taken read_faults written write_faults input input output output first last NoMemory
-  Ran-no_memory input output first last legal =
+  pub Ran-no_memory : (input : S) (output : O) (first : Pace) → IsLegal first.history
+      → Ran left taken read_faults written write_faults input input output output first first NoMemory
+  Ran-no_memory input output first legal =
       record {
         bytes = [];
         text = [];
         took = Consumes-nil (left input);
         counted = omega arith;
         wrote = Appends-nil (written output);
-        says = ([], [], first, refl, Answered-nothing first legal);
+        says = (([], [], first, refl, Answered-nothing first legal), RunsShort-nothing first legal);
         cause = (omega arith, refl, refl);
         reads = omega arith;
         writes = omega arith;

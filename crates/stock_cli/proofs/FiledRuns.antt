@@ -1,4 +1,5 @@
 -- A run over a keeper is one over the shelf that handed it out and has it back.
+use Rattle.std.specs.Prelude.{Contains}
 use Rattle.std.proofs.Common.{◌≡◌, ◌⊎◌, ◌<◌, ℕ, List, Option, Some, None, IfSome, OnSome, inl, inr, refl, sym, ap, ◌∙◌, subst, arith}
 use Rattle.stock_io.specs.Counts.{Rose, raised}
 use Rattle.stock_model.specs.History.{IsLegal}
@@ -10,12 +11,12 @@ use Rattle.stock_keeper.specs.declared.tables.Tables.{Tables}
 use Rattle.kept_tables.specs.TablesOf.{tables_of}
 use Rattle.repost_worker.specs.Openings.{state_of}
 use Rattle.repost_worker.specs.Paces.{Pace}
-use Rattle.stock_cli.specs.Filed.{end_of_refusal, IsUnopened, IsUnbegunFor, IsOpenedAs, RunsOverShelf, RunsOverKeeper}
+use Rattle.stock_cli.specs.Filed.{end_of_refusal, HasFirst, IsUnopened, IsUnbegunFor, IsOpenedAs, RunsOverShelf, RunsOverKeeper}
 use Rattle.stock_cli.specs.declared.end.End.{End}
 use Rattle.stock_cli.specs.declared.end.End.TheVariants.{Done, NoMemory, ReadFailed, WriteFailed, TooLong, StoreFailed, ListenFailed, Damaged}
 
 -- the keeper has the plan that the shelf told
-opened-plan : (told kept first : Option (List ℕ)) → IfSome told (λ numbers. kept ≡ Some numbers) → first ≡ kept
+pub opened-plan : (told kept first : Option (List ℕ)) → IfSome told (λ numbers. kept ≡ Some numbers) → first ≡ kept
     → IfSome told (λ numbers. first ≡ Some numbers)
 opened-plan None kept first plan same = tt
 opened-plan (Some numbers) kept first plan same = same ∙ plan
@@ -42,53 +43,70 @@ opened-as kept_tells keeper told plan kept_plan faults calls first same planned 
       calls = opened-calls plan kept_plan calls first.keeper.calls planned uncalled begun.count.counted;
     }
 
+-- the first call of a keeper that was not called yet is planned
+has-first : (told kept : Option (List ℕ)) (calls : ℕ) → IfSome told (λ numbers. kept ≡ Some numbers) → OnSome told (calls ≡ 0)
+    → IfSome kept (λ numbers. Contains numbers (raised calls)) → HasFirst told
+has-first None kept calls plan none planned = tt
+has-first (Some numbers) kept calls plan none planned =
+    subst (λ (n : ℕ). Contains numbers (raised n)) none
+    (subst (λ (p : Option (List ℕ)). IfSome p (λ ns. Contains ns (raised calls))) plan planned)
+
 pub unopened : {Kt : Type 0} (kept_tells : Kt → Tables → Type 0) (keeper : Kt) (told : Tables → Type 0) → TellSame told (kept_tells keeper)
-    → (end : End) (faults faults' before after back : ℕ) → before ≡ 0 → back ≡ after
-    → IsUnbegunFor end (kept_tells keeper) before after → IsUnopened kept_tells end told faults faults' back
-unopened kept_tells keeper told same NoMemory faults faults' before after back fresh is cause = tt
-unopened kept_tells keeper told same StoreFailed faults faults' before after back fresh is cause =
-    let rose : Rose 0 back = λ few. omega (arith, fresh, is, cause (omega (arith, few, is))) in inr rose
-unopened kept_tells keeper told same (Damaged damage) faults faults' before after back fresh is cause = (keeper, same, cause)
-unopened kept_tells keeper told same Done faults faults' before after back fresh is cause = absurd cause
-unopened kept_tells keeper told same ReadFailed faults faults' before after back fresh is cause = absurd cause
-unopened kept_tells keeper told same WriteFailed faults faults' before after back fresh is cause = absurd cause
-unopened kept_tells keeper told same TooLong faults faults' before after back fresh is cause = absurd cause
-unopened kept_tells keeper told same ListenFailed faults faults' before after back fresh is cause = absurd cause
+    → (end : End) (plan : Option (List ℕ)) (faults faults' : ℕ) (old new : KeeperState) (back : ℕ) → old.faults ≡ 0 → back ≡ new.faults
+    → IfSome plan (λ numbers. old.plan ≡ Some numbers) → OnSome plan (old.calls ≡ 0)
+    → IsUnbegunFor end (kept_tells keeper) old new → IsUnopened kept_tells end told plan faults faults' back
+unopened kept_tells keeper told same NoMemory plan faults faults' old new back fresh is planned uncalled cause = tt
+unopened kept_tells keeper told same StoreFailed plan faults faults' old new back fresh is planned uncalled cause =
+    let rose : Rose 0 back = λ few. omega (arith, fresh, is, cause.fault (omega (arith, few, is))) in
+    inr (rose, has-first plan old.plan old.calls planned uncalled cause.planned)
+unopened kept_tells keeper told same (Damaged damage) plan faults faults' old new back fresh is planned uncalled cause = (keeper, same, cause)
+unopened kept_tells keeper told same Done plan faults faults' old new back fresh is planned uncalled cause = absurd cause
+unopened kept_tells keeper told same ReadFailed plan faults faults' old new back fresh is planned uncalled cause = absurd cause
+unopened kept_tells keeper told same WriteFailed plan faults faults' old new back fresh is planned uncalled cause = absurd cause
+unopened kept_tells keeper told same TooLong plan faults faults' old new back fresh is planned uncalled cause = absurd cause
+unopened kept_tells keeper told same ListenFailed plan faults faults' old new back fresh is planned uncalled cause = absurd cause
 
 -- the shelf refused to open a keeper
-pub unopened-refused : {Kt : Type 0} (kept_tells : Kt → Tables → Type 0) (told : Tables → Type 0) (faults faults' kept_faults : ℕ)
-    (fault : KeepFault) (end : End) → end ≡ end_of_refusal fault → (fault ≡ keep.Failed → Rose faults faults')
-    → IsUnopened kept_tells end told faults faults' kept_faults
-unopened-refused kept_tells told faults faults' kept_faults keep.Failed end is cause =
-    subst (λ (e : End). IsUnopened kept_tells e told faults faults' kept_faults) (sym is) (inl (cause refl))
-unopened-refused kept_tells told faults faults' kept_faults keep.NoMemory end is cause =
-    subst (λ (e : End). IsUnopened kept_tells e told faults faults' kept_faults) (sym is) tt
+pub unopened-refused : {Kt : Type 0} (kept_tells : Kt → Tables → Type 0) (told : Tables → Type 0) (plan : Option (List ℕ))
+    (faults faults' kept_faults : ℕ) (fault : KeepFault) (end : End) → end ≡ end_of_refusal fault
+    → (fault ≡ keep.Failed → Rose faults faults') → IsUnopened kept_tells end told plan faults faults' kept_faults
+unopened-refused kept_tells told plan faults faults' kept_faults keep.Failed end is cause =
+    subst (λ (e : End). IsUnopened kept_tells e told plan faults faults' kept_faults) (sym is) (inl (cause refl))
+unopened-refused kept_tells told plan faults faults' kept_faults keep.NoMemory end is cause =
+    subst (λ (e : End). IsUnopened kept_tells e told plan faults faults' kept_faults) (sym is) tt
 
 module _ {H Kt S O : Type 0} (kept_tells : Kt → Tables → Type 0) (k_faults : Kt → ℕ) (k_plan : Kt → Option (List ℕ)) (k_calls : Kt → ℕ)
     (tells : H → Tables → Type 0) (plan : H → Option (List ℕ)) (faults kept_faults : H → ℕ) (left : S → Option (List ℕ))
     (taken read_faults : S → ℕ) (written : O → Option (List ℕ)) (write_faults : O → ℕ) where
   pub over-kept : (shelf shelf' : H) (keeper keeper' : Kt) (input input' : S) (output output' : O) (end : End)
       → TellSame (tells shelf) (kept_tells keeper) → k_faults keeper ≡ 0 → IfSome (plan shelf) (λ numbers. k_plan keeper ≡ Some numbers)
-      → OnSome (plan shelf) (k_calls keeper ≡ 0) → Within (kept_tells keeper') (tells shelf') → kept_faults shelf' ≡ k_faults keeper'
+      → OnSome (plan shelf) (k_calls keeper ≡ 0) → Within (kept_tells keeper') (tells shelf')
+      → IfSome (plan shelf') (λ numbers. k_plan keeper' ≡ Some numbers) → kept_faults shelf' ≡ k_faults keeper'
       → RunsOverKeeper kept_tells k_faults k_plan k_calls left taken read_faults written write_faults keeper keeper' input input' output
       output' end
       → RunsOverShelf kept_tells tells plan faults kept_faults left taken read_faults written write_faults shelf shelf' input input' output
       output' end
-  over-kept shelf shelf' keeper keeper' input input' output output' end same fresh planned uncalled back counted (inl unbegun) =
+  over-kept shelf shelf' keeper keeper' input input' output output' end same fresh planned uncalled back plans counted (inl unbegun) =
       inl (record {
         nothing_taken = unbegun.nothing_taken;
         nothing_written = unbegun.nothing_written;
         tables_stay = inr (λ s t before after. same s t before (unbegun.tables_kept t (back t after)));
-        cause = unopened kept_tells keeper (tells shelf) same end (faults shelf) (faults shelf') (k_faults keeper) (k_faults keeper')
-            (kept_faults shelf') fresh counted unbegun.cause;
+        cause =
+            unopened kept_tells keeper (tells shelf) same end (plan shelf) (faults shelf) (faults shelf')
+            (state_of (k_faults keeper) (k_plan keeper) (k_calls keeper)) (state_of (k_faults keeper') (k_plan keeper') (k_calls keeper'))
+            (kept_faults shelf') fresh counted planned uncalled unbegun.cause;
       })
-  over-kept shelf shelf' keeper keeper' input input' output output' end same fresh planned uncalled back counted (inr run) =
+  over-kept shelf shelf' keeper keeper' input input' output output' end same fresh planned uncalled back plans counted (inr run) =
       inr (record {
         first = run.first;
         last = run.last;
         opened =
             opened-as kept_tells keeper (tells shelf) (plan shelf) (k_plan keeper) (k_faults keeper) (k_calls keeper) run.first same planned
             uncalled run.tables run.legal run.begun;
-        put_back = record { tables = λ t told. run.kept t (back t told); faults = counted ∙ run.faults_are };
+        put_back = record {
+          tables = λ t told. run.kept t (back t told);
+          plan_is = opened-plan (plan shelf') (k_plan keeper') run.last.keeper.plan plans (sym run.plan_is);
+          faults = counted ∙ run.faults_are;
+        };
         ran = run.ran;
       })

@@ -35,7 +35,7 @@ HasNoFeed-below (b ∷ bytes) (suc n) h =
     (HasNoFeed-below bytes n (λ k below. h (suc k) (omega arith)))
 
 -- a line that ends with its line feed is the first line
-lines_of-line : (line more : List ℕ) → HasNoFeed line → lines_of (line ++ 10 ∷ more) ≡ line ∷ lines_of more
+pub lines_of-line : (line more : List ℕ) → HasNoFeed line → lines_of (line ++ 10 ∷ more) ≡ line ∷ lines_of more
 lines_of-line [] more h = refl
 lines_of-line (b ∷ line) more h =
     let parts = HasNoFeed-cons b line h in
@@ -70,12 +70,12 @@ whole_lines_of-rest (b ∷ rest) h =
     let parts = HasNoFeed-cons b rest h in
     rw parts.0 (ap (onto_whole b) (whole_lines_of-rest rest parts.1))
 
-lines_of-flat : (whole : List (List ℕ)) (rest : List ℕ) → HaveNoFeed whole → HasNoFeed rest → lines_of (flat_map with_feed whole ++ rest) ≡ whole ++ last_part rest
-lines_of-flat [] rest lines last = lines_of-rest rest last
-lines_of-flat (line ∷ whole) rest lines last =
-    ap lines_of (append_assoc (line ++ 10 ∷ []) (flat_map with_feed whole) rest ∙ append_assoc line (10 ∷ []) (flat_map with_feed whole ++ rest))
-    ∙ lines_of-line line (flat_map with_feed whole ++ rest) lines.0
-    ∙ ap (λ (ls : List (List ℕ)). line ∷ ls) (lines_of-flat whole rest lines.1 last)
+lines_of-flat : (whole : List (List ℕ)) (more : List ℕ) → HaveNoFeed whole → lines_of (flat_map with_feed whole ++ more) ≡ whole ++ lines_of more
+lines_of-flat [] more lines = refl
+lines_of-flat (line ∷ whole) more lines =
+    ap lines_of (append_assoc (line ++ 10 ∷ []) (flat_map with_feed whole) more ∙ append_assoc line (10 ∷ []) (flat_map with_feed whole ++ more))
+    ∙ lines_of-line line (flat_map with_feed whole ++ more) lines.0
+    ∙ ap (λ (ls : List (List ℕ)). line ∷ ls) (lines_of-flat whole more lines.1)
 
 whole_lines_of-flat : (whole : List (List ℕ)) (rest : List ℕ) → HaveNoFeed whole → HasNoFeed rest → whole_lines_of (flat_map with_feed whole ++ rest) ≡ whole
 whole_lines_of-flat [] rest lines last = whole_lines_of-rest rest last
@@ -86,7 +86,15 @@ whole_lines_of-flat (line ∷ whole) rest lines last =
 
 -- the lines of an input that has come in part, if it ended now
 pub lines_of-parted : (bytes : List ℕ) (whole : List (List ℕ)) (rest : List ℕ) → Parted bytes whole rest → lines_of bytes ≡ whole ++ last_part rest
-lines_of-parted bytes whole rest parted = ap lines_of parted.is ∙ lines_of-flat whole rest parted.lines parted.open_line
+lines_of-parted bytes whole rest parted =
+    ap lines_of parted.is ∙ lines_of-flat whole rest parted.lines
+    ∙ ap (λ (ls : List (List ℕ)). whole ++ ls) (lines_of-rest rest parted.open_line)
+
+-- and once more bytes have come
+pub lines_of-more : (bytes : List ℕ) (whole : List (List ℕ)) (rest more : List ℕ) → Parted bytes whole rest → lines_of (bytes ++ more) ≡ whole ++ lines_of (rest ++ more)
+lines_of-more bytes whole rest more parted =
+    ap (λ (bs : List ℕ). lines_of (bs ++ more)) parted.is ∙ ap lines_of (append_assoc (flat_map with_feed whole) rest more)
+    ∙ lines_of-flat whole (rest ++ more) parted.lines
 
 -- and its whole lines
 pub whole_lines_of-parted : (bytes : List ℕ) (whole : List (List ℕ)) (rest : List ℕ) → Parted bytes whole rest → whole_lines_of bytes ≡ whole

@@ -6,6 +6,7 @@ use Rattle.stock_model.specs.declared.deeds.Deed.{Deed}
 use Rattle.stock_io.specs.Counts.{Rose}
 use Rattle.stock_keeper.specs.Keeping.{Within, TellSame}
 use Rattle.stock_keeper.specs.declared.tables.Tables.{Tables}
+use Rattle.repost_worker.specs.Openings.{state_of}
 use Rattle.repost_worker.specs.Paces.{Pace}
 use Rattle.desk_service.specs.Listening.{Heard}
 use Rattle.stock_cli.specs.Filed.{IsUnopened}
@@ -14,7 +15,7 @@ use Rattle.stock_cli.specs.Serving.{summary_text, IsSettled, IsServedThen, Stops
 use Rattle.stock_cli.specs.declared.damage.Damage.{Damage}
 use Rattle.stock_cli.specs.declared.end.End.{End}
 use Rattle.stock_cli.specs.declared.end.End.TheVariants.{Done, NoMemory, ReadFailed, WriteFailed, TooLong, StoreFailed, ListenFailed, Damaged}
-use Rattle.stock_cli.proofs.FiledRuns.{opened-as, unopened}
+use Rattle.stock_cli.proofs.FiledRuns.{opened-as, opened-plan, unopened}
 
 module _ {P O : Type 0} (written : O → Option (List ℕ)) (write_faults : O → ℕ) (serves : ℕ → ℕ → List Deed → List Deed → P → P → Type 0)
     (is_fresh : P → Type 0) (desks : ℕ) (first last : Pace) (old new : Heard P) (before after : O) where
@@ -59,14 +60,15 @@ module _ {H Kt L P O : Type 0} (kept_tells : Kt → Tables → Type 0) (k_faults
     (desks : ℕ) (shelf shelf' : H) (keeper keeper' : Kt) (listener listener' : L) (output output' : O) where
   served-begun : (summary : Result (String Global) End) (end : End)
       → TellSame (tells shelf) (kept_tells keeper) → IfSome (plan shelf) (λ numbers. k_plan keeper ≡ Some numbers)
-      → OnSome (plan shelf) (k_calls keeper ≡ 0) → Within (kept_tells keeper') (tells shelf') → kept_faults shelf' ≡ k_faults keeper'
+      → OnSome (plan shelf) (k_calls keeper ≡ 0) → Within (kept_tells keeper') (tells shelf')
+      → IfSome (plan shelf') (λ numbers. k_plan keeper' ≡ Some numbers) → kept_faults shelf' ≡ k_faults keeper'
       → IsBegun kept_tells k_faults k_plan k_calls (λ first last. Leaves serves is_fresh desks summary first last (hears listener)
       (hears listener')) keeper keeper'
       → IfOk summary (λ text. IsWritten written write_faults end (string_bytes text) output output') → IfErr summary (λ e. end ≡ e)
       → OnErr summary (output' ≡ output)
       → IsServedOver kept_tells tells plan faults kept_faults hears written write_faults serves is_fresh desks shelf shelf' listener listener'
       output output' end
-  served-begun summary end same planned uncalled back counted begun wrote is unwritten =
+  served-begun summary end same planned uncalled back plans counted begun wrote is unwritten =
       let told = told-by written write_faults serves is_fresh desks begun.first begun.last (hears listener) (hears listener') output output'
       summary end begun.done wrote is unwritten in
       record {
@@ -75,40 +77,48 @@ module _ {H Kt L P O : Type 0} (kept_tells : Kt → Tables → Type 0) (k_faults
         opened =
             opened-as kept_tells keeper (tells shelf) (plan shelf) (k_plan keeper) (k_faults keeper) (k_calls keeper) begun.first same planned
             uncalled begun.tables begun.legal begun.begun;
-        put_back = record { tables = λ t told. begun.kept t (back t told); faults = counted ∙ begun.faults_are };
+        put_back = record {
+          tables = λ t told. begun.kept t (back t told);
+          plan_is = opened-plan (plan shelf') (k_plan keeper') begun.last.keeper.plan plans (sym begun.plan_is);
+          faults = counted ∙ begun.faults_are;
+        };
         served = told.0;
         told = told.1;
       }
 
   served-unbegun : (end : End) → TellSame (tells shelf) (kept_tells keeper) → k_faults keeper ≡ 0
+      → IfSome (plan shelf) (λ numbers. k_plan keeper ≡ Some numbers) → OnSome (plan shelf) (k_calls keeper ≡ 0)
       → Within (kept_tells keeper') (tells shelf') → kept_faults shelf' ≡ k_faults keeper'
-      → IsUnbegunKeeper kept_tells k_faults keeper keeper' listener listener' end → output' ≡ output
+      → IsUnbegunKeeper kept_tells k_faults k_plan k_calls keeper keeper' listener listener' end → output' ≡ output
       → ServesOverShelf kept_tells tells plan faults kept_faults hears written write_faults serves is_fresh desks shelf shelf' listener
       listener' output output' end
-  served-unbegun end same fresh back counted unbegun unwritten =
+  served-unbegun end same fresh planned uncalled back counted unbegun unwritten =
       inl (record {
         nothing_taken = unbegun.nothing_heard;
         nothing_written = unwritten;
         tables_stay = inr (λ s t before after. same s t before (unbegun.tables_kept t (back t after)));
-        cause = unopened kept_tells keeper (tells shelf) same end (faults shelf) (faults shelf') (k_faults keeper) (k_faults keeper')
-            (kept_faults shelf') fresh counted unbegun.cause;
+        cause =
+            unopened kept_tells keeper (tells shelf) same end (plan shelf) (faults shelf) (faults shelf')
+            (state_of (k_faults keeper) (k_plan keeper) (k_calls keeper)) (state_of (k_faults keeper') (k_plan keeper') (k_calls keeper'))
+            (kept_faults shelf') fresh counted planned uncalled unbegun.cause;
       })
 
   pub over-served : (summary : Result (String Global) End) (end : End)
       → TellSame (tells shelf) (kept_tells keeper) → k_faults keeper ≡ 0 → IfSome (plan shelf) (λ numbers. k_plan keeper ≡ Some numbers)
-      → OnSome (plan shelf) (k_calls keeper ≡ 0) → Within (kept_tells keeper') (tells shelf') → kept_faults shelf' ≡ k_faults keeper'
+      → OnSome (plan shelf) (k_calls keeper ≡ 0) → Within (kept_tells keeper') (tells shelf')
+      → IfSome (plan shelf') (λ numbers. k_plan keeper' ≡ Some numbers) → kept_faults shelf' ≡ k_faults keeper'
       → LeavesKept kept_tells k_faults k_plan k_calls hears serves is_fresh desks summary keeper keeper' listener listener'
       → IfOk summary (λ text. IsWritten written write_faults end (string_bytes text) output output') → IfErr summary (λ e. end ≡ e)
       → OnErr summary (output' ≡ output)
       → ServesOverShelf kept_tells tells plan faults kept_faults hears written write_faults serves is_fresh desks shelf shelf' listener
       listener' output output' end
-  over-served (Ok text) end same fresh planned uncalled back counted begun wrote is unwritten =
-      inr (served-begun (Ok text) end same planned uncalled back counted begun wrote is unwritten)
-  over-served (Err e) end same fresh planned uncalled back counted (inl unbegun) wrote is unwritten =
+  over-served (Ok text) end same fresh planned uncalled back plans counted begun wrote is unwritten =
+      inr (served-begun (Ok text) end same planned uncalled back plans counted begun wrote is unwritten)
+  over-served (Err e) end same fresh planned uncalled back plans counted (inl unbegun) wrote is unwritten =
       subst (ServesOverShelf kept_tells tells plan faults kept_faults hears written write_faults serves is_fresh desks shelf shelf' listener
-      listener' output output') (sym is) (served-unbegun e same fresh back counted unbegun unwritten)
-  over-served (Err e) end same fresh planned uncalled back counted (inr begun) wrote is unwritten =
-      inr (served-begun (Err e) end same planned uncalled back counted begun wrote is unwritten)
+      listener' output output') (sym is) (served-unbegun e same fresh planned uncalled back counted unbegun unwritten)
+  over-served (Err e) end same fresh planned uncalled back plans counted (inr begun) wrote is unwritten =
+      inr (served-begun (Err e) end same planned uncalled back plans counted begun wrote is unwritten)
 
 module _ {H Kt L P O : Type 0} (kept_tells : Kt → Tables → Type 0) (tells : H → Tables → Type 0) (plan : H → Option (List ℕ))
     (faults kept_faults : H → ℕ) (hears : L → Heard P) (written : O → Option (List ℕ)) (write_faults : O → ℕ)
@@ -151,17 +161,17 @@ abbrev IsComplete : End → Type 0
 IsComplete end = (status_of end ≡ 0) ⊎ ((status_of end ≡ 3) ⊎ (status_of end ≡ 7))
 
 -- a ledger that was not opened without a fault
-unopened-complete : {Kt : Type 0} (kept_tells : Kt → Tables → Type 0) (end : End) (told : Tables → Type 0) (before after kept : ℕ)
-    → IsUnopened kept_tells end told before after kept → CountsNoFault before after → CountsNoFault 0 kept → IsComplete end
-unopened-complete kept_tells Done told before after kept cause shelf keeper = absurd cause
-unopened-complete kept_tells NoMemory told before after kept cause shelf keeper = inr (inl refl)
-unopened-complete kept_tells ReadFailed told before after kept cause shelf keeper = absurd cause
-unopened-complete kept_tells WriteFailed told before after kept cause shelf keeper = absurd cause
-unopened-complete kept_tells TooLong told before after kept cause shelf keeper = absurd cause
-unopened-complete kept_tells StoreFailed told before after kept (inl rose) shelf keeper = absurd (no-fault-rose before after shelf rose)
-unopened-complete kept_tells StoreFailed told before after kept (inr rose) shelf keeper = absurd (no-fault-rose 0 kept keeper rose)
-unopened-complete kept_tells ListenFailed told before after kept cause shelf keeper = absurd cause
-unopened-complete kept_tells (Damaged damage) told before after kept cause shelf keeper = inr (inr refl)
+unopened-complete : {Kt : Type 0} (kept_tells : Kt → Tables → Type 0) (end : End) (told : Tables → Type 0) (plan : Option (List ℕ)) (before after kept : ℕ)
+    → IsUnopened kept_tells end told plan before after kept → CountsNoFault before after → CountsNoFault 0 kept → IsComplete end
+unopened-complete kept_tells Done told plan before after kept cause shelf keeper = absurd cause
+unopened-complete kept_tells NoMemory told plan before after kept cause shelf keeper = inr (inl refl)
+unopened-complete kept_tells ReadFailed told plan before after kept cause shelf keeper = absurd cause
+unopened-complete kept_tells WriteFailed told plan before after kept cause shelf keeper = absurd cause
+unopened-complete kept_tells TooLong told plan before after kept cause shelf keeper = absurd cause
+unopened-complete kept_tells StoreFailed told plan before after kept (inl rose) shelf keeper = absurd (no-fault-rose before after shelf rose)
+unopened-complete kept_tells StoreFailed told plan before after kept (inr failed) shelf keeper = absurd (no-fault-rose 0 kept keeper failed.0)
+unopened-complete kept_tells ListenFailed told plan before after kept cause shelf keeper = absurd cause
+unopened-complete kept_tells (Damaged damage) told plan before after kept cause shelf keeper = inr (inr refl)
 
 module _ {P O : Type 0} (written : O → Option (List ℕ)) (write_faults : O → ℕ) (serves : ℕ → ℕ → List Deed → List Deed → P → P → Type 0)
     (is_fresh : P → Type 0) (desks : ℕ) (first last : Pace) (old new : Heard P) (before after : O) (text : List ℕ) where
@@ -194,7 +204,7 @@ module _ {H Kt L P O : Type 0} (kept_tells : Kt → Tables → Type 0) (tells : 
       → CountsNoFault (hears listener).faults (hears listener').faults → CountsNoFault (write_faults output) (write_faults output')
       → (status_of end ≡ 0) ⊎ ((status_of end ≡ 3) ⊎ (status_of end ≡ 7))
   served-complete end (inl unopened) none kept heard wrote =
-      unopened-complete kept_tells end (tells shelf) (faults shelf) (faults shelf') (kept_faults shelf') unopened.cause none kept
+      unopened-complete kept_tells end (tells shelf) (plan shelf) (faults shelf) (faults shelf') (kept_faults shelf') unopened.cause none kept
   served-complete end (inr run) none kept heard wrote =
       run-complete written write_faults serves is_fresh desks run.first run.last (hears listener) (hears listener') output output'
       (summary_text run.last.history) end run.served run.told (subst (CountsNoFault 0) run.put_back.faults kept) heard wrote

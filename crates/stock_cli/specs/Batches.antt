@@ -3,13 +3,14 @@ use Rattle.std.specs.Prelude.{ℕ, ◌≡◌, List, All, ◌++◌}
 use Rattle.std.specs.List.{flat_map}
 use Rattle.stock_model.specs.declared.answers.Answer.{Answer}
 use Rattle.stock_model.specs.History.{IsLegal}
+use Rattle.stock_model.specs.InputLines.{lines_of}
 use Rattle.repost_worker.specs.Paces.{Pace}
 use Rattle.book_answers.specs.Answers.{ShowsKeptStock}
 use Rattle.stock_cli.specs.Answers.{answer_line}
 use Rattle.stock_cli.specs.declared.batch.Batch.{Batch}
 use Rattle.stock_cli.specs.InputParts.{Parted}
 use Rattle.stock_cli.specs.OpenLines.{StandsForLine}
-use Rattle.stock_cli.specs.Replies.{PacedOver}
+use Rattle.stock_cli.specs.Replies.{PacedOver, RunsShort}
 
 -- from the first state of the book on these bytes were taken and this text was written: the whole lines are answered, by what was
 -- written and by what waits, and the open line stands for the rest
@@ -27,6 +28,10 @@ pub record StandsFor {K : Type 0} (first : Pace) (batch : Batch K) (taken writte
 -- after these further bytes were taken, and nothing written
 abbrev pub GoesOn : {K : Type 0} → Batch K → List ℕ → Batch K → Type 0
 GoesOn old piece new = (first : Pace) (taken written : List ℕ) → StandsFor first old taken written → StandsFor first new (taken ++ piece) written
+
+-- memory was wanting while these further bytes were taken, and nothing was written
+abbrev pub StopsShort : {K : Type 0} → Batch K → List ℕ → Pace → Type 0
+StopsShort old piece last = (first : Pace) (taken written : List ℕ) → StandsFor first old taken written → RunsShort first (lines_of (taken ++ piece)) written last
 
 -- after all that waited was written
 abbrev pub WritesOut : {K : Type 0} → Batch K → Batch K → Type 0

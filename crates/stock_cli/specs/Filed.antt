@@ -1,8 +1,8 @@
 -- A batch over the ledger that a shelf has at a path.
-use Rattle.std.specs.Prelude.{◌≡◌, ◌⊎◌, ℕ, Option, Some, List, IfSome}
+use Rattle.std.specs.Prelude.{◌≡◌, ◌⊎◌, ℕ, Option, Some, List, IfSome, Contains}
 use Rattle.stock_io.specs.Counts.{Rose}
 use Rattle.stock_model.specs.History.{IsLegal}
-use Rattle.stock_keeper.specs.Calls.{IsDone}
+use Rattle.stock_keeper.specs.Calls.{KeeperState, IsDone, IsFailed}
 use Rattle.stock_keeper.specs.Keeping.{Within, TellSame}
 use Rattle.stock_keeper.specs.declared.fault.KeepFault.{KeepFault}
 use Rattle.stock_keeper.specs.declared.fault.KeepFault.TheVariants as keep
@@ -18,15 +18,19 @@ use Rattle.stock_cli.specs.declared.damage.Damage.TheVariants.{Head, Record, Wor
 use Rattle.stock_cli.specs.declared.end.End.{End}
 use Rattle.stock_cli.specs.declared.end.End.TheVariants.{NoMemory, StoreFailed, Damaged}
 
+-- a plan that is told has the first call
+abbrev pub HasFirst : Option (List ℕ) → Type 0
+HasFirst plan = IfSome plan (λ numbers. Contains numbers 1)
+
 -- an end before the first read: the file could not be opened, or memory was wanting
-abbrev pub IsUnopened : {Kt : Type 0} → (Kt → Tables → Type 0) → End → (Tables → Type 0) → ℕ → ℕ → ℕ → Type 0
-IsUnopened kept_tells NoMemory told faults faults' kept_faults' = Unit {0}
--- the shelf counted a fault, or the keeper that is back on it
-IsUnopened kept_tells StoreFailed told faults faults' kept_faults' = Rose faults faults' ⊎ Rose 0 kept_faults'
+abbrev pub IsUnopened : {Kt : Type 0} → (Kt → Tables → Type 0) → End → (Tables → Type 0) → Option (List ℕ) → ℕ → ℕ → ℕ → Type 0
+IsUnopened kept_tells NoMemory told plan faults faults' kept_faults' = Unit {0}
+-- the shelf counted a fault, or the keeper that is back on it, of which the plan that the shelf tells has the first call
+IsUnopened kept_tells StoreFailed told plan faults faults' kept_faults' = Rose faults faults' ⊎ (Rose 0 kept_faults' × HasFirst plan)
 -- the keeper that was handed out tells tables that are damaged so, which are those of the shelf, where both tell them
-IsUnopened {Kt} kept_tells (Damaged damage) told faults faults' kept_faults' =
+IsUnopened {Kt} kept_tells (Damaged damage) told plan faults faults' kept_faults' =
     (kept : Kt) × TellSame told (kept_tells kept) × ((t : Tables) → kept_tells kept t → HasDamage t damage)
-IsUnopened kept_tells end told faults faults' kept_faults' = ⊥
+IsUnopened kept_tells end told plan faults faults' kept_faults' = ⊥
 
 -- the book was opened over a keeper whose tables are those of its history, and those of the shelf, where both tell them, by the
 -- first call of the keeper, which has the plan that the shelf tells
@@ -38,9 +42,10 @@ pub record IsOpenedAs {Kt : Type 0} (kept_tells : Kt → Tables → Type 0) (tol
   pub plan_is : IfSome plan (λ numbers. first.keeper.plan ≡ Some numbers)
   pub calls : IfSome plan (λ numbers. first.keeper.calls ≡ 1)
 
--- the keeper that is back on the shelf has the tables of the last history, and its faults
-pub record IsPutBack (told : Tables → Type 0) (kept_faults : ℕ) (last : Pace) : Type 0 where
+-- the keeper that is back on the shelf has the tables of the last history, its faults, and the plan that the shelf tells then
+pub record IsPutBack (told : Tables → Type 0) (plan : Option (List ℕ)) (kept_faults : ℕ) (last : Pace) : Type 0 where
   pub tables : (t : Tables) → told t → t ≡ tables_of last.history
+  pub plan_is : IfSome plan (λ numbers. last.keeper.plan ≡ Some numbers)
   pub faults : kept_faults ≡ last.keeper.faults
 
 -- how a run ends over tables with this fault
@@ -56,20 +61,22 @@ abbrev pub end_of_refusal : KeepFault → End
 end_of_refusal keep.Failed = StoreFailed
 end_of_refusal keep.NoMemory = NoMemory
 
--- a keeper could not be begun with: it failed, what it tells is damaged so, or memory was wanting
-abbrev pub IsUnbegunFor : End → (Tables → Type 0) → ℕ → ℕ → Type 0
-IsUnbegunFor NoMemory told faults faults' = Unit {0}
-IsUnbegunFor StoreFailed told faults faults' = Rose faults faults'
-IsUnbegunFor (Damaged damage) told faults faults' = (t : Tables) → told t → HasDamage t damage
-IsUnbegunFor end told faults faults' = ⊥
+-- a keeper could not be begun with: its first call failed, what it tells is damaged so, or memory was wanting
+abbrev pub IsUnbegunFor : End → (Tables → Type 0) → KeeperState → KeeperState → Type 0
+IsUnbegunFor NoMemory told old new = Unit {0}
+IsUnbegunFor StoreFailed told old new = IsFailed old new
+IsUnbegunFor (Damaged damage) told old new = (t : Tables) → told t → HasDamage t damage
+IsUnbegunFor end told old new = ⊥
 
 -- nothing was taken or written then, and the keeper tells no other tables
-pub record IsUnbegun {Kt S O : Type 0} (tells : Kt → Tables → Type 0) (faults : Kt → ℕ) (keeper_before keeper_after : Kt)
+pub record IsUnbegun {Kt S O : Type 0} (tells : Kt → Tables → Type 0) (faults : Kt → ℕ) (plan : Kt → Option (List ℕ)) (calls : Kt → ℕ)
+    (keeper_before keeper_after : Kt)
     (input_before input_after : S) (output_before output_after : O) (end : End) : Type 0 where
   pub nothing_taken : input_after ≡ input_before
   pub nothing_written : output_after ≡ output_before
   pub tables_kept : Within (tells keeper_before) (tells keeper_after)
-  pub cause : IsUnbegunFor end (tells keeper_before) (faults keeper_before) (faults keeper_after)
+  pub cause : IsUnbegunFor end (tells keeper_before) (state_of (faults keeper_before) (plan keeper_before) (calls keeper_before))
+      (state_of (faults keeper_after) (plan keeper_after) (calls keeper_after))
 
 -- or the lines were answered, from the history that its tables are of to the one that they are of then
 pub record IsRunKept {Kt S O : Type 0} (tells : Kt → Tables → Type 0) (faults : Kt → ℕ) (plan : Kt → Option (List ℕ)) (calls : Kt → ℕ)
@@ -81,6 +88,7 @@ pub record IsRunKept {Kt S O : Type 0} (tells : Kt → Tables → Type 0) (fault
   pub legal : IsLegal first.history
   pub begun : IsDone (state_of (faults keeper_before) (plan keeper_before) (calls keeper_before)) first.keeper
   pub kept : (t : Tables) → tells keeper_after t → t ≡ tables_of last.history
+  pub plan_is : plan keeper_after ≡ last.keeper.plan
   pub faults_are : faults keeper_after ≡ last.keeper.faults
   pub ran : Ran left taken read_faults written write_faults input_before input_after output_before output_after first last end
 
@@ -89,7 +97,7 @@ abbrev pub RunsOverKeeper : {Kt S O : Type 0} (tells : Kt → Tables → Type 0)
     (keeper_before keeper_after : Kt) (input_before input_after : S) (output_before output_after : O) (end : End) → Type 0
 RunsOverKeeper tells faults plan calls left taken read_faults written write_faults keeper_before keeper_after input_before input_after
     output_before output_after end =
-    IsUnbegun tells faults keeper_before keeper_after input_before input_after output_before output_after end
+    IsUnbegun tells faults plan calls keeper_before keeper_after input_before input_after output_before output_after end
     ⊎ IsRunKept tells faults plan calls left taken read_faults written write_faults keeper_before keeper_after input_before input_after
     output_before output_after end
 
@@ -98,12 +106,12 @@ abbrev pub TablesStay : (Tables → Type 0) → (Tables → Type 0) → Type 0
 TablesStay before after = Within before after ⊎ TellSame before after
 
 -- it was not opened, nothing was taken or written, and the tables of the shelf stay; or it was, and the lines were answered
-pub record IsNotOpened {H Kt S O : Type 0} (kept_tells : Kt → Tables → Type 0) (tells : H → Tables → Type 0) (faults kept_faults : H → ℕ) (shelf_before shelf_after : H)
+pub record IsNotOpened {H Kt S O : Type 0} (kept_tells : Kt → Tables → Type 0) (tells : H → Tables → Type 0) (plan : H → Option (List ℕ)) (faults kept_faults : H → ℕ) (shelf_before shelf_after : H)
     (input_before input_after : S) (output_before output_after : O) (end : End) : Type 0 where
   pub nothing_taken : input_after ≡ input_before
   pub nothing_written : output_after ≡ output_before
   pub tables_stay : TablesStay (tells shelf_before) (tells shelf_after)
-  pub cause : IsUnopened kept_tells end (tells shelf_before) (faults shelf_before) (faults shelf_after) (kept_faults shelf_after)
+  pub cause : IsUnopened kept_tells end (tells shelf_before) (plan shelf_before) (faults shelf_before) (faults shelf_after) (kept_faults shelf_after)
 
 pub record IsRunOver {H Kt S O : Type 0} (kept_tells : Kt → Tables → Type 0) (tells : H → Tables → Type 0) (plan : H → Option (List ℕ)) (kept_faults : H → ℕ)
     (left : S → Option (List ℕ)) (taken read_faults : S → ℕ) (written : O → Option (List ℕ)) (write_faults : O → ℕ)
@@ -111,7 +119,7 @@ pub record IsRunOver {H Kt S O : Type 0} (kept_tells : Kt → Tables → Type 0)
   pub first : Pace
   pub last : Pace
   pub opened : IsOpenedAs kept_tells (tells shelf_before) (plan shelf_before) first
-  pub put_back : IsPutBack (tells shelf_after) (kept_faults shelf_after) last
+  pub put_back : IsPutBack (tells shelf_after) (plan shelf_after) (kept_faults shelf_after) last
   pub ran : Ran left taken read_faults written write_faults input_before input_after output_before output_after first last end
 
 abbrev pub RunsOverShelf : {H Kt S O : Type 0} (kept_tells : Kt → Tables → Type 0) (tells : H → Tables → Type 0) (plan : H → Option (List ℕ)) (faults kept_faults : H → ℕ)
@@ -119,6 +127,6 @@ abbrev pub RunsOverShelf : {H Kt S O : Type 0} (kept_tells : Kt → Tables → T
     (shelf_before shelf_after : H) (input_before input_after : S) (output_before output_after : O) (end : End) → Type 0
 RunsOverShelf kept_tells tells plan faults kept_faults left taken read_faults written write_faults shelf_before shelf_after input_before input_after
     output_before output_after end =
-    IsNotOpened kept_tells tells faults kept_faults shelf_before shelf_after input_before input_after output_before output_after end
+    IsNotOpened kept_tells tells plan faults kept_faults shelf_before shelf_after input_before input_after output_before output_after end
     ⊎ IsRunOver kept_tells tells plan kept_faults left taken read_faults written write_faults shelf_before shelf_after input_before input_after
     output_before output_after end

@@ -103,11 +103,13 @@ Tells written faults WriteFailed text before after = IsWritten written faults Wr
 Tells written faults end text before after = after ≡ before
 
 -- a keeper could not be begun with: the listener is as it was, and the keeper tells no other tables
-pub record IsUnbegunKeeper {Kt L : Type 0} (tells : Kt → Tables → Type 0) (faults : Kt → ℕ) (keeper_before keeper_after : Kt)
+pub record IsUnbegunKeeper {Kt L : Type 0} (tells : Kt → Tables → Type 0) (faults : Kt → ℕ) (plan : Kt → Option (List ℕ)) (calls : Kt → ℕ)
+    (keeper_before keeper_after : Kt)
     (listener_before listener_after : L) (end : End) : Type 0 where
   pub nothing_heard : listener_after ≡ listener_before
   pub tables_kept : Within (tells keeper_before) (tells keeper_after)
-  pub cause : IsUnbegunFor end (tells keeper_before) (faults keeper_before) (faults keeper_after)
+  pub cause : IsUnbegunFor end (tells keeper_before) (state_of (faults keeper_before) (plan keeper_before) (calls keeper_before))
+      (state_of (faults keeper_after) (plan keeper_after) (calls keeper_after))
 
 -- or its ledger was opened, and this was done from the history that its tables are of to the one that they are of then
 pub record IsBegun {Kt : Type 0} (tells : Kt → Tables → Type 0) (faults : Kt → ℕ) (plan : Kt → Option (List ℕ)) (calls : Kt → ℕ)
@@ -118,6 +120,7 @@ pub record IsBegun {Kt : Type 0} (tells : Kt → Tables → Type 0) (faults : Kt
   pub legal : IsLegal first.history
   pub begun : IsDone (state_of (faults keeper_before) (plan keeper_before) (calls keeper_before)) first.keeper
   pub kept : (t : Tables) → tells keeper_after t → t ≡ tables_of last.history
+  pub plan_is : plan keeper_after ≡ last.keeper.plan
   pub faults_are : faults keeper_after ≡ last.keeper.faults
   pub done : does first last
 
@@ -129,7 +132,7 @@ module _ {Kt L P : Type 0} (tells : Kt → Tables → Type 0) (faults : Kt → �
       IsBegun tells faults plan calls (λ first last. Leaves serves is_fresh desks (Ok text) first last (hears listener_before) (hears listener_after))
       keeper_before keeper_after
   LeavesKept (Err end) keeper_before keeper_after listener_before listener_after =
-      IsUnbegunKeeper tells faults keeper_before keeper_after listener_before listener_after end
+      IsUnbegunKeeper tells faults plan calls keeper_before keeper_after listener_before listener_after end
       ⊎ IsBegun tells faults plan calls (λ first last. Leaves serves is_fresh desks (Err end) first last (hears listener_before) (hears listener_after))
       keeper_before keeper_after
 
@@ -142,12 +145,12 @@ module _ {H Kt L P O : Type 0} (kept_tells : Kt → Tables → Type 0) (tells : 
     pub first : Pace
     pub last : Pace
     pub opened : IsOpenedAs kept_tells (tells shelf_before) (plan shelf_before) first
-    pub put_back : IsPutBack (tells shelf_after) (kept_faults shelf_after) last
+    pub put_back : IsPutBack (tells shelf_after) (plan shelf_after) (kept_faults shelf_after) last
     pub served : ServesTo serves is_fresh desks end first last (hears listener_before) (hears listener_after)
     pub told : Tells written write_faults end (summary_text last.history) output_before output_after
 
   -- that, or it was not opened, and neither the listener nor the output was used
   abbrev pub ServesOverShelf : H → H → L → L → O → O → End → Type 0
   ServesOverShelf shelf_before shelf_after listener_before listener_after output_before output_after end =
-      IsNotOpened kept_tells tells faults kept_faults shelf_before shelf_after listener_before listener_after output_before output_after end
+      IsNotOpened kept_tells tells plan faults kept_faults shelf_before shelf_after listener_before listener_after output_before output_after end
       ⊎ IsServedOver shelf_before shelf_after listener_before listener_after output_before output_after end

@@ -9,7 +9,7 @@ use Rattle.stock_cli.specs.declared.end.End.{End}
 use Rattle.stock_cli.specs.declared.end.End.TheVariants.{Done, NoMemory, ReadFailed, WriteFailed, TooLong, StoreFailed, ListenFailed, Damaged}
 use Rattle.repost_worker.specs.Paces.{Pace}
 use Rattle.stock_cli.specs.Damages.{damage_note}
-use Rattle.stock_cli.specs.Replies.{Answered}
+use Rattle.stock_cli.specs.Replies.{Answered, RunsShort}
 
 -- the words are exactly the one word `batch`
 abbrev pub IsBatch : List (String Global) → Type 0
@@ -74,9 +74,10 @@ IsReadToEnd left taken = IfSome left (λ all. taken ≡ all)
 abbrev pub Says : End → Pace → Pace → Option (List ℕ) → List ℕ → List ℕ → Type 0
 -- the replies to all lines, a last one without a line feed included
 Says Done first last left taken text = IsReadToEnd left taken × Answered first (lines_of taken) text last
--- the replies to the whole lines of a front of them, after which the book may have gone on
+-- the replies to the whole lines of a front of them; the book may have answered more lines than were told, and begun one more
 Says NoMemory first last left taken text =
-    (front rest : List ℕ) × (mid : Pace) × (front ++ rest ≡ taken) × Answered first (whole_lines_of front) text mid
+    ((front rest : List ℕ) × (mid : Pace) × (front ++ rest ≡ taken) × Answered first (whole_lines_of front) text mid)
+    × RunsShort first (lines_of taken) text last
 -- the replies to all whole lines
 Says ReadFailed first last left taken text = Answered first (whole_lines_of taken) text last
 Says TooLong first last left taken text = Answered first (whole_lines_of taken) text last

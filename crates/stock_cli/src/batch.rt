@@ -28,8 +28,8 @@ impl<K: Keeper> Batch<K> {
     ghost use Rattle.stock_model.specs.History.{IsLegal};
     ghost use Rattle.repost_worker.specs.Paces.{Pace};
     ghost use Rattle.stock_cli.specs.OpenLines.{StandsForLine};
-    ghost use Rattle.stock_cli.specs.Replies.{Answered, AnswersLine};
-    ghost use Rattle.stock_cli.specs.Batches.{StandsFor, GoesOn, WritesOut};
+    ghost use Rattle.stock_cli.specs.Replies.{Answered, AnswersLine, IsCutShort, RunsShort};
+    ghost use Rattle.stock_cli.specs.Batches.{StandsFor, GoesOn, StopsShort, WritesOut};
 
     /// The batch before its first byte: a book and no line. It takes no memory.
     pub fn new(alloc: Global, book: RevaluedBook<K>) -> Batch<K>
@@ -49,9 +49,10 @@ impl<K: Keeper> Batch<K> {
     ///
     /// # Errors
     ///
-    /// `NoMemory`: the batch stands for nothing then.
+    /// `NoMemory`: some of the lines were answered, and perhaps the next one begun. The batch stands for nothing then.
     pub fn feed(&mut self, alloc: Global, piece: &[u8]) -> Result<(), NoMemory>
-        ensures { OnOk result (GoesOn self.old piece.now self.new) }
+        ensures goes_on { OnOk result (GoesOn self.old piece.now self.new) }
+        ensures cut_short { OnErr result (StopsShort self.old piece.now self.new.book) }
     {
         let mut rest = piece;
         while let Some((line, after)) = split_line(rest) {
@@ -71,6 +72,8 @@ impl<K: Keeper> Batch<K> {
     pub fn end_input(&mut self, alloc: Global) -> Result<(), NoMemory>
         ensures answered { OnOk result ((first : Pace) (taken written : List ℕ) → StandsFor first self.old taken written
             → Answered first (lines_of taken) (written ++ self.new.waiting.items) self.new.book) }
+        ensures cut_short { OnErr result ((first : Pace) (taken written : List ℕ) → StandsFor first self.old taken written
+            → RunsShort first (lines_of taken) written self.new.book) }
         ensures blank { IsTrue self.old.line.blank → IsOk result }
     {
         self.answer_line(alloc)
@@ -105,6 +108,7 @@ impl<K: Keeper> Batch<K> {
 
     fn end_line(&mut self, alloc: Global) -> Result<(), NoMemory>
         ensures goes_on { OnOk result (GoesOn self.old (10 ∷ []) self.new) }
+        ensures cut_short { OnErr result ((line : List ℕ) → StandsForLine self.old.line line → IsCutShort line self.old.book self.new.book) }
         ensures blank { IsTrue self.old.line.blank → IsOk result }
     {
         self.answer_line(alloc)?;
@@ -116,6 +120,7 @@ impl<K: Keeper> Batch<K> {
     fn answer_line(&mut self, alloc: Global) -> Result<(), NoMemory>
         ensures answers { OnOk result ((line : List ℕ) → StandsForLine self.old.line line → AnswersLine line self.old.book self.new.book self.old.waiting.items self.new.waiting.items) }
         ensures legal { OnOk result (IsLegal self.old.book.history → IsLegal self.new.book.history) }
+        ensures cut_short { OnErr result ((line : List ℕ) → StandsForLine self.old.line line → IsCutShort line self.old.book self.new.book) }
         ensures blank { IsTrue self.old.line.blank → IsOk result }
     {
         if self.line.blank {

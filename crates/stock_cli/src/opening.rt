@@ -13,6 +13,7 @@ use stock_keeper::keeper::Keeper;
 /// The keeper of a book, for good.
 pub(crate) fn keeper_of<K: Keeper>(book: RevaluedBook<K>) -> K
     ensures kept { IsKept (K.tells result) (K.may_leave result) book.history }
+    ensures plan { K.plan result ≡ book.keeper.plan }
     ensures faults { K.faults result ≡ book.keeper.faults }
 {
     book.into_book().into_keeper()

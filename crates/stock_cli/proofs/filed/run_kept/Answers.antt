@@ -17,6 +17,7 @@ returns-in-Ok g c =
       legal = c.in-Ok.ensures.legal;
       begun = c.in-Ok.ensures.done;
       kept = c.keeper_of.ensures.kept.told;
+      plan_is = c.keeper_of.ensures.plan;
       faults_are = c.keeper_of.ensures.faults;
       ran =
           subst (λ (last : Pace). Ran g.S.Source.left g.S.Source.taken g.S.Source.faults g.O.Sink.written g.O.Sink.faults c.args.input.now

@@ -12,5 +12,5 @@ returns g c =
     g.H.Shelf.faults g.H.Shelf.kept_faults g.S.Source.left g.S.Source.taken g.S.Source.faults g.O.Sink.written g.O.Sink.faults
     c.args.shelf.now c.put_back.new.self c.in-Ok-open_keeper.keeper c.run_kept-end.result.keeper c.args.input.now c.run_kept-end.new.input
     c.args.output.now c.run_kept-end.new.output c.run_kept-end.result.end c.in-Ok-open_keeper.ensures.tables c.in-Ok-open_keeper.ensures.fresh
-    c.in-Ok-open_keeper.ensures.plan c.in-Ok-open_keeper.ensures.uncalled c.put_back.ensures.tables c.put_back.ensures.kept_faults
+    c.in-Ok-open_keeper.ensures.plan c.in-Ok-open_keeper.ensures.uncalled c.put_back.ensures.tables c.put_back.ensures.plan c.put_back.ensures.kept_faults
     c.run_kept-end.ensures

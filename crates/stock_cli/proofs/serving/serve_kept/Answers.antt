@@ -19,6 +19,7 @@ returns-in-Ok-clause-serves g c =
       legal = c.in-Ok.ensures.legal;
       begun = c.in-Ok.ensures.done;
       kept = c.keeper_of.ensures.kept.told;
+      plan_is = c.keeper_of.ensures.plan;
       faults_are = c.keeper_of.ensures.faults;
       done = c.serve_book-summary.ensures.serves;
     })

@@ -15,7 +15,7 @@ returns-in-Err-clause-serves g c =
       nothing_written = refl;
       tables_stay = inl refused.ensures.tables_kept;
       cause =
-          unopened-refused g.H.Kept.Keeper.tells (g.H.Shelf.tells c.args.shelf.now) (g.H.Shelf.faults c.args.shelf.now)
+          unopened-refused g.H.Kept.Keeper.tells (g.H.Shelf.tells c.args.shelf.now) (g.H.Shelf.plan c.args.shelf.now) (g.H.Shelf.faults c.args.shelf.now)
           (g.H.Shelf.faults c.open_keeper.new.self) (g.H.Shelf.kept_faults c.open_keeper.new.self) refused.fault
           c.end_of_refusal.result c.end_of_refusal.ensures (λ is. refused.ensures.cause (ap Err is));
     })
@@ -32,5 +32,5 @@ returns-clause-serves g c =
     (IsFresh g.P.Source.taken g.P.Sink.written g.P.Source.faults g.P.Link.ended) c.args.desks
     c.args.shelf.now c.put_back.new.self opened.keeper served.result.keeper c.args.listener served.result.listener c.args.output.now
     c.write_summary-end.new.output served.result.summary c.write_summary-end.result opened.ensures.tables opened.ensures.fresh
-    opened.ensures.plan opened.ensures.uncalled c.put_back.ensures.tables c.put_back.ensures.kept_faults served.ensures.serves
+    opened.ensures.plan opened.ensures.uncalled c.put_back.ensures.tables c.put_back.ensures.plan c.put_back.ensures.kept_faults served.ensures.serves
     c.write_summary-end.ensures.written c.write_summary-end.ensures.end_kept c.write_summary-end.ensures.nothing_written

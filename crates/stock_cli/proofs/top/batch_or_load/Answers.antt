@@ -236,7 +236,7 @@ returns-in-Err-clause-run g c batch = (
   c.without_memory.ensures.status,
   first_pace,
   Ran-no_memory g.S.Source.left g.S.Source.taken g.S.Source.faults g.O.Sink.written g.O.Sink.faults c.args.input.now
-      c.args.output.now first_pace first_pace tt,
+      c.args.output.now first_pace tt,
 )
 
 pub returns-in-Err-clause-over : goal.returns-in-Err-clause-over

@@ -7,7 +7,7 @@ use Rattle.stock_cli.proofs.Ends.{Finishes-memory, Finishes-write}
 use Rattle.stock_cli.proofs.top.finish.Goals as goal
 
 pub returns-in_default-clause-finishes : goal.returns-in_default-clause-finishes
-returns-in_default-clause-finishes g c = Finishes-memory g.O.Sink.written c.args.batch.now c.end_input.new.self.book c.args.output.now
+returns-in_default-clause-finishes g c = Finishes-memory g.O.Sink.written c.args.batch.now c.end_input.new.self.book c.args.output.now c.in_default.ensures.cut_short
 
 pub returns-in_default-write_out-clause-finishes : goal.returns-in_default-write_out-clause-finishes
 returns-in_default-write_out-clause-finishes g c =

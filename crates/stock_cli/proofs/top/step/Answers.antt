@@ -7,10 +7,10 @@ use Rattle.stock_cli.proofs.Ends.{Stops-memory, Stops-write}
 use Rattle.stock_cli.proofs.top.step.Goals as goal
 
 pub returns-in_default-clause-stops : goal.returns-in_default-clause-stops
-returns-in_default-clause-stops g c = Stops-memory g.O.Sink.written c.args.batch.now c.feed.new.self.book c.args.piece.now c.args.output.now
+returns-in_default-clause-stops g c = Stops-memory g.O.Sink.written c.args.batch.now c.feed.new.self.book c.args.piece.now c.args.output.now c.in_default.ensures.cut_short
 
 pub returns-in_default-write_out-clause-stops : goal.returns-in_default-write_out-clause-stops
 returns-in_default-write_out-clause-stops g c =
     subst (λ (last : Pace). Stops g.O.Sink.written c.args.batch.now last c.args.piece.now c.args.output.now c.write_out.new.output WriteFailed)
     (sym c.write_out.ensures.book)
-    (Stops-write g.O.Sink.written c.args.batch.now c.feed.new.self c.args.piece.now c.args.output.now c.write_out.new.output c.in-Ok.ensures c.in_default-write_out.ensures.front)
+    (Stops-write g.O.Sink.written c.args.batch.now c.feed.new.self c.args.piece.now c.args.output.now c.write_out.new.output c.in-Ok.ensures.goes_on c.in_default-write_out.ensures.front)
