@@ -1,5 +1,5 @@
 -- Where a bound falls in blocks side by side.
-use Rattle.std.proofs.Common.{◌≡◌, ℕ, suc, ◌+◌, ◌-◌, ◌<◌, Bool, true, false, get_or, List, [], ◌∷◌, ◌++◌, length, take, drop, refl, sym, ap, ◌∙◌, arith, length-append, inl, inr}
+use Rattle.std.proofs.Common.{◌≡◌, ℕ, suc, ◌+◌, ◌-◌, ◌<◌, Bool, true, false, get_or, List, [], ◌∷◌, ◌++◌, length, take, drop, refl, sym, ap, subst, ◌∙◌, arith, length-append, inl, inr}
 use Rattle.std.specs.List.{All}
 use Rattle.std.specs.List.Sorted.{IsPartitionedBy, IsPartitionPoint}
 use Rattle.std.proofs.lemmas.Bool.{cases_lt}
@@ -40,6 +40,11 @@ inside bs i o d within own =
     let rest = joined (drop (suc i) bs) in
     ap (λ xs. get_or xs (length front + o) d) (joined-around bs i within) ∙ get_or-append-add front (b ++ rest) o d ∙ get_or_append_left b rest d o own
 
+-- a bound does not fall before an item that comes before it
+first-fails : {T : Type 0} (test : T → Bool) (b : List T) → 0 < length b → first_passes test b ≡ true → HasSides test b 0 → ⊥
+first-fails test [] any passes own = omega (arith, any)
+first-fails test (x ∷ b) any passes own = differ (test x) passes (own.after x any)
+
 none-first : {T : Type 0} (test : T → Bool) (bs : List (List T)) (d : T) → All IsFilled bs → HasSides (first_passes test) bs 0 → 0 < length (joined bs)
     → test (get_or (joined bs) 0 d) ≡ false
 none-first test [] d filled sides some = absurd (omega (arith, some))
@@ -75,6 +80,14 @@ after-block test bs n d filled blocks some at is less =
           absurd (omega (arith, size, all, less))
     ]
 
+-- a bound does not fall before the first item of a block that begins before it
+pub after-first : {T : Type 0} (test : T → Bool) (bs : List (List T)) (n : ℕ) → All IsFilled bs → HasSides (first_passes test) bs n → 0 < n
+    → HasSides test (block_at bs (n - 1)) 0 → ⊥
+after-first test bs n filled blocks some own =
+    let b = block_at bs (n - 1) in
+    let any : 0 < length b = (filled (n - 1) [] (omega (arith, some, blocks.within))).some in
+    first-fails test b any (blocks.before [] some) own
+
 -- the last block that begins before the bound, and where the bound falls there
 pub sides-joined : {T : Type 0} (test : T → Bool) (bs : List (List T)) (n o : ℕ) → All IsFilled bs → HasSides (first_passes test) bs n → 0 < n
     → HasSides test (block_at bs (n - 1)) o → HasSides test (joined bs) (length (joined (take (n - 1) bs)) + o)
@@ -98,7 +111,7 @@ sides-joined {T = T} test bs n o filled blocks some own =
                 ap (λ k. test (get_or (joined bs) k d)) (sym step) ∙ ap test (inside bs i (o - 1) d here (omega (arith, later, own.within))) ∙ own.before d later
             | inr none ↦
                 let zero_is : o ≡ 0 = omega (arith, none) in
-                absurd (differ (test (get_or b 0 d)) (sym (first-is test b d any) ∙ blocks.before [] some) (ap (λ k. test (get_or b k d)) (sym zero_is) ∙ own.after d (omega (arith, none, any))))
+                absurd (after-first test bs n filled blocks some (subst (HasSides test b) zero_is own))
           ];
       after =
           λ d less.
@@ -107,3 +120,21 @@ sides-joined {T = T} test bs n o filled blocks some own =
             | inr whole ↦ after-block test bs n d filled blocks some at (omega (arith, whole, own.within)) less
           ];
     }
+
+-- in a list of which those that pass come first there is one index for it
+not-less : {T : Type 0} (test : T → Bool) (xs : List T) (a b : ℕ) → IsPartitionedBy test xs → HasSides test xs a → HasSides test xs b → a < b → ⊥
+not-less test [] a b parted first second less = omega (arith, less, second.within)
+not-less test (x ∷ xs) a b parted first second less =
+    let some : 0 < b = omega (arith, less) in
+    let last : b - 1 < length (x ∷ xs) = omega (arith, second.within, some) in
+    differ (test (get_or (x ∷ xs) a x)) (parted a (b - 1) x (omega (arith, less)) last (second.before x some)) (first.after x (omega (arith, less, second.within)))
+
+pub sides-same : {T : Type 0} (test : T → Bool) (xs : List T) (a b : ℕ) → IsPartitionedBy test xs → HasSides test xs a → HasSides test xs b → a ≡ b
+sides-same test xs a b parted first second =
+    elim (cases_lt a b) [
+      | inl less ↦ absurd (not-less test xs a b parted first second less)
+      | inr other ↦ elim (cases_lt b a) [
+        | inl more ↦ absurd (not-less test xs b a parted second first more)
+        | inr same ↦ omega (arith, other, same)
+      ]
+    ]

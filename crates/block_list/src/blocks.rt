@@ -192,6 +192,7 @@ pub(crate) fn gap_before<T: Copy, W: Weigh<T>, B: Bound<T>>(
     requires filled { All IsFilled blocks.now }
     ensures gap { IsGap blocks.now (length (joined (take result.block blocks.now)) + result.index) result.block result.index }
     ensures sides { HasSides (B.above bound.now) (joined blocks.now) (length (joined (take result.block blocks.now)) + result.index) }
+    ensures first { result.index ≡ 0 → result.block ≡ 0 }
 {
     let count = search(blocks, &Begins { bound });
     if count == 0 {
@@ -379,26 +380,20 @@ pub(crate) fn take_out<T: Copy, W: Weigh<T>>(
     }
 }
 
-/// Puts an item in the place of the one at an index. It answers in which block.
-pub(crate) fn replace<T: Copy, W: Weigh<T>>(
-    blocks: &mut Vec<Block<T, W>>,
-    heads: &[Head],
-    index: usize,
-    item: T,
-) -> usize
-    requires heads { AreHeads W.weight heads.now blocks.old.items }
-    requires within { index < length (joined blocks.old.items) }
+/// Puts an item in the place of another one.
+pub(crate) fn replace<T: Copy, W: Weigh<T>>(blocks: &mut Vec<Block<T, W>>, spot: Spot, item: T)
+    requires within { spot.block < length blocks.old.items }
+    requires inside { spot.index < length (block_at blocks.old.items spot.block) }
     requires filled { All IsFilled blocks.old.items }
-    ensures items { joined blocks.new.items ≡ slice_set (joined blocks.old.items) index item }
-    ensures changed { ChangesOnly (Some result) blocks.old.items blocks.new.items }
+    ensures items { (at : ℕ) → IsSpot blocks.old.items at spot.block spot.index → joined blocks.new.items ≡ slice_set (joined blocks.old.items) at item }
+    ensures len { length (joined blocks.new.items) ≡ length (joined blocks.old.items) }
+    ensures changed { ChangesOnly (Some spot.block) blocks.old.items blocks.new.items }
     ensures filled { All IsFilled blocks.new.items }
     ensures room { vec_capacity blocks.new ≡ vec_capacity blocks.old }
     ensures count { vec_len blocks.new ≡ vec_len blocks.old }
     ensures pressure { pressure blocks.new.items ≡ pressure blocks.old.items }
 {
-    let spot = spot_of(heads, blocks.as_slice(), index);
     blocks[spot.block].set(spot.index, item);
-    spot.block
 }
 
 /// How many empty blocks are enough for `n` more items beside so many blocks. Half a block of items is put in before a block is

@@ -1,5 +1,5 @@
 //! Where a bound falls in a list.
-ghost use Rattle.std.specs.Prelude.{◌≡◌, ◌≤◌, Bool, length};
+ghost use Rattle.std.specs.Prelude.{◌≡◌, ◌≤◌, Bool, length, IsTrue};
 ghost use Rattle.block_list.specs.Bounds.{HasSides};
 
 /// A bound in a list whose items are in order: some come before it, and then the others.
@@ -18,10 +18,24 @@ struct Span {
     high: usize,
 }
 
+/// Whether the last item comes before the bound, if there is one, so that the bound falls at the end.
+fn is_past_all<T, B: Bound<T>>(items: &[T], bound: &B) -> bool
+    ensures { IsTrue result → HasSides (B.above bound.now) items.now (length items.now) }
+{
+    match items {
+        [.., last] => bound.is_above(last),
+        [] => true,
+    }
+}
+
 /// An index before which there is an item before the bound, if any, and at which there is one that is not.
 pub(crate) fn search<T, B: Bound<T>>(items: &[T], bound: &B) -> usize
     ensures { HasSides (B.above bound.now) items.now result }
 {
+    // Most often a list is asked at its end.
+    if is_past_all(items, bound) {
+        return items.len();
+    }
     let mut span = Span {
         low: 0,
         high: items.len(),

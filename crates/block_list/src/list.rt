@@ -2,9 +2,10 @@
 ghost use Rattle.std.specs.Prelude.{◌≡◌, ◌+◌, ◌<◌, ◌≤◌, ◌^◌, ℕ, [], Some, length, insert, remove, take, drop, slice_get, slice_set, unsigned_abs, true, false, OnOk};
 ghost use Rattle.std.specs.Option.{option_copied};
 ghost use Rattle.std.specs.List.Sorted.{IsPartitionedBy, IsPartitionPoint};
-ghost use Rattle.block_list.specs.Bounds.{HasSides};
+ghost use Rattle.block_list.specs.Bounds.{HasSides, get_before};
 ghost use Rattle.block_list.specs.Sums.{total, IsFirstBelow};
 
+use crate::at_bound::{spot_before, spot_from};
 use crate::block::Block;
 use crate::blocks::{partition_point, put, put_before, replace, supply, take_out};
 use crate::bound::Bound;
@@ -77,6 +78,24 @@ impl<T: Copy, W: Weigh<T>> BlockList<T, W> {
         }
     }
 
+    /// The first item that does not come before a bound, as its index would say, without the index. None exactly where all come
+    /// before.
+    pub fn first_from<B: Bound<T>>(&self, bound: &B) -> Option<&T>
+        ensures { (at : ℕ) × HasSides (B.above bound.now) self.now.items at × (option_copied result ≡ slice_get self.now.items at) }
+    {
+        let spot = spot_from(self.blocks.as_slice(), bound)?;
+        self.blocks[spot.block].get(spot.index)
+    }
+
+    /// The item after which a bound falls, as its index would say, without the index. None exactly where the bound falls before
+    /// all.
+    pub fn last_before<B: Bound<T>>(&self, bound: &B) -> Option<&T>
+        ensures { (at : ℕ) × HasSides (B.above bound.now) self.now.items at × (option_copied result ≡ get_before self.now.items at) }
+    {
+        let spot = spot_before(self.blocks.as_slice(), bound)?;
+        self.blocks[spot.block].get(spot.index)
+    }
+
     /// The items from an index on that stand side by side: to walk over all, go on after them.
     pub fn run_from(&self, index: usize) -> &[T]
         requires { index < length self.now.items }
@@ -143,8 +162,21 @@ impl<T: Copy, W: Weigh<T>> BlockList<T, W> {
         ensures items { self.new.items ≡ slice_set self.old.items index item }
         ensures room { self.new.spare ≡ self.old.spare }
     {
-        let block = replace(&mut self.blocks, self.heads.as_slice(), index, item);
-        renew(&mut self.heads, self.blocks.as_slice(), Some(block));
+        let spot = spot_of(self.heads.as_slice(), self.blocks.as_slice(), index);
+        replace(&mut self.blocks, spot, item);
+        renew(&mut self.heads, self.blocks.as_slice(), Some(spot.block));
+    }
+
+    /// Puts an item in the place of the first one that does not come before a bound, if there is one, as its index would say,
+    /// without the index. It takes no memory.
+    pub fn set_first_from<B: Bound<T>>(&mut self, bound: &B, item: T)
+        ensures items { (at : ℕ) × HasSides (B.above bound.now) self.old.items at × (self.new.items ≡ slice_set self.old.items at item) }
+        ensures room { self.new.spare ≡ self.old.spare }
+    {
+        if let Some(spot) = spot_from(self.blocks.as_slice(), bound) {
+            replace(&mut self.blocks, spot, item);
+            renew(&mut self.heads, self.blocks.as_slice(), Some(spot.block));
+        }
     }
 
     /// Makes room for `n` more items. The items stay as they are, and no room is lost.

@@ -173,3 +173,44 @@ fn passes_groups_of_blocks(rt: HostRuntime) -> Result<(), Fail> {
     assert_eq!(rt; (enough.index, enough.before), (2_299, 2_638_899));
     Ok(())
 }
+
+// What is found at a bound, by its index and without it.
+fn is_found_at(list: &BlockList<i32, Number>, number: i32) -> bool {
+    let bound = Below { number };
+    let index = list.partition_point(&bound);
+    let before = if index == 0 {
+        None
+    } else {
+        list.get(index - 1)
+    };
+    list.first_from(&bound) == list.get(index) && list.last_before(&bound) == before
+}
+
+#[test]
+fn finds_items_at_bounds(rt: HostRuntime) -> Result<(), Fail> {
+    let mut list = in_order(rt.alloc())?;
+    for number in [0, 1, 2, 64, 65, 127, 128, 129, 254, 255, 300, 301] {
+        assert!(rt; is_found_at(&list, number));
+    }
+    assert!(rt; list.first_from(&Below { number: 128 }) == Some(&128));
+    assert!(rt; list.last_before(&Below { number: 128 }) == Some(&127));
+    assert!(rt; list.first_from(&Below { number: 301 }).is_none());
+    assert!(rt; list.last_before(&Below { number: 1 }).is_none());
+    list.set_first_from(&Below { number: 128 }, 1_128);
+    list.set_first_from(&Below { number: 2_000 }, 5);
+    assert!(rt; list.get(127) == Some(&1_128));
+    assert_eq!(rt; list.len(), 300);
+    assert_eq!(rt; list.sum_before(300), 46_150);
+    Ok(())
+}
+
+#[test]
+fn finds_nothing_in_an_empty_list(rt: HostRuntime) -> Result<(), Fail> {
+    let mut list: BlockList<i32, Number> = BlockList::new(rt.alloc());
+    let bound = Below { number: 1 };
+    assert!(rt; list.first_from(&bound).is_none());
+    assert!(rt; list.last_before(&bound).is_none());
+    list.set_first_from(&bound, 1);
+    assert_eq!(rt; list.len(), 0);
+    Ok(())
+}

@@ -1,8 +1,9 @@
 -- The bound falls in the last block that begins before it, or before all.
 use Rattle.std.proofs.Common.{ℕ, ◌-◌, ◌<◌, List, [], length, refl, ◌∙◌, subst, arith}
 use Rattle.std.proofs.lemmas.List.{get_or_default}
+use Rattle.block_list.specs.Blocks.{block_at}
 use Rattle.block_list.specs.Bounds.{HasSides, first_passes}
-use Rattle.block_list.proofs.Sides.{sides-none, sides-joined}
+use Rattle.block_list.proofs.Sides.{after-first, sides-none, sides-joined}
 use Rattle.block_list.proofs.blocks.gap_before.Goals as goal
 
 pub returns-then-count-eq0-clause-sides : goal.returns-then-count-eq0-clause-sides
@@ -29,3 +30,13 @@ returns-clause-sides g c =
     let read = c.as_slice.ensures ∙ c.index-blocks-block.is ∙ get_or_default bs (n - 1) c.index-blocks-block.result [] within in
     let own = subst (λ (b : List g.row.T.Denot). HasSides test b c.search.result) read c.search.ensures in
     sides-joined test bs n c.search.result c.requires.filled c.search-count.ensures (omega (arith, c.if-count-eq0.false)) own
+
+pub returns-clause-first : goal.returns-clause-first
+returns-clause-first g c start =
+    let test = g.B.Bound.above c.args.bound.now in
+    let bs = c.args.blocks.now in
+    let n = c.search-count.result in
+    let within : n - 1 < length bs = omega (arith, c.search-count.ensures.within, c.if-count-eq0.false) in
+    let read = c.as_slice.ensures ∙ c.index-blocks-block.is ∙ get_or_default bs (n - 1) c.index-blocks-block.result [] within in
+    let own = subst (λ (b : List g.row.T.Denot). HasSides test b c.search.result) read c.search.ensures in
+    absurd (after-first test bs n c.requires.filled c.search-count.ensures (omega (arith, c.if-count-eq0.false)) (subst (HasSides test (block_at bs (n - 1))) start own))
