@@ -33,13 +33,8 @@ def build(method, count, then):
 
 def bytes_of_movement(method):
     """Returns how many bytes of peak memory a movement takes in a build, beside the book that holds it."""
-    peaks = []
-    for words in (["held"], []):
-        run = subprocess.Popen([BENCH, method, str(MOST_MOVEMENTS), *words], stdout=subprocess.DEVNULL)
-        _, status, usage = os.wait4(run.pid, 0)
-        measuring.require(status == 0, f"{BENCH} ended with {status}")
-        peaks.append(usage.ru_maxrss * 1024)
-    return round((peaks[1] - peaks[0]) / MOST_MOVEMENTS, 1)
+    held, built = (measuring.run_once([BENCH, method, str(MOST_MOVEMENTS), *words], os.devnull, os.devnull)[1] for words in (["held"], []))
+    return round((built - held) * 1024 / MOST_MOVEMENTS, 1)
 
 
 def of_method(method, plain):

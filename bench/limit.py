@@ -28,13 +28,10 @@ SHEETS = ['"balance"', '"layers"', '"ledger"', '"accounts"', '"voucher","record"
 
 
 def load(count):
-    """Returns the seconds of a load, its line, and its peak memory in bytes."""
+    """Returns the seconds of a load, and its line."""
     begin = time.perf_counter()
-    run = subprocess.Popen([PROGRAM, "load", str(count)], stdout=subprocess.PIPE)
-    line = run.stdout.read().decode()
-    _, status, usage = os.wait4(run.pid, 0)
-    measuring.require(status == 0, f"a load ended with {status}")
-    return time.perf_counter() - begin, line, usage.ru_maxrss * 1024
+    line = subprocess.run([PROGRAM, "load", str(count)], stdout=subprocess.PIPE, check=True).stdout.decode()
+    return time.perf_counter() - begin, line
 
 
 def plain(room):
@@ -112,15 +109,16 @@ def book_seconds(movements, room):
 
 def measure(room):
     runs = [load(MANY) for _ in range(measuring.RUNS)]
-    seconds, (_, line, peak) = min(it[0] for it in runs), runs[0]
+    seconds, line = min(it[0] for it in runs), runs[0][1]
     measuring.require(all(it[1] == line for it in runs), "two loads print other lines")
     few = min(load(FEW)[0] for _ in range(measuring.RUNS))
     movements = MANY + MANY // 4 + 4
+    _, peak_kib = measuring.run_once([PROGRAM, "load", str(MANY)], os.devnull, os.devnull)
     small, large, late = book_seconds(SMALL_BOOK, room), book_seconds(LARGE_BOOK, room), late_seconds(room)
     figures = {
         "line": line.strip(), "seconds": round(seconds, 3),
         "growth": round(seconds / few, 2), "growth_wanted_at_most": GROWTH_WANTED,
-        "bytes_of_a_movement": round(peak / movements), "bytes_wanted_at_most": BYTES_WANTED,
+        "bytes_of_a_movement": round(peak_kib * 1024 / movements), "bytes_wanted_at_most": BYTES_WANTED,
         "late_seconds": round(late, 4),
         "book_seconds": [small, large], "book_growth": round(large / small, 2), "book_growth_wanted_at_most": BOOK_GROWTH_WANTED,
     }
