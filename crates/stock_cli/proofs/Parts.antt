@@ -48,7 +48,7 @@ whole_lines_of-line (b ∷ line) more h =
     rw parts.0 (ap (onto_whole b) (whole_lines_of-line line more parts.1))
 
 -- a last part that isn't empty is a line
-pub last_part : List ℕ → List (List ℕ)
+unfoldable pub last_part : List ℕ → List (List ℕ)
 last_part [] = []
 last_part (b ∷ bytes) = (b ∷ bytes) ∷ []
 

@@ -75,7 +75,7 @@ ended-requires-clause-outstanding g c κs within =
     ∙ ap (λ (n : ℕ). record known { split = n }) whole
     in
     let team = c.in_threads-team.ensures in
-    outstanding _ _ _ _ _ _ lock c.args.book.history c.args.book.keeper.faults c.args.desks _ _ _ _ _ _ _ _ _ split are team (g.L.Listener.no_more_hung_up c.args.listener)
+    outstanding _ _ _ _ _ _ lock c.args.book.history c.args.book.keeper.faults c.args.desks _ _ _ _ _ _ _ _ _ split are team (g.met.L.Listener.no_more_hung_up c.args.listener)
 
 pub returns-clause-served : goal.returns-clause-served
 returns-clause-served g c =

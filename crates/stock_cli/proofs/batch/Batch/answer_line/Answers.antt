@@ -1,6 +1,8 @@
 -- The line is asked, and its one answer waits.
-use Rattle.std.proofs.Common.{sym, ◌∙◌, inl, inr}
+use Rattle.std.proofs.Common.{ℕ, List, sym, ◌∙◌, inl, inr}
 use Rattle.std.proofs.lemmas.Result.{on_ok_weaker}
+use Rattle.stock_cli.specs.OpenLines.{StandsForLine}
+use Rattle.stock_cli.specs.Replies.{IsCutShort}
 use Rattle.stock_cli.proofs.Batches.{AnswersLine-asked, on_err_of}
 use Rattle.stock_cli.proofs.batch.Batch.answer_line.Goals as goal
 
@@ -11,7 +13,10 @@ returns-clause-answers g c =
     c.append_answer.ensures
 
 pub returns-in_err-answer-clause-cut_short : goal.returns-in_err-answer-clause-cut_short
-returns-in_err-answer-clause-cut_short g c line stands = (sym stands.blank ∙ c.if-self.false, inl c.in_err-answer.ensures.stopped)
+returns-in_err-answer-clause-cut_short g c =
+    let cut : (line : List ℕ) → StandsForLine c.args.self.now.line line → IsCutShort line c.args.self.now.book c.answer_to.new.book =
+    λ line stands. (sym stands.blank ∙ c.if-self.false, inl c.in_err-answer.ensures.stopped) in
+    on_err_of _ cut
 
 pub returns-clause-cut_short : goal.returns-clause-cut_short
 returns-clause-cut_short g c =
