@@ -14,6 +14,7 @@ use Rattle.stock_nums.specs.declared.place.Place.{Place}
 use Rattle.stock_model.specs.Enough.{is_same_key}
 use Rattle.stock_model.specs.Sheets.{is_key_before}
 use Rattle.stock_laws.proofs.Enough.{is_same_key-true, is_same_key-refl}
+use Rattle.block_list.specs.Bounds.{get_before}
 use Rattle.block_list.specs.Sums.{total}
 use Rattle.key_order.specs.declared.change.Change.{Change}
 use Rattle.key_order.specs.Changes.{change_units, of_key, change_place, is_after_start, next_change, previous_change, rank_of, held_before}
@@ -227,6 +228,15 @@ previous_change-none cs key place n start point =
     ap (option_map change_place)
     (sym (find_last-none_at (is_of key) (λ c. is_before c.place place) cs
     (λ k d l. not_before-beyond key place (get_or cs k d) (point.1 k d (omega (arith, start)) l))))
+
+-- both at once: the place of the change before the bound, if there is one and it is of the key
+pub previous_change-before : (cs : List Change) (key : Key) (place : Place) (n : ℕ) → n ≤ length cs → AreInKeyOrder cs
+    → IsPoint (is_before_place key place) cs n
+    → place_of_key key (get_before cs n) ≡ previous_change cs key place
+previous_change-before cs key place zero within order point = previous_change-none cs key place zero refl point
+previous_change-before cs key place (suc m) within order point =
+    let next : m + 1 ≡ suc m = omega arith in
+    previous_change-at cs key place (suc m) m next within order point
 
 -- changes of earlier keys are not of the key
 pub earlier-apart : (key : Key) (c : Change) → is_before_key key c ≡ true → is_of key c ≡ false

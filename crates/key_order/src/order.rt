@@ -1,10 +1,10 @@
 //! The changes of what is held, of each item in each warehouse, and what is found among those of one.
-ghost use Rattle.std.specs.Prelude.{◌≡◌, ◌+◌, ◌<◌, ◌≤◌, ◌^◌, ◌+ℤ◌, ◌-ℤ◌, [], length, take, slice_get, true, false, Some, unsigned_abs, OnOk};
+ghost use Rattle.std.specs.Prelude.{◌≡◌, ◌+◌, ◌<◌, ◌≤◌, ◌^◌, ◌+ℤ◌, ◌-ℤ◌, ℕ, [], length, take, slice_get, true, false, Some, unsigned_abs, OnOk};
 ghost use Rattle.std.specs.List.Sorted.{IsPartitionPoint};
-ghost use Rattle.std.specs.Option.{option_map};
+ghost use Rattle.std.specs.Option.{option_copied, option_map};
 ghost use Rattle.block_list.specs.Sums.{total};
 ghost use Rattle.key_order.specs.Changes.{change_units, next_change, previous_change, rank_of, held_before, first_lack};
-ghost use Rattle.key_order.specs.KeyBounds.{is_before_end_of, is_up_to_start_of, place_of_key, is_some_at, lack_with};
+ghost use Rattle.key_order.specs.KeyBounds.{is_before_key, is_before_end_of, is_up_to_start_of, place_of_key, is_some_at, lack_with};
 ghost use Rattle.key_order.specs.KeyOrders.{AreInKeyOrder, HasNoneAt, put_change, without_change};
 ghost use Rattle.key_order.specs.SamePlace.{is_same_place};
 
@@ -101,8 +101,8 @@ impl KeyOrder {
         ensures room { self.old.spare ≤ self.new.spare }
     {
         let bound = Before { key, place: *place };
-        let index = self.changes.partition_point(&bound);
-        if is_at(&self.changes, index, &bound) {
+        if is_at(self.changes.first_from(&bound), &bound) {
+            let index = self.changes.partition_point(&bound);
             self.changes.remove(index);
         }
     }
@@ -111,8 +111,7 @@ impl KeyOrder {
     pub fn next(&self, key: Key, from: Option<Place>) -> Option<Place>
         ensures { result ≡ next_change self.now.changes key from }
     {
-        let index = index_of_start(&self.changes, key, from);
-        place_at(&self.changes, index, &key)
+        place_of(first_after(&self.changes, key, from), &key)
     }
 
     /// The place of the last change of the key that comes before the place.
@@ -120,12 +119,7 @@ impl KeyOrder {
         ensures { result ≡ previous_change self.now.changes key place.now }
     {
         let bound = Before { key, place: *place };
-        let index = self.changes.partition_point(&bound);
-        if index == 0 {
-            None
-        } else {
-            place_at(&self.changes, index - 1, &key)
-        }
+        place_of(self.changes.last_before(&bound), &key)
     }
 
     /// How many changes of the key come before the place.
@@ -160,7 +154,7 @@ impl KeyOrder {
         ensures { result ≡ first_lack self.now.changes key from end more }
     {
         let first = self.changes.partition_point(&BeforeKey { key });
-        let index = index_of_start(&self.changes, key, from);
+        let index = index_of_start(&self.changes, key, from, first);
         let last = index_of_end(&self.changes, key, end);
         if last <= index {
             return None;
@@ -175,11 +169,11 @@ impl KeyOrder {
     }
 }
 
-// Whether the change at an index stands at a place of the key.
-fn is_at(changes: &BlockList<Change, Units>, index: usize, bound: &Before) -> bool
-    ensures { result ≡ is_some_at bound.now.key bound.now.place (slice_get changes.now.items index) }
+// Whether there is a change, and it stands at a place of the key.
+fn is_at(change: Option<&Change>, bound: &Before) -> bool
+    ensures { result ≡ is_some_at bound.now.key bound.now.place (option_copied change.entry) }
 {
-    match changes.get(index) {
+    match change {
         Some(change) => is_same_key(&change.key, &bound.key)
             && is_same_place(&change.place, &bound.place),
         None => false,
@@ -193,11 +187,11 @@ fn is_same_place(a: &Place, b: &Place) -> bool
     a == b
 }
 
-// The place of the change at an index, if there is one and it is of the key.
-fn place_at(changes: &BlockList<Change, Units>, index: usize, key: &Key) -> Option<Place>
-    ensures { result ≡ place_of_key key.now (slice_get changes.now.items index) }
+// The place of the change, if there is one and it is of the key.
+fn place_of(change: Option<&Change>, key: &Key) -> Option<Place>
+    ensures { result ≡ place_of_key key.now (option_copied change.entry) }
 {
-    match changes.get(index) {
+    match change {
         Some(change) => place_in(change, key),
         None => None,
     }
@@ -223,6 +217,9 @@ fn sum_between(changes: &BlockList<Change, Units>, from: usize, to: usize) -> i6
         -ℤ total change_units (take from changes.now.items) }
     ensures bound { unsigned_abs result ≤ 2 ^ 52 }
 {
+    if from == to {
+        return 0;
+    }
     changes.sum_before(to) - changes.sum_before(from)
 }
 
@@ -236,16 +233,36 @@ fn more_held(more: i64, held: i64) -> i64
     more + held
 }
 
-// Where the changes of the key after a start begin.
-fn index_of_start(changes: &BlockList<Change, Units>, key: Key, from: Option<Place>) -> usize
+// The first change after those of earlier keys and those of the key up to a start.
+fn first_after(changes: &BlockList<Change, Units>, key: Key, from: Option<Place>) -> Option<&Change>
     requires { AreInKeyOrder changes.now.items }
+    ensures { (at : ℕ) × IsPartitionPoint (λ c. is_up_to_start_of key from c ≡ true)
+        (λ c. is_up_to_start_of key from c ≡ false) changes.now.items at × (option_copied result ≡ slice_get changes.now.items at) }
+{
+    match from {
+        Some(place) => changes.first_from(&UpTo { key, place }),
+        None => changes.first_from(&BeforeKey { key }),
+    }
+}
+
+// Where the changes of the key after a start begin. Those of the key begin at `first`.
+fn index_of_start(
+    changes: &BlockList<Change, Units>,
+    key: Key,
+    from: Option<Place>,
+    first: usize,
+) -> usize
+    requires order { AreInKeyOrder changes.now.items }
+    requires first_in { first ≤ length changes.now.items }
+    requires first_point { IsPartitionPoint (λ c. is_before_key key c ≡ true)
+        (λ c. is_before_key key c ≡ false) changes.now.items first }
     ensures within { result ≤ length changes.now.items }
     ensures point { IsPartitionPoint (λ c. is_up_to_start_of key from c ≡ true)
         (λ c. is_up_to_start_of key from c ≡ false) changes.now.items result }
 {
     match from {
         Some(place) => changes.partition_point(&UpTo { key, place }),
-        None => changes.partition_point(&BeforeKey { key }),
+        None => first,
     }
 }
 

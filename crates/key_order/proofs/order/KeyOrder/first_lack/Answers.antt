@@ -8,6 +8,12 @@ use Rattle.key_order.proofs.KeyLacks.{first_lack-empty, first_lack-none, first_l
 use Rattle.key_order.proofs.KeyRuns.{small-kept}
 use Rattle.key_order.proofs.order.KeyOrder.first_lack.Goals as goal
 
+pub index_of_start-index-requires-clause-first_point : goal.index_of_start-index-requires-clause-first_point
+index_of_start-index-requires-clause-first_point c =
+    let key = c.args.key in
+    c.partition_point-first.ensures.point
+    (IsPartitionedBy-back (is_before_key key) (is_before_key-back key) c.self.inside.changes.items c.self.invariant.0)
+
 pub returns-then-last-index : goal.returns-then-last-index
 returns-then-last-index c =
     let cs = c.self.inside.changes.items in
