@@ -43,10 +43,10 @@ pub marks-standing : (slots : List Slot) (place : Place) (n : ℕ) (s : Slot) �
 marks-standing slots place n s order standing = sym (map-standing marked slots place n s order standing)
 
 -- a mark of a suspect changes nothing
-marked-same : (s : Slot) → not s.is_suspect ≡ false → marked s ≡ s
+marked-same : (s : Slot) → s.is_suspect ≡ true → marked s ≡ s
 marked-same s suspect =
     let of : Bool → Slot = λ b. record s { is_suspect = b } in
-    ap of (sym (not-false s.is_suspect suspect))
+    ap of (sym suspect)
 
 set-same : (slots : List Slot) (n : ℕ) (s : Slot) → slice_get slots n ≡ Some s → set slots n s ≡ slots
 set-same [] zero s read = cc
@@ -56,7 +56,7 @@ set-same (t ∷ slots) (suc n) s read = ap (λ ts. t ∷ ts) (set-same slots n s
 
 pub marks-suspect : (slots : List Slot) (place : Place) (n : ℕ) (s : Slot) → IsInPostingOrder (map slot_entry slots)
     → IsStanding slots place n s
-    → not s.is_suspect ≡ false → slots ≡ marks slots place
+    → s.is_suspect ≡ true → slots ≡ marks slots place
 marks-suspect slots place n s order standing suspect =
     sym (set-same slots n s standing.read) ∙ ap (set slots n) (sym (marked-same s suspect)) ∙ marks-standing slots place n s order standing
 

@@ -1,10 +1,11 @@
 //! Movements in posting order, found by their places, with the first suspect found at once.
-ghost use Rattle.std.specs.Prelude.{◌≡◌, ◌+◌, ◌<◌, ◌≤◌, ◌^◌, [], List, Some, None, length, take, drop, map, slice_get, position, MatchOption, IfSome, OnOk};
+ghost use Rattle.std.specs.Prelude.{◌≡◌, ◌+◌, ◌<◌, ◌≤◌, ◌^◌, ℕ, [], List, Some, None, length, take, drop, map, slice_get, position, IfSome, OnOk};
 ghost use Rattle.std.specs.List.{find};
 ghost use Rattle.std.specs.Option.{option_copied};
+ghost use Rattle.block_list.specs.Bounds.{HasSides};
 ghost use Rattle.stock_model.specs.InOrder.{IsInPostingOrder};
 ghost use Rattle.stock_model.specs.PostingOrder.{put};
-ghost use Rattle.repost_frontier.specs.Slots.{slot_entry, slot_at, is_slot_at, put_slot, new_slot, marks, with_value, is_suspect, is_revalued, as_published, published_until, IsStanding};
+ghost use Rattle.repost_frontier.specs.Slots.{slot_entry, slot_at, slot_comes_before, is_slot_at, put_slot, new_slot, marks, with_value, is_suspect, is_revalued, as_published, published_until, IsStanding};
 
 use crate::slot::Slot;
 use block_list::bound::Bound;
@@ -135,8 +136,7 @@ impl Frontier {
         ensures place { IfSome (option_copied result) (λ s. s.entry.place ≡ place.now) }
         ensures in_order { IsInPostingOrder (map slot_entry self.now.slots) }
     {
-        let standing = standing_at(&self.list, place)?;
-        self.list.get(standing.index)
+        standing_at(&self.list, place)
     }
 
     /// Makes the movement at this place suspect, if there is one. It takes no memory.
@@ -144,9 +144,10 @@ impl Frontier {
         ensures marked { self.new.slots ≡ marks self.old.slots place.now }
         ensures room { self.new.spare ≡ self.old.spare }
     {
-        if let Some(standing) = standing_at(&self.list, place) {
-            if !standing.slot.is_suspect {
-                self.list.set(standing.index, standing.slot.marked());
+        if let Some(slot) = standing_at(&self.list, place) {
+            if !slot.is_suspect {
+                let suspect = slot.marked();
+                self.list.set_first_from(&Before { place: *place }, suspect);
             }
         }
     }
@@ -157,9 +158,9 @@ impl Frontier {
         ensures valued { self.new.slots ≡ with_value self.old.slots place.now found }
         ensures room { self.new.spare ≡ self.old.spare }
     {
-        if let Some(standing) = standing_at(&self.list, place) {
-            self.list
-                .set(standing.index, standing.slot.with_found(found));
+        if let Some(slot) = standing_at(&self.list, place) {
+            let valued = slot.with_found(found);
+            self.list.set_first_from(&Before { place: *place }, valued);
         }
     }
 
@@ -197,28 +198,17 @@ impl Frontier {
     }
 }
 
-/// A movement, and where it stands.
-#[derive(Clone, Copy)]
-struct Standing {
-    index: usize,
-    slot: Slot,
-}
-
-// The movement at the place, or None where there is none.
-fn standing_at(list: &BlockList<Slot, Suspect>, place: &Place) -> Option<Standing>
+// The movement at the place, or None where there is none. It is the first that does not come before the place.
+fn standing_at<'a>(list: &'a BlockList<Slot, Suspect>, place: &Place) -> Option<&'a Slot>
     requires { IsInPostingOrder (map slot_entry list.now.items) }
-    ensures { MatchOption result (slot_at list.now.items place.now ≡ None) (λ s. IsStanding list.now.items place.now s.index s.slot) }
+    ensures found { option_copied result ≡ slot_at list.now.items place.now }
+    ensures standing { IfSome (option_copied result) (λ s. (at : ℕ) × HasSides (slot_comes_before place.now) list.now.items at × IsStanding list.now.items place.now at s) }
 {
-    let index = list.partition_point(&Before { place: *place });
-    match list.get(index) {
-        Some(slot) => {
-            if is_slot_at(slot, place) {
-                Some(Standing { index, slot: *slot })
-            } else {
-                None
-            }
-        }
-        None => None,
+    let slot = list.first_from(&Before { place: *place })?;
+    if is_slot_at(slot, place) {
+        Some(slot)
+    } else {
+        None
     }
 }
 

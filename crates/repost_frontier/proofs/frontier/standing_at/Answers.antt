@@ -1,35 +1,51 @@
 -- Posting order leaves one index for the place.
 use Rattle.std.proofs.Common.{◌≡◌, Some, None, slice_get, sym, ap, ◌∙◌}
 use Rattle.std.specs.Option.{option_copied}
+use Rattle.block_list.proofs.Sides.{point-from_sides}
 use Rattle.repost_frontier.specs.Slots.{slot_comes_before}
 use Rattle.repost_frontier.proofs.SlotPlaces.{ordered, comes_before-back, IsPartitionedBy-HoldsBack, read-within, found-there, found-other, found-past}
 use Rattle.repost_frontier.proofs.frontier.standing_at.Goals as goal
 
-pub returns-then-is_slot_at : goal.returns-then-is_slot_at
-returns-then-is_slot_at c =
+pub returns-then-is_slot_at-clause-found : goal.returns-then-is_slot_at-clause-found
+returns-then-is_slot_at-clause-found c =
     let slots = c.args.list.now.items in
-    let n = c.partition_point-index.result in
-    let read : slice_get slots n ≡ Some c.in-Some.slot.now = sym c.get.ensures ∙ ap option_copied c.in-Some.is in
-    record {
-      within = (read-within slots n c.in-Some.slot.now read).0;
-      read = read;
-      found = found-there c.args.place.now slots n c.in-Some.slot.now c.requires read (sym c.is_slot_at.ensures ∙ c.if-is_slot_at.true);
-    }
+    let s = c.in_ok-slot.slot.now in
+    let found = c.first_from.ensures in
+    let read : slice_get slots found.0 ≡ Some s = sym found.2 ∙ ap option_copied c.in_ok-slot.was in
+    sym (found-there c.args.place.now slots found.0 s c.requires read (sym c.is_slot_at.ensures ∙ c.if-is_slot_at.true))
 
-pub returns-else-is_slot_at : goal.returns-else-is_slot_at
-returns-else-is_slot_at c =
+pub returns-then-is_slot_at-clause-standing : goal.returns-then-is_slot_at-clause-standing
+returns-then-is_slot_at-clause-standing c =
+    let slots = c.args.list.now.items in
+    let s = c.in_ok-slot.slot.now in
+    let found = c.first_from.ensures in
+    let read : slice_get slots found.0 ≡ Some s = sym found.2 ∙ ap option_copied c.in_ok-slot.was in (
+      found.0,
+      found.1,
+      record {
+        within = (read-within slots found.0 s read).0;
+        read = read;
+        found = found-there c.args.place.now slots found.0 s c.requires read (sym c.is_slot_at.ensures ∙ c.if-is_slot_at.true);
+      },
+    )
+
+pub returns-else-is_slot_at-clause-found : goal.returns-else-is_slot_at-clause-found
+returns-else-is_slot_at-clause-found c =
     let place = c.args.place.now in
     let slots = c.args.list.now.items in
-    let n = c.partition_point-index.result in
-    let read : slice_get slots n ≡ Some c.in-Some.slot.now = sym c.get.ensures ∙ ap option_copied c.in-Some.is in
+    let s = c.in_ok-slot.slot.now in
+    let found = c.first_from.ensures in
+    let read : slice_get slots found.0 ≡ Some s = sym found.2 ∙ ap option_copied c.in_ok-slot.was in
     let parted = IsPartitionedBy-HoldsBack (slot_comes_before place) (comes_before-back place) slots (ordered slots c.requires) in
-    found-other place slots n c.in-Some.slot.now c.requires (c.partition_point-index.ensures.point parted) read
-    (sym c.is_slot_at.ensures ∙ c.if-is_slot_at.false)
+    sym (found-other place slots found.0 s c.requires (point-from_sides (slot_comes_before place) slots found.0 parted found.1) read
+    (sym c.is_slot_at.ensures ∙ c.if-is_slot_at.false))
 
-pub returns-in-None : goal.returns-in-None
-returns-in-None c =
+pub returns-in_err-slot-clause-found : goal.returns-in_err-slot-clause-found
+returns-in_err-slot-clause-found c =
     let place = c.args.place.now in
     let slots = c.args.list.now.items in
-    let past : slice_get slots c.partition_point-index.result ≡ None = sym c.get.ensures ∙ ap option_copied c.in-None.is in
+    let found = c.first_from.ensures in
+    let past : slice_get slots found.0 ≡ None = sym found.2 ∙ ap option_copied c.in_err-slot.was in
     let parted = IsPartitionedBy-HoldsBack (slot_comes_before place) (comes_before-back place) slots (ordered slots c.requires) in
-    found-past place slots c.partition_point-index.result c.requires (c.partition_point-index.ensures.point parted) past
+    ap option_copied c.from_residual.ensures
+    ∙ sym (found-past place slots found.0 c.requires (point-from_sides (slot_comes_before place) slots found.0 parted found.1) past)
