@@ -10,7 +10,7 @@ use Rattle.stock_keeper.specs.Changed.{appended, published}
 use Rattle.stock_keeper.specs.Keeping.{Within, Makes, MayMake}
 use Rattle.stock_keeper.specs.declared.changes.Changes.{Changes}
 use Rattle.stock_keeper.specs.declared.tables.Tables.{Tables}
-use Rattle.generation_book.specs.Handed.{IsHanded}
+use Rattle.generation_book.specs.Handed.{IsHanded, AreHanded}
 use Rattle.repost_fetch.specs.Changes.{AreChanges}
 use Rattle.voucher_json.specs.RecordTexts.{record_text}
 use Rattle.kept_tables.specs.Kept.{IsKept}
@@ -20,17 +20,24 @@ use Rattle.kept_tables.proofs.KeptRecords.{tables_of-kept}
 use Rattle.kept_tables.proofs.Revalued.{tables_of-published}
 
 module _ (history : List Deed) (tells may_leave tells' may_leave' : Tables → Type 0) (kept : IsKept tells may_leave history) where
-  module _ (n : RecordNo) (changed : List Row) (changes : Changes) (is : changes ≡ changes_of changed) (more : covered history < n.0)
+  module _ (n : RecordNo) (changed : List Row) (changes : Changes) (more : covered history < n.0)
       (are : AreChanges (take n.0 (records history)) (covered history) changed) where
-    published-is : published n changes (tables_of history) ≡ tables_of (history ++ Published n ∷ [])
-    published-is = ap (λ (c : Changes). published n c (tables_of history)) is ∙ tables_of-published history n changed more are
+    published-is : changes ≡ changes_of changed → published n changes (tables_of history) ≡ tables_of (history ++ Published n ∷ [])
+    published-is is = ap (λ (c : Changes). published n c (tables_of history)) is ∙ tables_of-published history n changed more are
 
-    pub kept-published : Makes (published n changes) tells tells' → Within tells' may_leave' → IsKept tells' may_leave' (history ++ Published n ∷ [])
-    kept-published = IsKept-done history (Published n) (published n changes) published-is tells may_leave kept tells' may_leave'
+    pub kept-published : AreHanded tells may_leave changed changes → Makes (published n changes) tells tells' → Within tells' may_leave'
+        → IsKept tells' may_leave' (history ++ Published n ∷ [])
+    kept-published (inl nothing) makes durable =
+        IsKept-nothing-done (published n changes) tells may_leave nothing.0 nothing.1 tells' may_leave' makes durable (history ++ Published n ∷ [])
+    kept-published (inr is) makes durable =
+        IsKept-done history (Published n) (published n changes) (published-is is) tells may_leave kept tells' may_leave' makes durable
 
-    pub kept-unpublished : IsLegal (history ++ Published n ∷ []) → Within tells tells'
+    pub kept-unpublished : AreHanded tells may_leave changed changes → IsLegal (history ++ Published n ∷ []) → Within tells tells'
         → MayMake (published n changes) tells may_leave may_leave' → IsKept tells' may_leave' history
-    kept-unpublished = IsKept-refused history (Published n) (published n changes) published-is tells may_leave kept tells' may_leave'
+    kept-unpublished (inl nothing) longer same may_make =
+        IsKept-nothing-refused (published n changes) tells may_leave nothing.0 nothing.1 tells' may_leave' same may_make history
+    kept-unpublished (inr is) longer same may_make =
+        IsKept-refused history (Published n) (published n changes) (published-is is) tells may_leave kept tells' may_leave' longer same may_make
 
   module _ (n : RecordNo) (item : Record) (text : List ℕ) (next : n.0 ≡ accepted history + 1) (legal : IsLegal history) where
     appended-is : text ≡ record_text item → appended n text (tables_of history) ≡ tables_of (history ++ Kept item ∷ [])

@@ -14,7 +14,7 @@ ghost use Rattle.repost_fetch.specs.Changes.{AreChanges};
 ghost use Rattle.repost_fetch.specs.Fetched.{IsFetchedOf};
 ghost use Rattle.kept_tables.specs.Kept.{IsKept};
 ghost use Rattle.generation_book.specs.State.{first_book};
-ghost use Rattle.generation_book.specs.Handed.{IsHanded};
+ghost use Rattle.generation_book.specs.Handed.{IsHanded, AreHanded};
 ghost use Rattle.generation_book.specs.Refusals.{refusal_of, IsRefusalOf, IsAfterRefusal};
 
 use crate::events::Event;
@@ -26,6 +26,7 @@ use quantity_check::running::Running;
 use repost_fetch::fetch::{Fetched, fetch};
 use std::alloc::Global;
 use std::marker::Model;
+use stock_keeper::changes::Changes;
 use stock_keeper::fault::KeepFault;
 use stock_keeper::keeper::Keeper;
 use stock_keeper::nowhere::Nowhere;
@@ -250,7 +251,7 @@ impl<K: Keeper> Book<K> {
         ensures legal { OnOk result (history.IsLegal self.new.history) }
     {
         let renewed = merged(alloc, self.rows.as_slice(), changed)?;
-        let changes = changes_of(alloc, changed)?;
+        let changes = handed_changes(alloc, &self.keeper, changed)?;
         if self.events.reserve(1).is_err() {
             return Err(KeepFault::NoMemory);
         }
@@ -373,6 +374,22 @@ fn handed_text<K: Keeper>(alloc: Global, keeper: &K, item: &Record) -> Result<Li
         record_text(alloc, item)
     } else {
         Ok(Lines::new(alloc))
+    }
+}
+
+// What a keeper is handed of a publication: the changes that put the rows' worths in, or none where nothing is kept. The only
+// error is want of memory.
+fn handed_changes<K: Keeper>(
+    alloc: Global,
+    keeper: &K,
+    changed: &[Row],
+) -> Result<Changes, NoMemory>
+    ensures { IfOk result (AreHanded (K.tells keeper.now) (K.may_leave keeper.now) changed.now) }
+{
+    if keeper.is_lasting() {
+        changes_of(alloc, changed)
+    } else {
+        changes_of(alloc, &[])
     }
 }
 

@@ -31,7 +31,7 @@ invariant_of-self-in_err-publish g c =
     let more = legal-published c.args.self.now.history c.args.n legal c.requires.later c.requires.within in
     let now = kept-unpublished c.args.self.now.history (g.K.Keeper.tells c.self.inside.keeper) (g.K.Keeper.may_leave c.self.inside.keeper)
     (g.K.Keeper.tells c.publish.new.self) (g.K.Keeper.may_leave c.publish.new.self) kept c.args.n c.args.changed.now
-    c.in_ok-changes.changes c.in_ok-changes.ensures c.requires.later c.requires.changed more c.in_err-publish.ensures.tables_kept
+    c.in_ok-changes.changes c.requires.later c.requires.changed c.in_ok-changes.ensures more c.in_err-publish.ensures.tables_kept
     c.in_err-publish.ensures.crash in
     rw c.reserve.ensures.items
     (c.self.invariant.0, subst (IsKept (g.K.Keeper.tells c.publish.new.self) (g.K.Keeper.may_leave c.publish.new.self)) (sym told) now, c.self.invariant.2)
@@ -49,7 +49,7 @@ invariant_of-self-2 g c =
     let changed = rw (held, covers) at c.requires.changed in
     let now = kept-published c.args.self.now.history (g.K.Keeper.tells c.self.inside.keeper) (g.K.Keeper.may_leave c.self.inside.keeper)
     (g.K.Keeper.tells c.publish.new.self) (g.K.Keeper.may_leave c.publish.new.self) kept c.args.n c.args.changed.now
-    c.in_ok-changes.changes c.in_ok-changes.ensures c.requires.later c.requires.changed c.in_ok-publish.ensures.made
+    c.in_ok-changes.changes c.requires.later c.requires.changed c.in_ok-changes.ensures c.in_ok-publish.ensures.made
     c.in_ok-publish.ensures.durable in
     let longer = ap (λ (h : List Deed). h ++ deed.Published c.args.n ∷ []) told in
     rw (events, rows) (
