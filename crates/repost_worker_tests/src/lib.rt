@@ -1,5 +1,10 @@
-//! The test of a worker's run. It stands alone, so that it doesn't have the worker's own functions proved once more.
+//! The tests of a worker's run and of a ledger that is opened after a crash. They stand alone, so that they don't have the worker's
+//! own functions proved once more.
 #![tactic(auto)]
 
+#[cfg(test)]
+mod crash_tests;
+#[cfg(test)]
+mod records;
 #[cfg(test)]
 mod tests;

@@ -1,8 +1,7 @@
 //! A worker's run over a book that it alone takes from its lock.
-ghost use Rattle.std.specs.Prelude.{◌≡◌, ◌<◌, IsTrue, Option, None};
-ghost use Rattle.stock_nums.specs.Calendar.{IsCalendarDate};
-ghost use Rattle.stock_model.specs.Limits.{is_within_limits};
+ghost use Rattle.std.specs.Prelude.{◌≡◌, ◌<◌, Option, None};
 
+use crate::records::{item, receipt, sale, store};
 use repost_worker::gate::{Gate, Go};
 use repost_worker::revalued_book::RevaluedBook;
 use repost_worker::run_worker::run_worker;
@@ -15,13 +14,8 @@ use std::test::Fail;
 use stock_keeper::fault::KeepFault;
 use stock_keeper::nowhere::Nowhere;
 use stock_model::records::Record;
-use stock_model::vouchers::{IssueLine, Purpose, ReceiptLine, What};
-use stock_nums::cause::Method;
-use stock_nums::code::Code;
-use stock_nums::lines::Lines;
 use stock_nums::memory::NoMemory;
-use stock_nums::moment::Moment;
-use stock_nums::numbers::{AccountNo, DeskNo, Minor, Qty, RecordNo};
+use stock_nums::numbers::RecordNo;
 use stock_nums::steps::Steps;
 use turn_lock::lock::TurnLock;
 
@@ -54,59 +48,6 @@ impl Gate for UntilIdle {
     }
 }
 
-fn record_of(what: What) -> Record
-    requires { IsTrue (is_within_limits what) }
-{
-    Record {
-        desk: DeskNo(1),
-        what,
-    }
-}
-
-fn item(alloc: Global) -> Result<Record, NoMemory> {
-    Ok(record_of(What::Item {
-        code: Code::of(alloc, "B")?,
-        method: Method::Average,
-    }))
-}
-
-fn store(alloc: Global) -> Result<Record, NoMemory> {
-    Ok(record_of(What::Store {
-        code: Code::of(alloc, "W1")?,
-        account: AccountNo(100),
-    }))
-}
-
-// Ten units of B into W1, 100 each.
-fn receipt(alloc: Global, date: u32) -> Result<Record, NoMemory>
-    requires { IsCalendarDate date }
-{
-    let mut lines = Lines::new(alloc);
-    lines.push(ReceiptLine {
-        item: Code::of(alloc, "B")?,
-        store: Code::of(alloc, "W1")?,
-        qty: Qty(10),
-        amount: Minor(1_000),
-    })?;
-    let at = Moment { date, second: 0 };
-    Ok(record_of(What::Receipt { at, lines }))
-}
-
-// One unit of B out of W1.
-fn sale(alloc: Global, date: u32) -> Result<Record, NoMemory>
-    requires { IsCalendarDate date }
-{
-    let mut lines = Lines::new(alloc);
-    lines.push(IssueLine {
-        item: Code::of(alloc, "B")?,
-        store: Code::of(alloc, "W1")?,
-        qty: Qty(1),
-    })?;
-    let at = Moment { date, second: 0 };
-    let purpose = Purpose::Sold;
-    Ok(record_of(What::Issue { at, purpose, lines }))
-}
-
 // Whether the record was accepted.
 fn is_posted(alloc: Global, book: &mut RevaluedBook<Nowhere>, record: Record) -> bool {
     book.post(alloc, record).is_ok()
@@ -116,7 +57,7 @@ fn post_four(alloc: Global, book: &mut RevaluedBook<Nowhere>) -> Result<bool, No
     Ok(
         is_posted(alloc, book, item(alloc)?)
             && is_posted(alloc, book, store(alloc)?)
-            && is_posted(alloc, book, receipt(alloc, 20_260_102)?)
+            && is_posted(alloc, book, receipt(alloc, 20_260_102, 100)?)
             && is_posted(alloc, book, sale(alloc, 20_260_103)?),
     )
 }
