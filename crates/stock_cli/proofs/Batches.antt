@@ -259,9 +259,9 @@ module _ {K : Type 0} where
       let fed = taken ++ so_far.fed in
       subst (λ (bytes : List ℕ). RunsShort first (lines_of bytes) written last)
       (append_assoc fed line (10 ∷ after) ∙ ap (λ (bytes : List ℕ). fed ++ bytes) (sym is)
-        ∙ append_assoc taken so_far.fed rest ∙ ap (λ (bytes : List ℕ). taken ++ bytes) so_far.is)
+      ∙ append_assoc taken so_far.fed rest ∙ ap (λ (bytes : List ℕ). taken ++ bytes) so_far.is)
       (RunsShort-line {K = K} first (record { book = now.book; line = kept; waiting = now.waiting }) last (fed ++ line) after written cut
-        (StandsFor-more first now kept fed written line no_feed added (so_far.goes first taken written stands)))
+      (StandsFor-more first now kept fed written line no_feed added (so_far.goes first taken written stands)))
 
 -- where it was wanting for the last line
 pub RunsShort-ended : {K : Type 0} (old : Batch K) (last : Pace) (r : Result (Unit {0}) NoMemory)

@@ -1,6 +1,6 @@
 -- A run over a keeper is one over the shelf that handed it out and has it back.
 use Rattle.std.specs.Prelude.{Contains}
-use Rattle.std.proofs.Common.{◌≡◌, ◌⊎◌, ◌<◌, ℕ, List, Option, Some, None, IfSome, OnSome, inl, inr, refl, sym, ap, ◌∙◌, subst, arith}
+use Rattle.std.proofs.Common.{◌≡◌, ℕ, List, Option, Some, None, IfSome, OnSome, inl, inr, refl, sym, ap, ◌∙◌, subst, arith}
 use Rattle.stock_io.specs.Counts.{Rose, raised}
 use Rattle.stock_model.specs.History.{IsLegal}
 use Rattle.stock_keeper.specs.Calls.{KeeperState, IsDone}

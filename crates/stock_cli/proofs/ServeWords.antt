@@ -1,7 +1,6 @@
 -- Words are the options of `serve` in one way at most.
-use Rattle.std.proofs.Common.{◌≡◌, ◌≢◌, ℕ, ◌+◌, List, [], ◌∷◌, ◌++◌, ◌⊎◌, inl, inr, length, get_or, refl, sym, ap, ◌∙◌, subst, arith, codes, length-append}
+use Rattle.std.proofs.Common.{◌≡◌, ◌≢◌, ℕ, List, [], ◌∷◌, ◌++◌, inl, inr, length, get_or, refl, sym, ap, ◌∙◌, subst, arith, codes, length-append}
 use Rattle.std.proofs.lemmas.List.{append_cancel_left}
-use Rattle.stock_cli.specs.Paths.{IsPath}
 use Rattle.std.specs.Prelude.{suc, Option, Some, None, MatchOption}
 use Rattle.stock_cli.specs.ServeWords.{Setting, BeginsWithSetting, BeginsWithNone, IsNotFirst, SpellsSettings, SpellsNone, SpellsServe, SpellsNoService, Means, MeansNothing, option_text, value_of}
 use Rattle.std.specs.Str.Parse.{digits_value}

@@ -1,6 +1,6 @@
 -- How far a service comes with the ledger of a keeper.
-use Rattle.std.proofs.Common.{◌≡◌, ◌⊎◌, ◌<◌, ◌≤◌, ℕ, List, Option, Result, Ok, Err, inl, inr, refl, sym, subst, arith}
-use Rattle.std.specs.Prelude.{String, string_bytes}
+use Rattle.std.proofs.Common.{◌≡◌, ◌<◌, ◌≤◌, ℕ, List, Option, Result, Ok, Err, inl, inr, sym, subst, arith}
+use Rattle.std.specs.Prelude.{String}
 use Rattle.std.specs.declared.alloc.Global.{Global}
 use Rattle.std.proofs.lemmas.Bool.{cases_lt}
 use Rattle.stock_io.specs.Counts.{Rose, NeverFalls}

@@ -1,5 +1,5 @@
 -- What the three options mean is what the words ask for.
-use Rattle.std.proofs.Common.{◌≡◌, ◌∷◌, [], map, string_bytes}
+use Rattle.std.proofs.Common.{◌∷◌, [], map, string_bytes}
 use Rattle.stock_cli.proofs.ServeWords.{service}
 use Rattle.stock_cli.proofs.serve_words.asked_after.Goals as goal
 

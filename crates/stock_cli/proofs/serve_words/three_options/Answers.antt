@@ -1,5 +1,5 @@
 -- Where an option is wanting, or there is more behind the third, the words are no three options.
-use Rattle.std.proofs.Common.{◌≡◌, ℕ, List, [], length, map, string_bytes, sym, ap, ◌∙◌}
+use Rattle.std.proofs.Common.{◌≡◌, length, map, string_bytes, sym, ap, ◌∙◌}
 use Rattle.std.proofs.lemmas.Bool.{eqb-false}
 use Rattle.std.proofs.lemmas.List.{length-map}
 use Rattle.stock_cli.proofs.ServeWords.{none-first, none-behind, none-left}

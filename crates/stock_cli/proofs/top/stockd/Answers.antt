@@ -1,5 +1,5 @@
 -- The words of a service are those of nothing else.
-use Rattle.std.proofs.Common.{◌≡◌, ℕ, map, inl, inr, refl, sym, ◌∙◌, subst, arith, string_bytes}
+use Rattle.std.proofs.Common.{◌≡◌, ℕ, map, inl, inr, subst, string_bytes}
 use Rattle.stock_io.specs.Listeners.{IsFresh}
 use Rattle.desk_service.specs.Listening.{heard}
 use Rattle.desk_service.specs.Service.{IsPeerServed}

@@ -18,8 +18,8 @@ pub returns-in_err-end_line-clause-cut_short : goal.returns-in_err-end_line-clau
 returns-in_err-end_line-clause-cut_short g c =
     on_err_of _
     (StopsShort-line c.args.self.now c.loop-line.self c.args.piece.now c.loop-line.rest.now c.in-Some.line.now c.in-Some.after.now c.add.new.self
-      c.end_line.new.self.book c.loop-line.invariant c.in-Some.ensures.parts c.in-Some.ensures.first c.in_ok-add.ensures.added
-      c.in_err-end_line.ensures.cut_short)
+    c.end_line.new.self.book c.loop-line.invariant c.in-Some.ensures.parts c.in-Some.ensures.first c.in_ok-add.ensures.added
+    c.in_err-end_line.ensures.cut_short)
 
 pub returns-in_err-add-2-clause-cut_short : goal.returns-in_err-add-2-clause-cut_short
 returns-in_err-add-2-clause-cut_short g c =
