@@ -1,6 +1,7 @@
 -- What it is to run a statement of a text in a transaction. Each says something only where the disk is clean: where it
 -- has returned what was written.
-use Rattle.std.specs.Prelude.{◌≡◌, ℕ, true, List, Result, Ok, IsTrue, []}
+use Rattle.std.specs.Prelude.{◌≡◌, ℕ, pos, true, List, map, Result, Ok, IsTrue, [], ◌∷◌}
+use Rattle.sqlite_value.specs.declared.value.Value.TheVariants.{Int}
 use Rattle.sqlite_value.specs.Order.{Row}
 use Rattle.sqlite_trees.specs.declared.store.Store.{Ghosts}
 use Rattle.sqlite.specs.State.{HasCleanDisk, ExecutesInside, Shown}
@@ -9,7 +10,8 @@ use Rattle.sqlite.specs.Effect.{Database}
 use Rattle.sqlite.specs.declared.error.Error.{Error}
 use Rattle.stock_nums.specs.declared.numbers.RecordNo.{RecordNo}
 use Rattle.stock_keeper.specs.Changed.{stored}
-use Rattle.keeper_sqlite.specs.Rows.{record_row}
+use Rattle.stock_keeper.specs.declared.changes.Changes.{Changes}
+use Rattle.keeper_sqlite.specs.Rows.{record_row, worth_row, spot_row}
 use Rattle.keeper_sqlite.specs.Texts as texts
 
 -- the transaction runs the statement with these parameters, or refuses it
@@ -31,3 +33,34 @@ pub record Inserts {S : Type 0} (store : Ghosts S) (number : RecordNo) (body : L
 -- where the append was done, the last commit is of the database with the record
 abbrev pub HasAppended : {S : Type 0} → Ghosts S → RecordNo → List ℕ → Held S → Held S → Type 0
 HasAppended store number body old new = HasCleanDisk (state store new) → Inserts store number body old (state store new).committed
+
+-- the transaction ran the statement with each of these parameters, one after another, and that led from the one to the other
+abbrev pub RunsAll : {S : Type 0} → Ghosts S → List ℕ → List Row → Held S → Held S → Type 0
+RunsAll store text [] old new = new ≡ old
+RunsAll {S} store text (params ∷ rest) old new =
+    (mid : Held S) × (count : ℕ) × ExecutesInside 0 text params (state store old) (state store mid) (Ok count) × RunsAll store text rest mid new
+
+-- the same of a transaction under way, which it still is then, where the disk is clean
+abbrev pub HasRunAll : {S : Type 0} → Ghosts S → List ℕ → List Row → Held S → Held S → Type 0
+HasRunAll store text params old new =
+    HasCleanDisk (state store new) → IsTrue old.in_transaction → RunsAll store text params old new × IsTrue new.in_transaction
+
+-- where the disk is clean, it was before
+abbrev pub WasClean : {S : Type 0} → Ghosts S → Held S → Held S → Type 0
+WasClean store old new = HasCleanDisk (state store new) → HasCleanDisk (state store old)
+
+-- a transaction that began here put these worths in, took those out that are gone, and said that so many records are covered, and it
+-- has made this of the database
+pub record Publishes {S : Type 0} (store : Ghosts S) (covered : RecordNo) (changes : Changes) (old : Held S) (db : Database) : Type 0 where
+  pub put : Held S
+  pub removed : Held S
+  pub after : Held S
+  pub count : ℕ
+  pub puts : RunsAll store texts.put_worth (map worth_row changes.rows) (record old { in_transaction = true }) put
+  pub removes : RunsAll store texts.remove_worth (map spot_row changes.gone) put removed
+  pub covers : ExecutesInside 0 texts.cover (Int (pos covered.0) ∷ []) (state store removed) (state store after) (Ok count)
+  pub is : db ≡ (state store after).now
+
+-- where the publication was done, the last commit is of the database that it made
+abbrev pub HasPublished : {S : Type 0} → Ghosts S → RecordNo → Changes → Held S → Held S → Type 0
+HasPublished store covered changes old new = HasCleanDisk (state store new) → Publishes store covered changes old (state store new).committed

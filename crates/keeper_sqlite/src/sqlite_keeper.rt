@@ -4,7 +4,7 @@ ghost use Rattle.std.specs.Prelude.{◌≡◌, false, true, Err, IfOk, IfErr, On
 ghost use Rattle.stock_io.specs.Counts.{NeverFalls, raised};
 ghost use Rattle.stock_keeper.specs.declared.fault.KeepFault.TheVariants as fault;
 ghost use Rattle.stock_keeper.specs.Worths.{AreInOrder};
-ghost use Rattle.keeper_sqlite.specs.Running.{HasAppended};
+ghost use Rattle.keeper_sqlite.specs.Running.{HasAppended, HasPublished};
 
 use crate::refusing::counted;
 use crate::{reading, schema, writing};
@@ -103,6 +103,7 @@ impl<S: Alter> Keeper for SqliteKeeper<S> {
     }
 
     fn publish(&mut self, covered: RecordNo, changes: &Changes) -> Result<(), KeepFault>
+        ensures published { OnOk result (HasPublished S.Store covered changes.now self.old.conn self.new.conn) }
         ensures faults_kept { OnOk result (self.new.faults ≡ self.old.faults) }
         ensures fault { result ≡ Err fault.Failed → self.new.faults ≡ raised self.old.faults }
         ensures free { result ≡ Err fault.NoMemory → self.new.faults ≡ self.old.faults }

@@ -5,7 +5,7 @@ ghost use Rattle.sqlite.specs.Values.{bound};
 ghost use Rattle.stock_nums.specs.Places.{side_rank};
 ghost use Rattle.stock_keeper.specs.Changed.{stored};
 ghost use Rattle.keeper_sqlite.specs.Rows.{record_row, worth_row, spot_row};
-ghost use Rattle.keeper_sqlite.specs.Running.{HasRun};
+ghost use Rattle.keeper_sqlite.specs.Running.{HasRun, WasClean};
 ghost use Rattle.keeper_sqlite.specs.Texts as texts;
 
 use sqlite::types::{ToSql, ValueRef};
@@ -36,6 +36,7 @@ pub(crate) fn put_worth<S: Alter>(
 ) -> Result<usize, Error>
     ensures same_reference { tx.new.conn.ghost_name ≡ tx.old.conn.ghost_name }
     ensures runs { HasRun S.Store texts.put_worth (worth_row row.now) tx.old.conn.now tx.new.conn.now result }
+    ensures clean { WasClean S.Store tx.old.conn.now tx.new.conn.now }
 {
     tx.execute(
         "INSERT INTO worths(voucher, line, side, value, share) VALUES(?1, ?2, ?3, ?4, ?5) ON CONFLICT(voucher, line, side) DO UPDATE SET value = ?4, share = ?5",
@@ -50,6 +51,7 @@ pub(crate) fn remove_worth<S: Alter>(
 ) -> Result<usize, Error>
     ensures same_reference { tx.new.conn.ghost_name ≡ tx.old.conn.ghost_name }
     ensures runs { HasRun S.Store texts.remove_worth (spot_row spot.now) tx.old.conn.now tx.new.conn.now result }
+    ensures clean { WasClean S.Store tx.old.conn.now tx.new.conn.now }
 {
     tx.execute(
         "DELETE FROM worths WHERE voucher = ?1 AND line = ?2 AND side = ?3",
@@ -64,6 +66,7 @@ pub(crate) fn cover<S: Alter>(
 ) -> Result<usize, Error>
     ensures same_reference { tx.new.conn.ghost_name ≡ tx.old.conn.ghost_name }
     ensures runs { HasRun S.Store texts.cover (Int (pos covered.0) ∷ []) tx.old.conn.now tx.new.conn.now result }
+    ensures clean { WasClean S.Store tx.old.conn.now tx.new.conn.now }
 {
     tx.execute(
         "UPDATE head SET covered = ?1 WHERE id = 1",
