@@ -4,8 +4,8 @@ use Rattle.stock_model.specs.declared.answers.Answer.{Answer}
 use Rattle.stock_model.specs.declared.answers.Answer.TheVariants.{Told, Shown}
 use Rattle.stock_model.specs.declared.faults.PostFault.{PostFault}
 use Rattle.stock_model.specs.declared.faults.PostFault.TheVariants as fault_of
-use Rattle.stock_model.specs.Books.{IsOfKeptStock}
-use Rattle.stock_model.specs.Reports.{IsForSheet}
+use Rattle.stock_model.specs.Books.{KeepsStock}
+use Rattle.stock_model.specs.Reports.{IsSelected}
 use Rattle.valuation_report.specs.SheetTexts.{report_text}
 use Rattle.voucher_json.specs.ReplyText.{reply_text, IsPrinted}
 
@@ -17,12 +17,12 @@ answer_text (Shown query chosen) = report_text query chosen
 -- the answer has a text: its reply is printed, or its sheet was selected from a book
 abbrev pub HasText : Answer → Type 0
 HasText (Told reply heads) = IsPrinted reply
-HasText (Shown query chosen) = IsForSheet query chosen
+HasText (Shown query chosen) = IsSelected query chosen
 
 -- where it is a sheet, the ledger keeps the stock that it is made from
 abbrev pub ShowsKeptStock : Answer → Type 0
 ShowsKeptStock (Told reply heads) = Unit {0}
-ShowsKeptStock (Shown query chosen) = IsOfKeptStock query chosen
+ShowsKeptStock (Shown query chosen) = KeepsStock chosen
 
 -- the reply to this fault tells codes, and so it takes memory
 abbrev pub TellsCodes : PostFault → Type 0

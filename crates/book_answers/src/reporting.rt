@@ -20,7 +20,7 @@ pub fn report<K: Keeper>(alloc: Global, book: &Book<K>, query: Query) -> Result<
     ensures keeps { IfOk result ShowsKeptStock }
 {
     the_ledger_keeps_the_stock();
-    match book.select(alloc, &query) {
+    match book.select(&query) {
         Ok(selected) => Ok(Answer::Shown { query, selected }),
         Err(SelectFault::Pending { covered, wanted }) => {
             Ok(told(alloc, Reply::Pending { covered, wanted }))

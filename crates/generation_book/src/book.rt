@@ -3,7 +3,7 @@
 ghost use Rattle.std.specs.Prelude.{◌≡◌, ◌⊎◌, ◌<◌, ◌≤◌, [], ◌∷◌, ◌++◌, length, take, drop, filter, IfOk, OnOk, OnErr, IfErr, Some, None};
 ghost use Rattle.std.specs.Option.{option_copied};
 ghost use Rattle.stock_model.specs.declared.deeds.Deed.TheVariants as deed;
-ghost use Rattle.stock_model.specs.Reports.{need_at, unmet_need, for_sheet, selected, IsForSheet};
+ghost use Rattle.stock_model.specs.Reports.{need_at, unmet_need, selected, IsSelected};
 ghost use Rattle.stock_model.specs.Entries.{entries};
 ghost use Rattle.stock_model.specs.Faults.{voucher_fault, full, fault_but_short, fault, short_of};
 ghost use Rattle.stock_model.specs.History as history;
@@ -17,13 +17,15 @@ ghost use Rattle.generation_book.specs.State.{first_book};
 ghost use Rattle.generation_book.specs.Handed.{IsHanded, AreHanded};
 ghost use Rattle.generation_book.specs.Refusals.{refusal_of, IsRefusalOf, IsAfterRefusal};
 
+use crate::covered_heads::covered_heads;
 use crate::events::Event;
 use crate::merging::merged;
-use crate::selecting::rows_for;
+use crate::selecting::count_until;
 use cost_links::replay;
 use kept_tables::publishing::changes_of;
 use quantity_check::running::Running;
 use repost_fetch::fetch::{Fetched, fetch};
+use shared_list::list::SharedList;
 use std::alloc::Global;
 use std::marker::Model;
 use stock_keeper::changes::Changes;
@@ -31,11 +33,12 @@ use stock_keeper::fault::KeepFault;
 use stock_keeper::keeper::Keeper;
 use stock_keeper::nowhere::Nowhere;
 use stock_model::faults::PostFault;
+use stock_model::movements;
 use stock_model::queries::{Need, Query, SelectFault, Selected};
 use stock_model::records::Record;
 use stock_model::shortages::Shortage;
-use stock_model::{masters, movements};
 use stock_nums::entry::{Entry, Row};
+use stock_nums::head::Head;
 use stock_nums::limits::{MAX_ENTRIES, MAX_RECORDS};
 use stock_nums::lines::Lines;
 use stock_nums::memory::NoMemory;
@@ -57,11 +60,15 @@ pub struct Book<K: Keeper> {
     /// The movements of all accepted records, in posting order, with which no warehouse lacks anything.
     movements: Running,
     covered: RecordNo,
-    rows: Lines<Row>,
+    /// The valued movements of the covered records, and their items and warehouses. Reports hold them too, for as long as they
+    /// last.
+    rows: SharedList<Row>,
+    heads: SharedList<Head>,
 }
 
 impl<K: Keeper> Model for Book<K> {
-    ghost use Rattle.std.specs.Prelude.{◌≤◌, length};
+    ghost use Rattle.std.specs.Prelude.{◌≡◌, ◌≤◌, length, take};
+    ghost use Rattle.stock_model.specs.Masters as masters;
     ghost use Rattle.generation_book.specs.State.{BookState};
     ghost use Rattle.generation_book.specs.Book.{deeds, IsBook};
     ghost use Rattle.kept_tables.specs.Kept.{IsKept};
@@ -76,7 +83,8 @@ impl<K: Keeper> Model for Book<K> {
 
     ghost invariant = { λ book. IsBook book.events.items book.journal book.movements.entries book.covered.0 book.rows
         × IsKept (K.tells book.keeper) (K.may_leave book.keeper) (deeds book.events.items book.journal)
-        × (book.opened ≤ length book.events.items) };
+        × (book.opened ≤ length book.events.items)
+        × (book.heads ≡ masters.heads (take book.covered.0 book.journal)) };
 }
 
 impl Book<Nowhere> {
@@ -91,7 +99,8 @@ impl Book<Nowhere> {
             events: Vec::new(alloc),
             movements: Running::new(alloc),
             covered: RecordNo(0),
-            rows: Lines::new(alloc),
+            rows: SharedList::new(),
+            heads: SharedList::new(),
         }
     }
 
@@ -112,6 +121,7 @@ impl Book<Nowhere> {
             movements: self.movements,
             covered: self.covered,
             rows: self.rows,
+            heads: self.heads,
         }
     }
 }
@@ -250,7 +260,11 @@ impl<K: Keeper> Book<K> {
         ensures refused { IfErr result (λ f. IsRefused f self.old.keeper self.new.keeper) }
         ensures legal { OnOk result (history.IsLegal self.new.history) }
     {
-        let renewed = merged(alloc, self.rows.as_slice(), changed)?;
+        let most = self.movements.timeline().len();
+        let renewed = merged(alloc, self.rows.as_slice(), changed, most)?;
+        let rows = SharedList::of(alloc, renewed)?;
+        let records = &self.journal.records()[..n.0 as usize];
+        let heads = covered_heads(alloc, &self.heads, records, self.covered)?;
         let changes = handed_changes(alloc, &self.keeper, changed)?;
         if self.events.reserve(1).is_err() {
             return Err(KeepFault::NoMemory);
@@ -258,7 +272,8 @@ impl<K: Keeper> Book<K> {
         self.keeper.publish(n, &changes)?;
         self.events.push_reserved(Event::Published(n));
         self.covered = n;
-        self.rows = renewed;
+        self.rows = rows;
+        self.heads = heads;
         Ok(())
     }
 
@@ -277,17 +292,24 @@ impl<K: Keeper> Book<K> {
         }
     }
 
-    /// What the query's sheet is made from, or why the generation is none that it can be made from. Only the movements that the
-    /// sheet needs are copied.
-    pub fn select(&self, alloc: Global, query: &Query) -> Result<Selected, SelectFault>
+    /// What the query's report is made from, or why the generation is none that it can be made from. It holds the generation's
+    /// own movements, items and warehouses, and copies of none, so that whoever has the book under a lock may give it back
+    /// before the report is written.
+    ///
+    /// # Errors
+    ///
+    /// The need, where it is not met; `NoMemory`: 2^63 hold the generation already.
+    pub fn select(&self, query: &Query) -> Result<Selected, SelectFault>
         ensures ready { OnOk result (need_at self.now.history query.now ≡ Need.Ready) }
-        ensures selected { IfOk result (λ chosen. chosen ≡ for_sheet query.now.sheet (selected self.now.history query.now)) }
-        ensures of_book { IfOk result (IsForSheet query.now) }
+        ensures selected { IfOk result (λ chosen. chosen ≡ selected self.now.history query.now) }
+        ensures of_book { IfOk result (IsSelected query.now) }
         ensures fault { IfErr result (λ f. (f ≡ SelectFault.NoMemory) × (need_at self.now.history query.now ≡ Need.Ready)
             ⊎ (unmet_need (need_at self.now.history query.now) ≡ Some f)) }
     {
         match self.test(query) {
-            Need::Ready => self.generation(alloc, query),
+            Need::Ready => self
+                .generation(query.until)
+                .map_err(|_| SelectFault::NoMemory),
             Need::Pending { covered, wanted } => Err(SelectFault::Pending { covered, wanted }),
             Need::NoSuchRecord { accepted, wanted } => {
                 Err(SelectFault::NoSuchRecord { accepted, wanted })
@@ -295,23 +317,16 @@ impl<K: Keeper> Book<K> {
         }
     }
 
-    /// What a report whose need is met is made from.
-    fn generation(&self, alloc: Global, query: &Query) -> Result<Selected, SelectFault>
-        ensures selected { IfOk result (λ chosen. chosen ≡ for_sheet query.now.sheet (selected self.now.history query.now)) }
-        ensures of_book { IfOk result (IsForSheet query.now) }
-        ensures memory { IfErr result (λ f. f ≡ SelectFault.NoMemory) }
+    /// The generation up to a moment, from which a report whose need is met is made.
+    fn generation(&self, until: Option<Moment>) -> Result<Selected, NoMemory>
+        ensures selected { IfOk result (λ chosen. (query : Query) → query.until ≡ until → chosen ≡ selected self.now.history query) }
+        ensures of_book { IfOk result (λ chosen. (query : Query) → query.until ≡ until → IsSelected query chosen) }
     {
-        let records = self.journal.records();
-        let Ok(rows) = rows_for(alloc, self.rows.as_slice(), query) else {
-            return Err(SelectFault::NoMemory);
-        };
-        let Ok(heads) = masters::heads(alloc, &records[..self.covered.0 as usize]) else {
-            return Err(SelectFault::NoMemory);
-        };
+        let count = count_until(self.rows.as_slice(), until);
         Ok(Selected {
             covered: self.covered,
-            rows,
-            heads,
+            rows: self.rows.front(count)?,
+            heads: self.heads.front(self.heads.len())?,
         })
     }
 
@@ -361,6 +376,7 @@ impl<K: Keeper> Book<K> {
             movements: _,
             covered: _,
             rows: _,
+            heads: _,
         } = self;
         keeper
     }

@@ -10,15 +10,20 @@ use stock_nums::memory::NoMemory;
 use stock_nums::place::Place;
 
 /// The old rows with the changed ones among them, in posting order where both are. A changed row stands in place of the old
-/// row at its place. It goes over the rows once.
+/// row at its place. It goes over the rows once. Room is made for no more than `most` rows at first.
 ///
 /// # Errors
 ///
 /// `NoMemory`: memory was wanting.
-pub(crate) fn merged(alloc: Global, old: &[Row], changed: &[Row]) -> Result<Lines<Row>, NoMemory>
+pub(crate) fn merged(
+    alloc: Global,
+    old: &[Row],
+    changed: &[Row],
+    most: usize,
+) -> Result<Lines<Row>, NoMemory>
     ensures { IfOk result (λ rows. rows ≡ merged old.now changed.now) }
 {
-    let mut rows = Vec::with_capacity(alloc, old.len() + changed.len())?;
+    let mut rows = Vec::with_capacity(alloc, most.min(old.len() + changed.len()))?;
     let mut left = old;
     for row in changed {
         let place = row.entry.place;

@@ -132,8 +132,8 @@ fn needs(alloc: Global, book: &Book<Nowhere>) -> Result<[Need; 3], NoMemory> {
     ])
 }
 
-fn select(alloc: Global, book: &Book<Nowhere>, query: &Query) -> Result<Selected, SelectFault> {
-    book.select(alloc, query)
+fn select(book: &Book<Nowhere>, query: &Query) -> Result<Selected, SelectFault> {
+    book.select(query)
 }
 
 // The record of each movement, and its value.
@@ -164,10 +164,11 @@ fn run(alloc: Global, book: &mut Book<Nowhere>) -> Result<Seen, Fail> {
     })
 }
 
-// What a report is made from after all was published.
-fn selected(alloc: Global, book: &mut Book<Nowhere>) -> Result<Selected, Fail> {
+// What reports are made from before and after all was published.
+fn selected(alloc: Global, book: &mut Book<Nowhere>) -> Result<[Selected; 2], Fail> {
+    let before = select(book, &balances(alloc, 4)?)?;
     publish_all(alloc, book)?;
-    Ok(select(alloc, book, &balances(alloc, 5)?)?)
+    Ok([before, select(book, &balances(alloc, 5)?)?])
 }
 
 #[test]
@@ -188,11 +189,12 @@ fn a_receipt_of_the_day_before(rt: HostRuntime) -> Result<(), Fail> {
     };
     assert_eq!(rt; seen.needs, [Need::Ready, pending, none]);
     assert_eq!(rt; seen.fetched, Some((1, RecordNo(5))));
-    let selected = selected(alloc, &mut book)?;
-    assert_eq!(rt; selected.covered, RecordNo(5));
-    assert_eq!(rt; selected.heads.len(), 2);
+    let [before, after] = selected(alloc, &mut book)?;
+    assert_eq!(rt; (before.covered, before.rows.len()), (RecordNo(4), 2));
+    assert_eq!(rt; after.covered, RecordNo(5));
+    assert_eq!(rt; after.heads.len(), 2);
     assert_eq!(rt;
-        told(selected.rows.as_slice()),
+        told(after.rows.as_slice()),
         Some([(5, 500), (3, 1000), (4, 100)])
     );
     Ok(())

@@ -100,7 +100,7 @@ fn summary_text(alloc: Global, book: &Book<Nowhere>) -> Result<String, NoMemory>
     ensures { IfOk result (λ text. string_bytes text ≡ summary_text book.now.history) }
 {
     let query = whole_balance();
-    let Ok(selected) = book.select(alloc, &query) else {
+    let Ok(selected) = book.select(&query) else {
         return Err(NoMemory);
     };
     let sums = balance_sums(alloc, &selected, &query)?;

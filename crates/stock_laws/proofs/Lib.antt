@@ -39,4 +39,3 @@ pub mod TransferSides
 pub mod TransferWorth
 pub mod BalanceSums
 pub mod LedgerBalance
-pub mod SheetViews

@@ -1,6 +1,5 @@
 -- What is selected from a book is the first rows of a legal journal's replay, with the journal's heads.
-use Rattle.std.proofs.Common.{◌≡◌, ℕ, List, [], take, filter, Option, sum_by, refl, sym, ◌∙◌, subst, arith}
-use Rattle.stock_nums.specs.declared.entry.Entry.{Entry}
+use Rattle.std.proofs.Common.{◌≡◌, ℕ, List, take, filter, Option, sum_by, refl, sym, ◌∙◌, subst, arith}
 use Rattle.stock_nums.specs.declared.entry.Key.{Key}
 use Rattle.stock_nums.specs.declared.moment.Moment.{Moment}
 use Rattle.stock_model.specs.declared.queries.Query.{Query}
@@ -8,22 +7,18 @@ use Rattle.stock_model.specs.declared.queries.Selected.{Selected}
 use Rattle.stock_model.specs.declared.records.Record.{Record}
 use Rattle.stock_model.specs.Bounds.{AreBounded}
 use Rattle.stock_model.specs.History.{covered, covered_records, records}
-use Rattle.stock_model.specs.InOrder.{IsBefore}
 use Rattle.stock_model.specs.Journals.{AreLegal}
 use Rattle.stock_model.specs.Layers.{formula_at, layer_rows, shown_value}
 use Rattle.stock_model.specs.Masters.{heads}
 use Rattle.stock_model.specs.PostingOrder.{posting_line}
 use Rattle.stock_model.specs.Replay.{rows_of, replay}
 use Rattle.stock_model.specs.Reports.{is_until, selected, IsSelected}
-use Rattle.stock_model.specs.Sums.{row_entry, stock_value}
-use Rattle.stock_laws.proofs.CostedRows.{map-value_all}
+use Rattle.stock_model.specs.Sums.{stock_value}
 use Rattle.stock_laws.proofs.Formulas.{posting_line-formula}
 use Rattle.stock_laws.proofs.LayersLeft.{value-by, formula_at-is}
 use Rattle.stock_laws.proofs.Legality.{AreLegal-history, AreLegal-take}
 use Rattle.stock_laws.proofs.LegalReplay.{IsLegalLine-journal, AreBounded-first_rows}
-use Rattle.stock_model.proofs.Pairwise.{Pairwise, Pairwise-from_AllPairs}
-use Rattle.stock_laws.proofs.PostingLine.{IsInPostingOrder-posting_line}
-use Rattle.stock_laws.proofs.Until.{FailsOn, filter-front, Pairwise-map, not_until}
+use Rattle.stock_laws.proofs.Until.{filter-front, until-order}
 use Rattle.stock_laws.proofs.Valuation.{Kept, Kept-take, rows_of-take}
 
 -- so many first rows of the replay of a legal journal, and the journal's heads
@@ -39,8 +34,7 @@ until-first : (journal : List Record) (until : Option Moment) → (n : ℕ) × (
 unfolding replay
 until-first journal until =
     let line = posting_line journal in
-    let order = subst (λ (es : List Entry). Pairwise IsBefore es) (sym (map-value_all journal [] line)) (Pairwise-from_AllPairs IsBefore line (IsInPostingOrder-posting_line journal)) in
-    let front = filter-front (is_until until) (rows_of journal line) (Pairwise-map row_entry IsBefore (FailsOn (is_until until)) (not_until until) (rows_of journal line) order) in
+    let front = filter-front (is_until until) (rows_of journal line) (until-order journal until) in
     (front.0, front.1 ∙ rows_of-take journal line front.0)
 
 -- what is selected from a book is so, of the records that its reports cover

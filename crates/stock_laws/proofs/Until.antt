@@ -1,49 +1,19 @@
--- The movements up to a moment are the first ones of the posting line, and bounded as all are.
-use Rattle.std.proofs.Common.{◌≡◌, ℕ, zero, suc, ◌+◌, ◌≤◌, Bool, true, false, cond, Option, Some, None, List, [], ◌∷◌, take, map, filter, inl, inr, refl, sym, ap, ◌∙◌, subst, arith}
-use Rattle.std.specs.List.{list_all}
-use Rattle.std.proofs.lemmas.Bool.{cases_lt}
+-- The movements up to a moment are the first ones of the posting line.
+use Rattle.std.proofs.Common.{◌≡◌, ℕ, suc, Bool, true, false, cond, Option, Some, None, List, [], ◌∷◌, take, map, filter, refl, sym, ap, ◌∙◌, subst, arith}
 use Rattle.std.proofs.lemmas.Bool.Decides.{nat_tests}
-use Rattle.std.proofs.lemmas.List.{length-take, take-take, take_all}
 use Rattle.stock_nums.specs.declared.entry.Entry.{Entry}
 use Rattle.stock_nums.specs.declared.entry.Row.{Row}
 use Rattle.stock_nums.specs.declared.moment.Moment.{Moment}
 use Rattle.stock_model.specs.declared.records.Record.{Record}
 use Rattle.stock_nums.specs.Places.{is_later}
 use Rattle.stock_model.specs.Reports.{is_until}
-use Rattle.stock_nums.specs.declared.limits.TheConstants.{MAX_VALUE}
-use Rattle.stock_model.specs.Bounds.{has_value_in_range, AreBounded}
 use Rattle.stock_model.specs.InOrder.{IsBefore}
 use Rattle.stock_model.specs.PostingOrder.{posting_line}
 use Rattle.stock_model.specs.Replay.{rows_of, replay}
-use Rattle.stock_model.specs.Sums.{row_entry, value_in, value_out}
+use Rattle.stock_model.specs.Sums.{row_entry}
 use Rattle.stock_model.proofs.Pairwise.{Precedes, Pairwise, Pairwise-from_AllPairs}
 use Rattle.stock_laws.proofs.PostingLine.{IsInPostingOrder-posting_line}
 use Rattle.stock_laws.proofs.CostedRows.{map-value_all}
-
--- a test of all holds of the first ones
-list_all-take : {X : Type 0} (p : X → Bool) (k : ℕ) (xs : List X) → list_all p xs ≡ true → list_all p (take k xs) ≡ true
-list_all-take p zero xs h = refl
-list_all-take p (suc k) [] h = refl
-list_all-take p (suc k) (x ∷ xs) h =
-    let first : p x ≡ true = grind arith in
-    let rest : list_all p xs ≡ true = grind arith in
-    let later = list_all-take p k xs rest in
-    grind arith
-
--- the first of bounded rows are bounded
-AreBounded-take : (rows : List Row) (k : ℕ) → AreBounded rows → AreBounded (take k rows)
-AreBounded-take rows k bounded =
-    let front : (n : ℕ) → (m : ℕ) × (take n (take k rows) ≡ take m rows) = λ n.
-    elim (cases_lt k n) [
-      | inl more ↦ (k, take_all n (take k rows) (omega (arith, length-take k rows)))
-      | inr within ↦ (n, take-take n k rows within)
-    ] in
-    record {
-      few = omega (arith, length-take k rows, bounded.few);
-      in_range = list_all-take has_value_in_range k rows bounded.in_range;
-      never_negative = λ n key. subst (λ (all : List Row). value_out all key ≤ value_in all key) (sym (front n).1) (bounded.never_negative (front n).0 key);
-      not_large = λ n key. subst (λ (all : List Row). value_in all key ≤ value_out all key + MAX_VALUE) (sym (front n).1) (bounded.not_large (front n).0 key);
-    }
 
 -- where one fails the test, each later one does
 abbrev pub FailsOn : {X : Type 0} → (X → Bool) → X → X → Type 0
@@ -69,7 +39,7 @@ Precedes-map : {X Y : Type 0} (f : X → Y) (R : Y → Y → Type 0) (S : X → 
 Precedes-map f R S to x [] h = tt
 Precedes-map f R S to x (y ∷ ys) h = (to x y h.0, Precedes-map f R S to x ys h.1)
 
-pub Pairwise-map : {X Y : Type 0} (f : X → Y) (R : Y → Y → Type 0) (S : X → X → Type 0) → ((a b : X) → R (f a) (f b) → S a b) → (xs : List X) → Pairwise R (map f xs) → Pairwise S xs
+Pairwise-map : {X Y : Type 0} (f : X → Y) (R : Y → Y → Type 0) (S : X → X → Type 0) → ((a b : X) → R (f a) (f b) → S a b) → (xs : List X) → Pairwise R (map f xs) → Pairwise S xs
 Pairwise-map f R S to [] h = tt
 Pairwise-map f R S to (x ∷ xs) h = (Precedes-map f R S to x xs h.0, Pairwise-map f R S to xs h.1)
 
@@ -77,18 +47,17 @@ Pairwise-map f R S to (x ∷ xs) h = (Precedes-map f R S to x xs h.0, Pairwise-m
 is_later-IsBefore : (a b : Entry) (until : Moment) → IsBefore a b → is_later a.place.moment until ≡ true → is_later b.place.moment until ≡ true
 is_later-IsBefore a b until before later = grind (arith, nat_tests)
 
-pub not_until : (until : Option Moment) (a b : Row) → IsBefore a.entry b.entry → is_until until a ≡ false → is_until until b ≡ false
+not_until : (until : Option Moment) (a b : Row) → IsBefore a.entry b.entry → is_until until a ≡ false → is_until until b ≡ false
 not_until None a b before fails = fails
 not_until (Some until) a b before fails =
     let later : is_later a.entry.place.moment until ≡ true = grind arith in
     let after = is_later-IsBefore a.entry b.entry until before later in
     grind arith
 
--- the rows of a replay up to a moment are bounded where all are
-pub AreBounded-until : (journal : List Record) (until : Option Moment) → AreBounded (replay journal) → AreBounded (filter (is_until until) (replay journal))
+-- so once a movement of a replay is later than a moment, all after it are
+pub until-order : (journal : List Record) (until : Option Moment) → Pairwise (FailsOn (is_until until)) (replay journal)
 unfolding replay
-AreBounded-until journal until bounded =
+until-order journal until =
     let line = posting_line journal in
     let order = subst (λ (es : List Entry). Pairwise IsBefore es) (sym (map-value_all journal [] line)) (Pairwise-from_AllPairs IsBefore line (IsInPostingOrder-posting_line journal)) in
-    let front = filter-front (is_until until) (rows_of journal line) (Pairwise-map row_entry IsBefore (FailsOn (is_until until)) (not_until until) (rows_of journal line) order) in
-    subst AreBounded (sym front.1) (AreBounded-take (rows_of journal line) front.0 bounded)
+    Pairwise-map row_entry IsBefore (FailsOn (is_until until)) (not_until until) (rows_of journal line) order

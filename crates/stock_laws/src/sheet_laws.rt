@@ -2,11 +2,6 @@
 ghost use Rattle.std.specs.Prelude.{◌≡◌, List, AllPairs, Contains};
 ghost use Rattle.stock_nums.specs.declared.entry.Key.{Key};
 ghost use Rattle.stock_nums.specs.declared.entry.Row.{Row};
-ghost use Rattle.stock_nums.specs.declared.numbers.RecordNo.{RecordNo};
-ghost use Rattle.stock_model.specs.declared.queries.Selected.{Selected};
-ghost use Rattle.stock_model.specs.declared.queries.Sheet.TheVariants.{Voucher};
-ghost use Rattle.stock_model.specs.LedgerSheets.{voucher};
-ghost use Rattle.stock_model.specs.Reports.{for_sheet};
 ghost use Rattle.stock_model.specs.Sheets.{IsKeyBefore, HasKey, keys_of};
 
 /// The keys of a sheet are ascending, each once, by the item's number and then by the warehouse's, and they are
@@ -18,9 +13,4 @@ pub fn keys_are_those_of_the_rows()
     ensures only { (rows : List Row) (keys : List Key) → AllPairs IsKeyBefore keys
         → ((key : Key) → Contains keys key → HasKey rows key) → ((key : Key) → HasKey rows key → Contains keys key)
         → keys ≡ keys_of rows }
-{}
-
-/// The sheet of a record shows the same, whether it is made from all that was selected or from the record's movements alone.
-pub fn a_record_needs_its_own_movements()
-    ensures { (number : RecordNo) (chosen : Selected) → voucher number.0 (for_sheet (Voucher number) chosen) ≡ voucher number.0 chosen }
 {}

@@ -1,9 +1,10 @@
 -- The heads of a journal have the codes of its records.
-use Rattle.std.proofs.Common.{◌≡◌, ℕ, zero, suc, ◌+◌, ◌<◌, List, [], ◌∷◌, Option, Some, None, Bool, false, true, cond, refl, ap, ◌∙◌, arith, subst}
+use Rattle.std.proofs.Common.{◌≡◌, ℕ, zero, suc, ◌+◌, ◌<◌, List, [], ◌∷◌, ◌++◌, length, Option, Some, None, Bool, false, true, cond, refl, ap, ◌∙◌, arith, subst}
 use Rattle.std.specs.Prelude.{unwrap_or, slice_get, nat_eq}
 use Rattle.std.specs.Option.{option_map, option_map_or}
 use Rattle.std.specs.List.{filter_map, enumerate_from, find, cons_option}
 use Rattle.std.proofs.lemmas.Bool.Decides.{nat_tests}
+use Rattle.std.proofs.lemmas.List.Elements.{filter_map-append}
 use Rattle.stock_nums.specs.declared.head.Head.{Head}
 use Rattle.stock_model.specs.declared.records.Record.{Record}
 use Rattle.stock_model.specs.declared.vouchers.What.{What}
@@ -68,3 +69,18 @@ code_of-from (suc d) k n (item ∷ records) e =
 pub code_of-heads : (journal : List Record) (n : ℕ) → code_of (heads journal) n ≡ option_map_or record_code (record_at journal n) []
 code_of-heads journal zero = ap (λ (found : Option Head). unwrap_or (option_map head_code found) []) (none_below 1 zero journal (omega arith))
 code_of-heads journal (suc n) = code_of-from n 1 (suc n) journal (omega arith)
+
+-- the numbers of some things and of those after them
+enumerate_from-append : {X : Type 0} (k : ℕ) (first rest : List X) → enumerate_from k (first ++ rest) ≡ enumerate_from k first ++ enumerate_from (k + length first) rest
+enumerate_from-append {X = X} k [] rest =
+    let same : k ≡ k + length {A = X} [] = omega arith in
+    ap (λ (j : ℕ). enumerate_from j rest) same
+enumerate_from-append k (x ∷ first) rest =
+    let same : k + 1 + length first ≡ k + length (x ∷ first) = omega arith in
+    ap (λ ys. (k, x) ∷ ys) (enumerate_from-append (k + 1) first rest ∙ ap (λ (j : ℕ). enumerate_from (k + 1) first ++ enumerate_from j rest) same)
+
+-- so the heads of some records and of those after them are all heads
+pub heads_from-append : (k : ℕ) (first rest : List Record) → heads_from k (first ++ rest) ≡ heads_from k first ++ heads_from (k + length first) rest
+heads_from-append k first rest =
+    ap (filter_map head_numbered) (enumerate_from-append k first rest)
+    ∙ filter_map-append head_numbered (enumerate_from k first) (enumerate_from (k + length first) rest)

@@ -11,17 +11,13 @@ use Rattle.stock_nums.specs.declared.limits.TheConstants.{LEAST_ACCOUNT, MAX_ENT
 use Rattle.stock_model.specs.declared.ledger_lines.Balance.{Balance}
 use Rattle.stock_model.specs.declared.ledger_lines.GlLine.{GlLine}
 use Rattle.stock_model.specs.declared.ledger_lines.TheConstants.{MAX_BALANCE}
-use Rattle.stock_model.specs.declared.queries.Query.{Query}
 use Rattle.stock_model.specs.declared.queries.Selected.{Selected}
-use Rattle.stock_model.specs.declared.queries.Sheet.{Sheet}
-use Rattle.stock_model.specs.declared.queries.Sheet.TheVariants.{Voucher}
 use Rattle.stock_model.specs.declared.sheet_rows.VoucherRow.{VoucherRow}
 use Rattle.stock_model.specs.Accounts.{balances}
 use Rattle.stock_model.specs.Bounds.{has_value_in_range, AreBounded}
 use Rattle.stock_model.specs.Layers.{layer_rows, shown_value}
 use Rattle.stock_model.specs.LedgerLines.{share_of, account_of, all_lines, debits, credits, balance_on}
 use Rattle.stock_model.specs.LedgerSheets.{voucher}
-use Rattle.stock_model.specs.Reports.{for_sheet}
 use Rattle.stock_model.specs.Sheets.{keys_of}
 use Rattle.stock_model.specs.Sums.{value_of, stock_value}
 
@@ -61,12 +57,6 @@ pub record KeepsStock (chosen : Selected) : Type 0 where
   -- and so do the lines of each record
   pub vouchers : (number : ℕ) → sum_by debit_shown (voucher number chosen) ≡ sum_by credit_shown (voucher number chosen)
 
--- what the query's sheet is made from is of a selection whose stock the accounts keep: all of it, or one record's movements
-pub record IsOfKeptStock (query : Query) (chosen : Selected) : Type 0 where
-  pub whole : Selected
-  pub is : chosen ≡ for_sheet query.sheet whole
-  pub keeps : KeepsStock whole
-
 -- landed charges are within a receipt's value
 abbrev pub holds_share : Cause → ℕ → ℕ → Bool
 holds_share (Receipt amount) value share = nat_le share value
@@ -94,18 +84,8 @@ pub record AreHeads (heads : List Head) : Type 0 where
   pub order : AllPairs IsHeadBefore heads
   pub named : list_all is_named heads ≡ true
 
--- the lines of each record can be told, and all codes are known
-pub record CanBeTold (chosen : Selected) : Type 0 where
-  pub lines : list_all has_lines chosen.rows ≡ true
-  pub heads : AreHeads chosen.heads
-
 -- every sheet of it can be written
 pub record CanBeShown (chosen : Selected) : Type 0 where
   pub bounded : AreBounded chosen.rows
   pub posted : HaveBalances chosen.heads chosen.rows
   pub heads : AreHeads chosen.heads
-
--- the sheet can be written of what it is made from
-abbrev pub CanShow : Sheet → Selected → Type 0
-CanShow (Voucher voucher) chosen = CanBeTold chosen
-CanShow _ chosen = CanBeShown chosen

@@ -16,7 +16,6 @@ use Rattle.stock_model.specs.declared.queries.SelectFault.TheVariants as unmet
 use Rattle.stock_model.specs.declared.answers.Answer.{Answer}
 use Rattle.stock_model.specs.declared.answers.Answer.TheVariants.{Told, Shown}
 use Rattle.stock_model.specs.declared.replies.Reply.TheVariants.{Pending, NoSuchRecord}
-use Rattle.stock_model.specs.LedgerSheets.{is_by_record}
 use Rattle.stock_model.specs.Masters.{heads}
 use Rattle.stock_model.specs.Replay.{replay}
 use Rattle.stock_model.specs.History.{accepted, covered, covered_records, IsLegal}
@@ -35,15 +34,6 @@ selected history query =
       rows = filter (is_until query.until) (replay (covered_records history));
       heads = heads (covered_records history);
     }
-
--- the movements that a sheet is made from: the sheet of a record needs the record's alone
-abbrev pub rows_for : Sheet → List Row → List Row
-rows_for (sheet.Voucher voucher) rows = filter (is_by_record voucher.0) rows
-rows_for _ rows = rows
-
--- what a sheet is made from, of what a report is made from
-abbrev pub for_sheet : Sheet → Selected → Selected
-for_sheet sheet chosen = record { covered = chosen.covered; rows = rows_for sheet chosen.rows; heads = chosen.heads }
 
 -- the record that a sheet shows, 0 for none
 abbrev pub record_shown : Sheet → ℕ
@@ -71,7 +61,7 @@ unmet_need (need.NoSuchRecord accepted wanted) = Some (unmet.NoSuchRecord accept
 
 -- the answer to a report whose need is so met
 abbrev pub report_by : Need → List Deed → Query → Answer
-report_by need.Ready history query = Shown query (for_sheet query.sheet (selected history query))
+report_by need.Ready history query = Shown query (selected history query)
 report_by (need.Pending covered wanted) history query = Told (Pending covered wanted) []
 report_by (need.NoSuchRecord accepted wanted) history query = Told (NoSuchRecord accepted wanted) []
 
@@ -84,9 +74,3 @@ pub record IsSelected (query : Query) (chosen : Selected) : Type 0 where
   pub history : List Deed
   pub legal : IsLegal history
   pub is : chosen ≡ selected history query
-
--- the query's sheet is made from this, of what was selected from a book with a legal history
-pub record IsForSheet (query : Query) (chosen : Selected) : Type 0 where
-  pub whole : Selected
-  pub selected : IsSelected query whole
-  pub is : chosen ≡ for_sheet query.sheet whole

@@ -1,5 +1,5 @@
 //! The items and warehouses of a journal, found by going over its records.
-ghost use Rattle.std.specs.Prelude.{◌≡◌, ◌^◌, ◌<◌, ℕ, List, [], length, IfOk, IsTrue, not, None};
+ghost use Rattle.std.specs.Prelude.{◌≡◌, ◌^◌, ◌<◌, ◌≤◌, ◌++◌, ℕ, List, [], length, take, IfOk, IsTrue, not, None};
 ghost use Rattle.std.specs.Option.{option_copied, option_map_or};
 ghost use Rattle.stock_model.specs.declared.records.Record.{Record};
 ghost use Rattle.stock_model.specs.Masters.{item_with, store_with, heads, head_made, record_at, record_code, code_of};
@@ -62,16 +62,19 @@ pub fn record_at(records: &[Record], number: RecordNo) -> Option<&Record>
     records.get(number.0 as usize - 1)
 }
 
-/// The items and warehouses, in the order of their numbers.
-pub fn heads(alloc: Global, records: &[Record]) -> Result<Lines<Head>, NoMemory>
-    requires { length records.now < 2 ^ 32 }
-    ensures { IfOk result (λ found. found ≡ heads records.now) }
+/// The items and warehouses that the records after the first `after` ones make, in the order of their numbers. It goes over
+/// these records alone.
+pub fn heads_after(alloc: Global, records: &[Record], after: usize) -> Result<Lines<Head>, NoMemory>
+    requires few { length records.now < 2 ^ 32 }
+    requires within { after ≤ length records.now }
+    ensures { IfOk result (λ found. heads (take after records.now) ++ found ≡ heads records.now) }
 {
+    let rest = &records[after..];
     let mut found = Lines::new(alloc);
-    for (i, record) in records.iter().enumerate() {
+    for (i, record) in rest.iter().enumerate() {
         // Most records make none, so this is asked before anything else.
         if makes_head(&record.what) {
-            if let Some(head) = head_made(alloc, i as u32 + 1, &record.what)? {
+            if let Some(head) = head_made(alloc, (after + i) as u32 + 1, &record.what)? {
                 found.push(head)?;
             }
         }

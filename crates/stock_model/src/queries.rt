@@ -2,10 +2,10 @@
 ghost use Rattle.std.specs.Prelude.{◌≡◌};
 ghost use Rattle.stock_model.specs.Reports.{need_of};
 
+use shared_list::list::SharedList;
 use stock_nums::code::Code;
 use stock_nums::entry::Row;
 use stock_nums::head::Head;
-use stock_nums::lines::Lines;
 use stock_nums::moment::Moment;
 use stock_nums::numbers::RecordNo;
 
@@ -96,10 +96,10 @@ pub enum SelectFault {
 }
 
 /// What a report is made from: the valued movements and the items and warehouses of the first
-/// `covered` records.
+/// `covered` records. It holds those of the generation itself, and copies of none.
 #[derive(Drop)]
 pub struct Selected {
     pub covered: RecordNo,
-    pub rows: Lines<Row>,
-    pub heads: Lines<Head>,
+    pub rows: SharedList<Row>,
+    pub heads: SharedList<Head>,
 }

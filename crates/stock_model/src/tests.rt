@@ -1,6 +1,6 @@
 //! A small journal with vouchers of all kinds, over ample memory.
 
-use crate::masters::{code_of, heads, item_with, store_with};
+use crate::masters::{code_of, heads_after, item_with, store_with};
 use crate::movements::count;
 use crate::posting::posting_line;
 use crate::records::Record;
@@ -184,8 +184,9 @@ fn masters_are_found_and_records_copied(rt: HostRuntime) -> Result<(), Fail> {
     let journal = journal(alloc)?;
     let records = journal.as_slice();
     assert_eq!(rt; records.len(), 9);
-    let heads = heads(alloc, records)?;
+    let heads = heads_after(alloc, records, 0)?;
     assert_eq!(rt; heads.len(), 3);
+    assert_eq!(rt; heads_after(alloc, records, 1)?.len(), 2);
     let second = code_of(alloc, heads.as_slice(), 3)?;
     assert_eq!(rt; second.text(), "W2");
     let item = Code::of(alloc, "A")?;

@@ -1,7 +1,7 @@
 //! What the rows of a balance sum to.
 ghost use Rattle.std.specs.Prelude.{◌≡◌, IfOk};
 ghost use Rattle.stock_model.specs.Books.{CanBeShown};
-ghost use Rattle.stock_model.specs.Reports.{IsForSheet};
+ghost use Rattle.stock_model.specs.Reports.{IsSelected};
 ghost use Rattle.stock_model.specs.Sheets.{balance};
 ghost use Rattle.stock_model.specs.declared.queries.Sheet.TheVariants.{Balance};
 ghost use Rattle.valuation_report.specs.BalanceSums.{sums_of};
@@ -49,7 +49,7 @@ pub fn balance_sums(
     selected: &Selected,
     query: &Query,
 ) -> Result<BalanceSums, NoMemory>
-    requires selected { IsForSheet query.now selected.now }
+    requires selected { IsSelected query.now selected.now }
     requires sheet { query.now.sheet ≡ Balance }
     ensures { IfOk result (λ sums. sums ≡ sums_of (balance query.now selected.now)) }
 {

@@ -1,6 +1,6 @@
 //! The sheets of the general ledger: its accounts, and the lines of a record.
 ghost use Rattle.std.specs.Prelude.{◌≡◌, IfOk};
-ghost use Rattle.stock_model.specs.Books.{CanBeShown, CanBeTold};
+ghost use Rattle.stock_model.specs.Books.{CanBeShown};
 ghost use Rattle.stock_model.specs.declared.queries.Sheet.TheVariants.{Accounts, Voucher};
 ghost use Rattle.valuation_report.specs.SheetTexts.{report_text};
 
@@ -45,7 +45,7 @@ pub(crate) fn voucher_text(
     query: &Query,
     number: RecordNo,
 ) -> Result<Vec<u8>, NoMemory>
-    requires told { CanBeTold selected.now }
+    requires shown { CanBeShown selected.now }
     requires sheet { query.now.sheet ≡ Voucher number }
     ensures { IfOk result (λ text. text.items ≡ report_text query.now selected.now) }
 {

@@ -1,8 +1,7 @@
 //! The text of a report.
 ghost use Rattle.std.specs.Prelude.{◌≡◌, IfOk};
-ghost use Rattle.stock_model.specs.Books.{CanShow, IsOfKeptStock};
-ghost use Rattle.stock_model.specs.declared.queries.Selected.{Selected};
-ghost use Rattle.stock_model.specs.Reports.{for_sheet, IsForSheet};
+ghost use Rattle.stock_model.specs.Books.{CanBeShown, KeepsStock};
+ghost use Rattle.stock_model.specs.Reports.{IsSelected};
 ghost use Rattle.valuation_report.specs.SheetTexts.{report_text};
 
 use crate::balance_sheet::balance_text;
@@ -15,18 +14,16 @@ use stock_nums::lines::Lines;
 use stock_nums::memory::NoMemory;
 
 /// The text of the sheet that a query asks for, in its format, with how many records it covers. It is made in one pass over
-/// what was selected for the sheet, and is the text of all that the report is made from. It shows amounts in minor units and
-/// quantities in smallest units. The ledger keeps the stock that the report is made from: the accounts of warehouses are what
-/// they hold (IAS 2), and all balances sum to nothing.
+/// what was selected. It shows amounts in minor units and quantities in smallest units. The ledger keeps the stock that the
+/// report is made from: the accounts of warehouses are what they hold (IAS 2), and all balances sum to nothing.
 ///
 /// # Errors
 ///
 /// `NoMemory`: memory was wanting.
 pub fn report_text(alloc: Global, selected: &Selected, query: &Query) -> Result<Lines<u8>, NoMemory>
-    requires { IsForSheet query.now selected.now }
+    requires { IsSelected query.now selected.now }
     ensures text { IfOk result (λ text. text ≡ report_text query.now selected.now) }
-    ensures whole { IfOk result (λ text. (whole : Selected) → selected.now ≡ for_sheet query.now.sheet whole → text ≡ report_text query.now whole) }
-    ensures keeps { IsOfKeptStock query.now selected.now }
+    ensures keeps { KeepsStock selected.now }
 {
     the_ledger_keeps_the_stock();
     all_can_be_shown();
@@ -34,7 +31,7 @@ pub fn report_text(alloc: Global, selected: &Selected, query: &Query) -> Result<
 }
 
 fn text_of(alloc: Global, selected: &Selected, query: &Query) -> Result<Vec<u8>, NoMemory>
-    requires { CanShow query.now.sheet selected.now }
+    requires { CanBeShown selected.now }
     ensures { IfOk result (λ text. text.items ≡ report_text query.now selected.now) }
 {
     match query.sheet {

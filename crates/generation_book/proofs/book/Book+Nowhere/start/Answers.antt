@@ -1,5 +1,5 @@
 -- The empty book.
-use Rattle.std.proofs.Common.{arith}
+use Rattle.std.proofs.Common.{refl, arith}
 use Rattle.generation_book.proofs.Books.{IsBook-start}
 use Rattle.generation_book.proofs.book.Book+Nowhere.start.Goals as goal
 
@@ -8,4 +8,5 @@ invariant_of-result c = (
   rw (c.new-3.ensures.items, c.new-2.ensures, c.new-4.ensures, c.new-5.ensures) IsBook-start,
   record { told = λ t told. absurd told; left = λ t may. absurd may },
   omega arith,
+  rw c.new-6.ensures refl,
 )

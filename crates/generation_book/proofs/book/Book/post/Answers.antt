@@ -6,7 +6,9 @@ use Rattle.stock_model.specs.declared.records.Record.{Record}
 use Rattle.stock_model.specs.declared.deeds.Deed.{Deed}
 use Rattle.stock_model.specs.declared.deeds.Deed.TheVariants as deed
 use Rattle.stock_model.specs.Faults.{fault}
+use Rattle.std.proofs.lemmas.List.{take-append-le}
 use Rattle.stock_model.specs.History.{records, accepted, IsLegal}
+use Rattle.stock_model.specs.Masters.{heads}
 use Rattle.stock_model.specs.Entries.{entries}
 use Rattle.stock_model.specs.PostingOrder.{posting_line}
 use Rattle.stock_model.proofs.Growth.{length-posting_line}
@@ -89,6 +91,7 @@ invariant_of-self-in-Err-append g c =
       c.self.invariant.0,
       subst (IsKept (g.K.Keeper.tells c.append.new.self) (g.K.Keeper.may_leave c.append.new.self)) (sym told) now,
       c.self.invariant.2,
+      c.self.invariant.3,
     )
 
 pub returns-in-Err-append-clause-fault : goal.returns-in-Err-append-clause-fault
@@ -148,6 +151,7 @@ invariant_of-self-2 g c =
       subst (IsKept (g.K.Keeper.tells c.append.new.self) (g.K.Keeper.may_leave c.append.new.self))
           (sym (deeds-kept c.self.inside.events.items c.self.inside.journal c.args.item c.self.invariant.0.counted ∙ longer)) now,
       omega (arith, c.self.invariant.2, length-append c.self.inside.events.items (Kept ∷ [])),
+      c.self.invariant.3 ∙ ap heads (sym (take-append-le c.self.inside.covered.0 c.self.inside.journal (c.args.item ∷ []) c.self.invariant.0.within)),
     )
 
 pub returns-clause-kept : goal.returns-clause-kept

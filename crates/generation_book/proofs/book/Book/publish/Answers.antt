@@ -1,9 +1,10 @@
 -- What changed is put among the rows, and the keeper has it last.
-use Rattle.std.proofs.Common.{◌≡◌, List, [], ◌∷◌, ◌++◌, length-append, ap, ◌∙◌, sym, subst, refl, arith}
+use Rattle.std.proofs.Common.{◌≡◌, take, length, List, [], ◌∷◌, ◌++◌, length-append, length-take, ap, ◌∙◌, sym, subst, refl, arith}
 use Rattle.stock_nums.specs.declared.entry.Row.{Row}
 use Rattle.stock_keeper.specs.Changed.{CoversRecords}
 use Rattle.stock_keeper.specs.declared.tables.Tables.{Tables}
 use Rattle.stock_model.specs.History as history
+use Rattle.stock_model.specs.Masters.{heads}
 use Rattle.stock_model.specs.declared.deeds.Deed.{Deed}
 use Rattle.stock_model.specs.declared.deeds.Deed.TheVariants as deed
 use Rattle.kept_tables.specs.Kept.{IsKept}
@@ -23,6 +24,12 @@ publish-requires-clause-within g c t tells =
     let kept = subst (IsKept (g.K.Keeper.tells c.self.inside.keeper) (g.K.Keeper.may_leave c.self.inside.keeper)) told c.self.invariant.1 in
     subst (λ (ts : Tables). CoversRecords ts c.args.n) (sym (kept.told t tells)) (CoversRecords-accepted c.args.self.now.history c.args.n c.requires.within)
 
+pub slice_bounds-records-end : goal.slice_bounds-records-end
+slice_bounds-records-end g c =
+    let told : deeds c.self.inside.events.items c.self.inside.journal ≡ c.args.self.now.history = ap (λ (b : BookState). b.history) c.self.view_is in
+    let all = history-accepted _ _ _ _ _ c.args.self.now.history c.self.invariant.0 told in
+    omega (arith, length-take c.args.n.0 c.records.result.now, ap length c.records.ensures.records, all, c.requires.within)
+
 pub invariant_of-self-in_err-publish : goal.invariant_of-self-in_err-publish
 invariant_of-self-in_err-publish g c =
     let told : deeds c.self.inside.events.items c.self.inside.journal ≡ c.args.self.now.history = ap (λ (b : BookState). b.history) c.self.view_is in
@@ -33,8 +40,12 @@ invariant_of-self-in_err-publish g c =
     (g.K.Keeper.tells c.publish.new.self) (g.K.Keeper.may_leave c.publish.new.self) kept c.args.n c.args.changed.now
     c.in_ok-changes.changes c.requires.later c.requires.changed c.in_ok-changes.ensures more c.in_err-publish.ensures.tables_kept
     c.in_err-publish.ensures.crash in
-    rw c.reserve.ensures.items
-    (c.self.invariant.0, subst (IsKept (g.K.Keeper.tells c.publish.new.self) (g.K.Keeper.may_leave c.publish.new.self)) (sym told) now, c.self.invariant.2)
+    rw c.reserve.ensures.items (
+      c.self.invariant.0,
+      subst (IsKept (g.K.Keeper.tells c.publish.new.self) (g.K.Keeper.may_leave c.publish.new.self)) (sym told) now,
+      c.self.invariant.2,
+      c.self.invariant.3,
+    )
 
 pub invariant_of-self-2 : goal.invariant_of-self-2
 invariant_of-self-2 g c =
@@ -44,8 +55,9 @@ invariant_of-self-2 g c =
     let covers = history-covered _ _ _ _ _ c.args.self.now.history c.self.invariant.0 told in
     let kept = subst (IsKept (g.K.Keeper.tells c.self.inside.keeper) (g.K.Keeper.may_leave c.self.inside.keeper)) told c.self.invariant.1 in
     let events = c.push_reserved.ensures.items ∙ ap (λ (es : List Event). es ++ Published c.args.n ∷ []) c.reserve.ensures.items in
-    let rows : c.in_ok-renewed.renewed ≡ merged c.self.inside.rows c.args.changed.now =
-    c.in_ok-renewed.ensures ∙ ap (λ (old : List Row). merged old c.args.changed.now) c.as_slice.ensures in
+    let rows : c.in_ok-rows.rows ≡ merged c.self.inside.rows c.args.changed.now =
+    c.in_ok-rows.ensures ∙ c.in_ok-renewed.ensures ∙ ap (λ (old : List Row). merged old c.args.changed.now) c.as_slice.ensures in
+    let records = ap (take c.args.n.0) c.records.ensures.records in
     let changed = rw (held, covers) at c.requires.changed in
     let now = kept-published c.args.self.now.history (g.K.Keeper.tells c.self.inside.keeper) (g.K.Keeper.may_leave c.self.inside.keeper)
     (g.K.Keeper.tells c.publish.new.self) (g.K.Keeper.may_leave c.publish.new.self) kept c.args.n c.args.changed.now
@@ -58,6 +70,7 @@ invariant_of-self-2 g c =
       subst (IsKept (g.K.Keeper.tells c.publish.new.self) (g.K.Keeper.may_leave c.publish.new.self))
           (sym (deeds-published c.self.inside.events.items c.self.inside.journal c.args.n c.self.invariant.0.counted ∙ longer)) now,
       omega (arith, c.self.invariant.2, length-append c.self.inside.events.items (Published c.args.n ∷ [])),
+      c.in_ok-heads.ensures ∙ ap heads records,
     )
 
 pub returns-clause-published : goal.returns-clause-published

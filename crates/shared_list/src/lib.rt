@@ -1,0 +1,7 @@
+//! A list that several may hold at once, and of which none has a copy.
+#![tactic(auto)]
+
+pub mod list;
+mod sending;
+#[cfg(test)]
+mod tests;
