@@ -1,5 +1,5 @@
 //! A list in blocks.
-ghost use Rattle.std.specs.Prelude.{◌≡◌, ◌+◌, ◌<◌, ◌≤◌, ◌^◌, ℕ, [], Some, length, insert, remove, take, drop, slice_get, slice_set, unsigned_abs, true, false, OnOk};
+ghost use Rattle.std.specs.Prelude.{◌≡◌, ◌+◌, ◌<◌, ◌≤◌, ◌^◌, ℕ, [], Some, length, insert, remove, take, drop, min, slice_get, slice_set, unsigned_abs, true, false, OnOk};
 ghost use Rattle.std.specs.Option.{option_copied};
 ghost use Rattle.std.specs.List.Sorted.{IsPartitionedBy, IsPartitionPoint};
 ghost use Rattle.block_list.specs.Bounds.{HasSides, get_before};
@@ -16,6 +16,9 @@ use crate::weigh::Weigh;
 use std::alloc::Global;
 use std::marker::Model;
 use stock_nums::memory::NoMemory;
+
+/// How many empty blocks are kept where the others are given back: the next insertions need no new one.
+const KEPT_BLOCKS: usize = 2;
 
 /// A list of at most 2^20 items that takes one in or out at any index by moving at most 127 others. Contracts see the list of
 /// its items, and how many more can be put in without memory.
@@ -196,6 +199,16 @@ impl<T: Copy, W: Weigh<T>> BlockList<T, W> {
             &mut self.heads,
             n,
         )
+    }
+
+    /// Gives the memory of empty blocks back, but for a few: room for at most 128 more items is left, and for two
+    /// wherever there was. The items stay as they are. It takes no memory.
+    pub fn release(&mut self)
+        ensures unchanged { self.new.items ≡ self.old.items }
+        ensures released { self.new.spare ≤ 128 }
+        ensures room { min 2 self.old.spare ≤ self.new.spare }
+    {
+        self.pool.truncate(KEPT_BLOCKS);
     }
 
     /// What the items before the index count together.

@@ -76,8 +76,12 @@ fn takes_items_in_and_out(rt: HostRuntime) -> Result<(), Fail> {
             assert_eq!(rt; list.remove(index), plain.remove(index));
         }
     }
-    assert_eq!(rt; list.len(), 100);
+    list.release();
     assert!(rt; walked(alloc, &list)?.as_slice() == plain.as_slice());
+    list.reserve(1)?;
+    assert_eq!(rt; list.len(), 100);
+    list.insert(50, 600);
+    assert!(rt; list.get(50) == Some(&600));
     Ok(())
 }
 
