@@ -1,5 +1,5 @@
 //! The changes of what is held, of each item in each warehouse, and what is found among those of one.
-ghost use Rattle.std.specs.Prelude.{◌≡◌, ◌+◌, ◌<◌, ◌≤◌, ◌^◌, ◌+ℤ◌, ◌-ℤ◌, ℕ, [], length, take, slice_get, true, false, Some, unsigned_abs, OnOk};
+ghost use Rattle.std.specs.Prelude.{◌≡◌, ◌+◌, ◌<◌, ◌≤◌, ◌^◌, ◌+ℤ◌, ◌-ℤ◌, ℕ, [], length, take, min, slice_get, true, false, Some, unsigned_abs, OnOk};
 ghost use Rattle.std.specs.List.Sorted.{IsPartitionPoint};
 ghost use Rattle.std.specs.Option.{option_copied, option_map};
 ghost use Rattle.block_list.specs.Sums.{total};
@@ -77,6 +77,16 @@ impl KeyOrder {
         ensures room_stays { self.old.spare ≤ self.new.spare }
     {
         self.changes.reserve(n)
+    }
+
+    /// Gives the room back that nothing stands in: for at most 128 more changes some is left. The changes stay as they are. It
+    /// takes no memory.
+    pub fn release(&mut self)
+        ensures unchanged { self.new.changes ≡ self.old.changes }
+        ensures released { self.new.spare ≤ 128 }
+        ensures room { min 2 self.old.spare ≤ self.new.spare }
+    {
+        self.changes.release();
     }
 
     /// Puts a change in, where none of its item in its warehouse stands at its place. It takes no memory.

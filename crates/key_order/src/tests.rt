@@ -45,6 +45,7 @@ fn finds_changes_of_a_key(rt: HostRuntime) -> Result<(), Fail> {
     let mut order = KeyOrder::new(rt.alloc());
     put_in(&mut order, Change::of(&receipt(7, 2)))?;
     put_in(&mut order, Change::of(&receipt(6, 3)))?;
+    order.release();
     put_in(&mut order, Change::leaving(&receipt(8, 2)))?;
     put_in(&mut order, Change::leaving(&receipt(9, 2)))?;
     let key = Key {
