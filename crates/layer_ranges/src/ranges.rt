@@ -1,5 +1,5 @@
 //! The units that entered and left each item's warehouse, by their numbers in posting order.
-ghost use Rattle.std.specs.Prelude.{◌≡◌, ◌+◌, ◌<◌, ◌≤◌, ◌^◌, ◌↔◌, pos, [], length, IsNone, IfSome, OnOk, Some, None};
+ghost use Rattle.std.specs.Prelude.{◌≡◌, ◌+◌, ◌<◌, ◌≤◌, ◌^◌, ◌↔◌, pos, [], length, min, IsNone, IfSome, OnOk, Some, None};
 ghost use Rattle.stock_model.specs.Enough.{entry_key};
 ghost use Rattle.key_order.specs.Changes.{first_lack, leaving_change};
 ghost use Rattle.key_order.specs.KeyOrders.{HasNoneAt, put_change, without_change};
@@ -74,6 +74,18 @@ impl Ranges {
     {
         self.entering.reserve(n)?;
         self.leaving.reserve(n)
+    }
+
+    /// Gives the room back that nothing stands in: for at most 128 more movements of either side some is left. The movements
+    /// stay as they are. It takes no memory.
+    pub fn release(&mut self)
+        ensures entering { self.new.entering ≡ self.old.entering }
+        ensures leaving { self.new.leaving ≡ self.old.leaving }
+        ensures released { self.new.spare ≤ 128 }
+        ensures room { min 2 self.old.spare ≤ self.new.spare }
+    {
+        self.entering.release();
+        self.leaving.release();
     }
 
     /// Puts a movement in, where none of its item in its warehouse stands at its place on its side. It takes no memory.

@@ -68,6 +68,7 @@ fn numbers_units_of_both_sides(rt: HostRuntime) -> Result<(), Fail> {
     let mut ranges = Ranges::new(rt.alloc());
     for voucher in [9, 4] {
         put_in(&mut ranges, &arrival(voucher))?;
+        ranges.release();
         put_in(&mut ranges, &issue(voucher + 1))?;
     }
     let key = Key {
