@@ -1,13 +1,14 @@
 -- Groups of blocks: what is before a group, in it, and after it, and where one block changes.
-use Rattle.std.proofs.Common.{◌≡◌, ℕ, ◌+◌, ◌-◌, ◌*◌, ◌<◌, ◌≤◌, ◌≢◌, ◌⊎◌, inl, inr, min, get_or, set, ℤ, pos, List, [], ◌∷◌, ◌++◌, length, take, drop, sym, ap, ◌∙◌, subst, arith, length-append, length-take, length-drop}
-use Rattle.std.proofs.Math.Seq.{take-add}
+use Rattle.std.proofs.Common.{◌≡◌, ℕ, ◌+◌, ◌-◌, ◌*◌, ◌<◌, ◌≤◌, ◌≢◌, ◌⊎◌, inl, inr, min, get_or, set, ℤ, pos, ◌≤ℤ◌, unsigned_abs, ◌^◌, List, [], ◌∷◌, ◌++◌, length, map, take, drop, refl, sym, ap, ◌∙◌, subst, arith, length-append, length-take, length-drop}
+use Rattle.std.proofs.Math.Seq.{take-add, map-set_same}
 use Rattle.std.proofs.lemmas.Bool.{cases_lt}
-use Rattle.std.proofs.lemmas.List.{take-take, take_all, take-append-drop, take-set-le, drop-set-lt, drop-set-add, nil_from_length, get_or-take, get_or-drop, get_or_append_left, get_or-append-add, get_or-set_same, get_or-set_other, length-set}
+use Rattle.std.proofs.lemmas.List.{take-take, take_all, take-append-drop, take-set-le, drop-set-lt, drop-set-add, nil_from_length, get_or-take, get_or-drop, get_or_append_left, get_or-append-add, get_or-set_same, get_or-set_other, length-set, length-map, map-append, take-map, drop-map}
 use Rattle.block_list.specs.Blocks.{joined, block_at, IsSpot}
 use Rattle.block_list.specs.Heads.{group_at, IsHead, AreHeads}
 use Rattle.block_list.specs.declared.sums.TheConstants.{GROUP}
 use Rattle.block_list.specs.declared.heads.Head.{Head}
 use Rattle.block_list.proofs.Joined.{joined-append}
+use Rattle.block_list.proofs.Totals.{fronts-same, total-same}
 
 -- of the first groups, with one more
 pub joined-groups_more : {T : Type 0} (bs : List (List T)) (g : ℕ) → joined (take (GROUP * (g + 1)) bs) ≡ joined (take (GROUP * g) bs) ++ joined (group_at bs g)
@@ -140,4 +141,40 @@ AreHeads-set w hs was bs i b g h heads is within low high own =
                       subst (λ (x : Head). IsHead w x (joined (group_at bs k))) read (subst (λ (n : ℕ). IsHead w h (joined (group_at bs n))) at own)
                 ]
           ];
+    }
+
+-- what each item counts, of all blocks
+map-joined : {T U : Type 0} (f : T → U) (bs : List (List T)) → map f (joined bs) ≡ joined (map (map f) bs)
+map-joined f [] = refl
+map-joined f (b ∷ bs) = map-append f b (joined bs) ∙ ap (λ ys. map f b ++ ys) (map-joined f bs)
+
+-- and of those of a group
+map-group : {T U : Type 0} (f : T → U) (bs : List (List T)) (g : ℕ) → map f (joined (group_at bs g)) ≡ joined (group_at (map (map f) bs) g)
+map-group f bs g =
+    map-joined f (group_at bs g)
+    ∙ ap joined (sym (take-map (map f) GROUP (drop (GROUP * g) bs)) ∙ ap (take GROUP) (sym (drop-map (map f) (GROUP * g) bs)))
+
+-- a head tells as well of other items that count the same
+IsHead-same : {T : Type 0} (w : T → ℤ) (h : Head) (xs ys : List T) → map w xs ≡ map w ys → IsHead w h xs → IsHead w h ys
+IsHead-same w h xs ys same head =
+    let size : length xs ≡ length ys = sym (length-map xs w) ∙ ap length same ∙ length-map ys w in
+    record {
+      items = head.items ∙ size;
+      sum = head.sum ∙ total-same w xs ys same;
+      low = λ k. subst (λ (s : ℤ). h.sums.low ≤ℤ s) (fronts-same w xs ys same k) (head.low k);
+      small_sum = subst (λ (n : ℕ). unsigned_abs h.sums.sum ≤ n * 2 ^ 40) size head.small_sum;
+      small_low = subst (λ (n : ℕ). unsigned_abs h.sums.low ≤ n * 2 ^ 40) size head.small_low;
+    }
+
+-- so the heads stay where the items of a block come to be others that count the same
+pub AreHeads-same : {T : Type 0} (w : T → ℤ) (hs : List Head) (bs : List (List T)) (i : ℕ) (b : List T) → map w b ≡ map w (block_at bs i)
+    → AreHeads w hs bs → AreHeads w hs (set bs i b)
+AreHeads-same w hs bs i b same heads =
+    let counts : map (map w) bs ≡ map (map w) (set bs i b) = sym (map-set_same (map w) bs i b [] same) in
+    record {
+      all = omega (arith, heads.all, length-set bs i b);
+      each =
+          λ g d less.
+          let own = map-group w bs g ∙ ap (λ ns. joined (group_at ns g)) counts ∙ sym (map-group w (set bs i b) g) in
+          IsHead-same w (get_or hs g d) (joined (group_at bs g)) (joined (group_at (set bs i b) g)) own (heads.each g d less);
     }

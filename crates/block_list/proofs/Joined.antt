@@ -5,7 +5,7 @@ use Rattle.std.proofs.Math.Seq.{take-append-add, take-append_seam, drop-append-a
 use Rattle.std.proofs.lemmas.List.Elements.{All-set, All-append, All-take, All-cons, All-drop}
 use Rattle.std.proofs.lemmas.Grind.{flat_map-append, take_at_read}
 use Rattle.std.proofs.lemmas.List.{set-append_left, set-append_right, set_split, set-get_or, set-set, take-take, drop_more, length-take-le, append-nil, take-append-le, drop-append-le, take-append-drop, take-set, drop-set-lt, get_or-set_same, length-set, length-take, length-drop, get_or-append-add, get_or_append_left}
-use Rattle.std.proofs.lemmas.Option.{slice_get-get_or, get_or_from_slice_get}
+use Rattle.std.proofs.lemmas.Option.{slice_get-get_or, slice_get_read, get_or_from_slice_get}
 use Rattle.block_list.specs.Blocks.{joined, block_at, IsFilled, IsSpot, IsGap}
 use Rattle.block_list.specs.declared.sums.TheConstants.{MOST}
 
@@ -105,6 +105,13 @@ joined-get bs at i o spot =
     ap₂ (λ n xs. get_or xs n x) spot.is around ∙ get_or-append-add front (b ++ rest) o x ∙ get_or_append_left b rest x o spot.inside ∙ get_or_from_slice_get b o x x there.1 in
     let within : at < length (joined bs) = omega (arith, spot.is, spot.inside, ap length around, length-append front (b ++ rest), length-append b rest) in
     there.1 ∙ sym (slice_get-get_or (joined bs) at x within ∙ ap Some here)
+
+-- and as it was read there
+pub joined-read : {T : Type 0} (bs : List (List T)) (at i o : ℕ) (b : List T) (x : T) → IsSpot bs at i o → b ≡ block_at bs i → x ≡ get_or b o x
+    → slice_get (joined bs) at ≡ Some x
+joined-read bs at i o b x spot block read =
+    sym (joined-get bs at i o spot)
+    ∙ slice_get_read (block_at bs i) (length (block_at bs i)) o x refl spot.inside (read ∙ ap (λ c. get_or c o x) block)
 
 -- what is taken out of a block is taken out of the list
 pub joined-take : {T : Type 0} (bs : List (List T)) (at i o : ℕ) → IsSpot bs at i o → joined (set bs i (remove (block_at bs i) o)) ≡ remove (joined bs) at

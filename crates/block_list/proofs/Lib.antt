@@ -4,3 +4,4 @@ pub mod Joined
 pub mod Pressure
 pub mod Sides
 pub mod Grouped
+pub mod Changed

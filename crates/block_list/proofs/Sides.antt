@@ -1,12 +1,12 @@
 -- Where a bound falls in blocks side by side.
-use Rattle.std.proofs.Common.{◌≡◌, ℕ, suc, ◌+◌, ◌-◌, ◌<◌, Bool, true, false, get_or, List, [], ◌∷◌, ◌++◌, length, take, drop, refl, sym, ap, subst, ◌∙◌, arith, length-append, inl, inr}
+use Rattle.std.proofs.Common.{◌≡◌, ℕ, suc, ◌+◌, ◌-◌, ◌<◌, Bool, true, false, get_or, slice_get, Some, List, [], ◌∷◌, ◌++◌, length, take, drop, refl, sym, ap, subst, ◌∙◌, arith, length-append, inl, inr}
 use Rattle.std.specs.List.{All}
 use Rattle.std.specs.List.Sorted.{IsPartitionedBy, IsPartitionPoint}
 use Rattle.std.proofs.lemmas.Bool.{cases_lt}
-use Rattle.std.proofs.lemmas.List.{get_or-append-add, get_or_append_left, take_all}
-use Rattle.block_list.specs.Blocks.{joined, block_at, IsFilled}
+use Rattle.std.proofs.lemmas.List.{get_or-append-add, get_or_append_left, get_or_default, take_all}
+use Rattle.block_list.specs.Blocks.{joined, block_at, IsFilled, IsSpot}
 use Rattle.block_list.specs.Bounds.{HasSides, first_passes}
-use Rattle.block_list.proofs.Joined.{joined-around, joined_more}
+use Rattle.block_list.proofs.Joined.{joined-around, joined_more, joined-read}
 
 -- true is not false
 differ : (b : Bool) → b ≡ true → b ≡ false → ⊥
@@ -120,6 +120,14 @@ sides-joined {T = T} test bs n o filled blocks some own =
             | inr whole ↦ after-block test bs n d filled blocks some at (omega (arith, whole, own.within)) less
           ];
     }
+
+-- the item that was read of a block, after a search found where it stands
+pub sides-read : {T : Type 0} (test : T → Bool) (cs bs : List (List T)) (i o : ℕ) (b : List T) (x : T) → cs ≡ bs
+    → (at : ℕ) × HasSides test (joined cs) at × IsSpot cs at i o → b ≡ get_or bs i b → x ≡ get_or b o x
+    → (at : ℕ) × HasSides test (joined bs) at × IsSpot bs at i o × (slice_get (joined bs) at ≡ Some x)
+sides-read test cs bs i o b x same (at, sides, place) block read =
+    let spot = subst (λ ds. IsSpot ds at i o) same place in
+    (at, subst (λ ds. HasSides test (joined ds) at) same sides, spot, joined-read bs at i o b x spot (block ∙ get_or_default bs i b [] spot.within) read)
 
 -- in a list of which those that pass come first there is one index for it
 not-less : {T : Type 0} (test : T → Bool) (xs : List T) (a b : ℕ) → IsPartitionedBy test xs → HasSides test xs a → HasSides test xs b → a < b → ⊥

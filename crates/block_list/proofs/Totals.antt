@@ -1,9 +1,9 @@
 -- Sums of what items count.
-use Rattle.std.proofs.Common.{◌≡◌, ℕ, zero, suc, ◌+◌, ◌-◌, ◌<◌, ◌≤◌, ℤ, ◌+ℤ◌, ◌≤ℤ◌, unsigned_abs, slice_index_or, List, [], ◌∷◌, ◌++◌, length, take, ap, ◌∙◌, subst, arith, inl, inr}
+use Rattle.std.proofs.Common.{◌≡◌, ℕ, zero, suc, ◌+◌, ◌-◌, ◌<◌, ◌≤◌, ℤ, ◌+ℤ◌, ◌≤ℤ◌, unsigned_abs, slice_index_or, List, [], ◌∷◌, ◌++◌, length, map, take, refl, sym, ap, ◌∙◌, subst, arith, inl, inr}
 use Rattle.std.proofs.lemmas.Bool.{cases_lt}
 use Rattle.std.proofs.lemmas.Int.{ints}
 use Rattle.std.proofs.Math.Seq.{take-append-add}
-use Rattle.std.proofs.lemmas.List.{take-append-le}
+use Rattle.std.proofs.lemmas.List.{take-append-le, take-map}
 use Rattle.block_list.specs.Sums.{total}
 
 -- of two lists
@@ -55,3 +55,16 @@ low-both w xs ys first sum second low fronts is later one two k =
           let front : total w (take k (xs ++ ys)) ≡ total w (take k xs) = ap (total w) (take-append-le k xs ys within) in
           omega (arith, ints, front, one, fronts k)
     ]
+
+-- the sum reads of items what each counts, and nothing else
+total-map : {T : Type 0} (w : T → ℤ) (xs : List T) → total (λ n. n) (map w xs) ≡ total w xs
+total-map w [] = refl
+total-map w (x ∷ xs) = ap (λ (n : ℤ). w x +ℤ n) (total-map w xs)
+
+-- so the fronts of items that count the same have the same sums, and both lists too
+pub fronts-same : {T : Type 0} (w : T → ℤ) (xs ys : List T) → map w xs ≡ map w ys → (k : ℕ) → total w (take k xs) ≡ total w (take k ys)
+fronts-same w xs ys same k =
+    sym (total-map w (take k xs)) ∙ ap (total (λ n. n)) (sym (take-map w k xs) ∙ ap (take k) same ∙ take-map w k ys) ∙ total-map w (take k ys)
+
+pub total-same : {T : Type 0} (w : T → ℤ) (xs ys : List T) → map w xs ≡ map w ys → total w xs ≡ total w ys
+total-same w xs ys same = sym (total-map w xs) ∙ ap (total (λ n. n)) same ∙ total-map w ys

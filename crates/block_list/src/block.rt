@@ -1,5 +1,5 @@
 //! A block of a list: items side by side, with their sums.
-ghost use Rattle.std.specs.Prelude.{◌≡◌, ◌+◌, ◌-◌, ◌*◌, ◌^◌, ◌<◌, ◌≤◌, ◌≤ℤ◌, ℕ, List, Some, [], ◌++◌, unsigned_abs, length, take, drop, insert, remove, slice_get, slice_set, vec_len, vec_capacity, IfOk};
+ghost use Rattle.std.specs.Prelude.{◌≡◌, ◌+◌, ◌-◌, ◌*◌, ◌^◌, ◌<◌, ◌≤◌, ◌≤ℤ◌, ℕ, List, Some, [], ◌++◌, unsigned_abs, length, take, drop, insert, remove, slice_get, slice_set, map, vec_len, vec_capacity, IfOk, IsFalse};
 ghost use Rattle.std.specs.Option.{option_copied};
 ghost use Rattle.block_list.specs.Bounds.{first_passes};
 ghost use Rattle.block_list.specs.Sums.{total, IsFirstBelow};
@@ -96,13 +96,18 @@ impl<T: Copy, W: Weigh<T>> Block<T, W> {
         item
     }
 
-    /// Puts an item in the place of the one at the index.
-    pub(crate) fn set(&mut self, index: usize, item: T)
+    /// Puts an item in the place of the one at the index. Whether it counts something else: if not, all sums stay.
+    pub(crate) fn set(&mut self, index: usize, item: T) -> bool
         requires { index < length self.old }
-        ensures { self.new ≡ slice_set self.old index item }
+        ensures items { self.new ≡ slice_set self.old index item }
+        ensures weights { IsFalse result → map W.weight self.new ≡ map W.weight self.old }
     {
+        let counts_otherwise = W::weight(&item) != W::weight(&self.items[index]);
         self.items[index] = item;
-        self.sums = measure::<T, W>(self.items.as_slice());
+        if counts_otherwise {
+            self.sums = measure::<T, W>(self.items.as_slice());
+        }
+        counts_otherwise
     }
 
     /// Moves the items from the index on into a block with none.

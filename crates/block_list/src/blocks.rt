@@ -1,8 +1,9 @@
 //! Blocks side by side: how items come into them and go.
-ghost use Rattle.std.specs.Prelude.{◌≡◌, ◌+◌, ◌*◌, ◌^◌, ◌<◌, ◌≤◌, ◌⊎◌, ℕ, List, [], ◌∷◌, Some, All, slice_get, remove, length, take, drop, insert, slice_set, vec_len, vec_capacity, IfSome, OnOk};
+ghost use Rattle.std.specs.Prelude.{◌≡◌, ◌+◌, ◌*◌, ◌^◌, ◌<◌, ◌≤◌, ◌⊎◌, ℕ, List, [], ◌∷◌, Some, All, slice_get, remove, length, take, drop, insert, slice_set, vec_len, vec_capacity, IfSome, IsFalse, OnOk};
 ghost use Rattle.block_list.specs.Blocks.{joined, block_at, pressure, room_for, HaveRoom, IsFilled, IsSpot, IsGap};
 ghost use Rattle.block_list.specs.Bounds.{HasSides};
 ghost use Rattle.block_list.specs.Heads.{AreHeads, ChangesOnly};
+ghost use Rattle.block_list.specs.declared.heads.Head.{Head};
 ghost use Rattle.block_list.specs.declared.sums.TheConstants.{MOST, HALF};
 
 use crate::block::Block;
@@ -380,20 +381,25 @@ pub(crate) fn take_out<T: Copy, W: Weigh<T>>(
     }
 }
 
-/// Puts an item in the place of another one.
-pub(crate) fn replace<T: Copy, W: Weigh<T>>(blocks: &mut Vec<Block<T, W>>, spot: Spot, item: T)
+/// Puts an item in the place of another one. Whether it counts something else: if not, the heads stay right.
+pub(crate) fn replace<T: Copy, W: Weigh<T>>(
+    blocks: &mut Vec<Block<T, W>>,
+    spot: Spot,
+    item: T,
+) -> bool
     requires within { spot.block < length blocks.old.items }
     requires inside { spot.index < length (block_at blocks.old.items spot.block) }
     requires filled { All IsFilled blocks.old.items }
     ensures items { (at : ℕ) → IsSpot blocks.old.items at spot.block spot.index → joined blocks.new.items ≡ slice_set (joined blocks.old.items) at item }
     ensures len { length (joined blocks.new.items) ≡ length (joined blocks.old.items) }
     ensures changed { ChangesOnly (Some spot.block) blocks.old.items blocks.new.items }
+    ensures heads { IsFalse result → (heads : List Head) → AreHeads W.weight heads blocks.old.items → AreHeads W.weight heads blocks.new.items }
     ensures filled { All IsFilled blocks.new.items }
     ensures room { vec_capacity blocks.new ≡ vec_capacity blocks.old }
     ensures count { vec_len blocks.new ≡ vec_len blocks.old }
     ensures pressure { pressure blocks.new.items ≡ pressure blocks.old.items }
 {
-    blocks[spot.block].set(spot.index, item);
+    blocks[spot.block].set(spot.index, item)
 }
 
 /// How many empty blocks are enough for `n` more items beside so many blocks. Half a block of items is put in before a block is

@@ -1,5 +1,5 @@
 //! Heads of groups of blocks: what is kept of each group in one place, so that a walk can pass it at once.
-ghost use Rattle.std.specs.Prelude.{◌≡◌, ◌+◌, ◌*◌, ◌^◌, ◌<◌, ◌≤◌, ◌++◌, Some, List, unsigned_abs, length, vec_capacity};
+ghost use Rattle.std.specs.Prelude.{◌≡◌, ◌+◌, ◌*◌, ◌^◌, ◌<◌, ◌≤◌, ◌++◌, Some, List, unsigned_abs, length, vec_capacity, IsFalse};
 ghost use Rattle.block_list.specs.Blocks.{joined};
 ghost use Rattle.block_list.specs.Heads.{group_at, IsHead, AreHeads, ChangesOnly};
 ghost use Rattle.block_list.specs.declared.sums.TheConstants.{MOST, GROUP};
@@ -91,5 +91,22 @@ pub(crate) fn renew<T: Copy, W: Weigh<T>>(
     match changed {
         Some(block) => renew_at(heads, blocks, block),
         None => renew_all(heads, blocks),
+    }
+}
+
+/// Makes the head of the group anew in which an item has come in the place of another one, if it counts something else.
+pub(crate) fn renew_if<T: Copy, W: Weigh<T>>(
+    heads: &mut Vec<Head>,
+    blocks: &[Block<T, W>],
+    block: usize,
+    counts_otherwise: bool,
+)
+    requires changed { (was : List (List T)) × AreHeads W.weight heads.old.items was × ChangesOnly (Some block) was blocks.now }
+    requires same { IsFalse counts_otherwise → AreHeads W.weight heads.old.items blocks.now }
+    ensures heads { AreHeads W.weight heads.new.items blocks.now }
+    ensures room { vec_capacity heads.new ≡ vec_capacity heads.old }
+{
+    if counts_otherwise {
+        renew_at(heads, blocks, block);
     }
 }

@@ -5,6 +5,7 @@ mod at_bound;
 mod block;
 mod blocks;
 pub mod bound;
+pub mod change;
 pub mod crossing;
 mod groups;
 mod heads;

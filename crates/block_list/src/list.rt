@@ -3,15 +3,17 @@ ghost use Rattle.std.specs.Prelude.{◌≡◌, ◌+◌, ◌<◌, ◌≤◌, ◌^
 ghost use Rattle.std.specs.Option.{option_copied};
 ghost use Rattle.std.specs.List.Sorted.{IsPartitionedBy, IsPartitionPoint};
 ghost use Rattle.block_list.specs.Bounds.{HasSides, get_before};
+ghost use Rattle.block_list.specs.Changes.{change_at};
 ghost use Rattle.block_list.specs.Sums.{total, IsFirstBelow};
 
 use crate::at_bound::{spot_before, spot_from};
 use crate::block::Block;
 use crate::blocks::{partition_point, put, put_before, replace, supply, take_out};
 use crate::bound::Bound;
+use crate::change::Change;
 use crate::crossing::Crossing;
 use crate::groups::{first_below, spot_of, sum_before};
-use crate::heads::{Head, renew};
+use crate::heads::{Head, renew, renew_if};
 use crate::weigh::Weigh;
 use std::alloc::Global;
 use std::marker::Model;
@@ -166,19 +168,22 @@ impl<T: Copy, W: Weigh<T>> BlockList<T, W> {
         ensures room { self.new.spare ≡ self.old.spare }
     {
         let spot = spot_of(self.heads.as_slice(), self.blocks.as_slice(), index);
-        replace(&mut self.blocks, spot, item);
-        renew(&mut self.heads, self.blocks.as_slice(), Some(spot.block));
+        let other = replace(&mut self.blocks, spot, item);
+        renew_if(&mut self.heads, self.blocks.as_slice(), spot.block, other);
     }
 
-    /// Puts an item in the place of the first one that does not come before a bound, if there is one, as its index would say,
-    /// without the index. It takes no memory.
-    pub fn set_first_from<B: Bound<T>>(&mut self, bound: &B, item: T)
-        ensures items { (at : ℕ) × HasSides (B.above bound.now) self.old.items at × (self.new.items ≡ slice_set self.old.items at item) }
+    /// Makes of the first item that does not come before a bound what a change makes of it, if there is one, as its index would
+    /// say, without the index. It takes no memory.
+    pub fn update_first_from<B: Bound<T>, C: Change<T>>(&mut self, bound: &B, change: &C)
+        ensures items { (at : ℕ) × HasSides (B.above bound.now) self.old.items at × (self.new.items ≡ change_at (C.changed change.now) self.old.items at) }
         ensures room { self.new.spare ≡ self.old.spare }
     {
         if let Some(spot) = spot_from(self.blocks.as_slice(), bound) {
-            replace(&mut self.blocks, spot, item);
-            renew(&mut self.heads, self.blocks.as_slice(), Some(spot.block));
+            let item = &self.blocks[spot.block].as_slice()[spot.index];
+            if let Some(item) = change.change(item) {
+                let other = replace(&mut self.blocks, spot, item);
+                renew_if(&mut self.heads, self.blocks.as_slice(), spot.block, other);
+            }
         }
     }
 

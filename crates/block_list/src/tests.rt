@@ -1,6 +1,7 @@
 //! Lists of some hundreds or thousands of numbers, over ample memory, beside plain ones.
 
 use crate::bound::Bound;
+use crate::change::Change;
 use crate::crossing::Crossing;
 use crate::list::BlockList;
 use crate::weigh::Weigh;
@@ -33,6 +34,26 @@ impl Bound<i32> for Below {
 
     fn is_above(&self, item: &i32) -> bool {
         *item < self.number
+    }
+}
+
+// A number below this one becomes this one, and another stays.
+#[derive(Drop)]
+struct AtLeast {
+    number: i32,
+}
+
+impl Change<i32> for AtLeast {
+    ghost use Rattle.std.specs.Prelude.{int_lt, Some, None, if◌then◌else◌};
+
+    ghost changed = { λ least item. if int_lt item least.number then Some least.number else None };
+
+    fn change(&self, item: &i32) -> Option<i32> {
+        if *item < self.number {
+            Some(self.number)
+        } else {
+            None
+        }
     }
 }
 
@@ -200,11 +221,21 @@ fn finds_items_at_bounds(rt: HostRuntime) -> Result<(), Fail> {
     assert!(rt; list.last_before(&Below { number: 128 }) == Some(&127));
     assert!(rt; list.first_from(&Below { number: 301 }).is_none());
     assert!(rt; list.last_before(&Below { number: 1 }).is_none());
-    list.set_first_from(&Below { number: 128 }, 1_128);
-    list.set_first_from(&Below { number: 2_000 }, 5);
+    Ok(())
+}
+
+#[test]
+fn changes_items_at_bounds(rt: HostRuntime) -> Result<(), Fail> {
+    let mut list = in_order(rt.alloc())?;
+    let change = AtLeast { number: 1_128 };
+    list.update_first_from(&Below { number: 2_000 }, &change);
+    assert_eq!(rt; list.sum_before(list.len()), 45_150);
+    list.update_first_from(&Below { number: 128 }, &change);
     assert!(rt; list.get(127) == Some(&1_128));
+    assert_eq!(rt; list.sum_before(list.len()), 46_150);
+    list.update_first_from(&Below { number: 129 }, &AtLeast { number: 100 });
+    assert!(rt; list.get(128) == Some(&129));
     assert_eq!(rt; list.len(), 300);
-    assert_eq!(rt; list.sum_before(300), 46_150);
     Ok(())
 }
 
@@ -214,7 +245,7 @@ fn finds_nothing_in_an_empty_list(rt: HostRuntime) -> Result<(), Fail> {
     let bound = Below { number: 1 };
     assert!(rt; list.first_from(&bound).is_none());
     assert!(rt; list.last_before(&bound).is_none());
-    list.set_first_from(&bound, 1);
+    list.update_first_from(&bound, &AtLeast { number: 1 });
     assert_eq!(rt; list.len(), 0);
     Ok(())
 }

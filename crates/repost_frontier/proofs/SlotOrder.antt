@@ -1,7 +1,10 @@
 -- What changes movements in posting order, and leaves them so.
-use Rattle.std.proofs.Common.{◌≡◌, ℕ, zero, suc, ◌<◌, ◌≤◌, Bool, true, false, cond, not, List, [], ◌∷◌, length, get_or, map, set, insert, slice_get, Some, None, refl, sym, ap, ◌∙◌, arith}
+use Rattle.std.proofs.Common.{◌≡◌, ℕ, zero, suc, ◌<◌, ◌≤◌, Bool, true, false, cond, not, ◌&&◌, List, [], ◌∷◌, length, get_or, map, set, insert, slice_get, Option, Some, None, unwrap_or, inl, inr, refl, sym, ap, ◌∙◌, arith}
 use Rattle.std.proofs.lemmas.Bool.{false≢true}
+use Rattle.std.proofs.lemmas.Option.{slice_get_cases}
 use Rattle.block_list.specs.Bounds.{HasSides}
+use Rattle.block_list.specs.Changes.{changed_item, change_at}
+use Rattle.block_list.proofs.Changed.{change_at-set, change_at-past}
 use Rattle.block_list.proofs.Sides.{point-from_sides}
 use Rattle.cost_links.specs.declared.values.Valued.{Valued}
 use Rattle.stock_nums.specs.Places.{is_before}
@@ -10,10 +13,10 @@ use Rattle.stock_nums.proofs.PlaceOrder.{is_before-transitive}
 use Rattle.stock_model.specs.InOrder.{IsInPostingOrder}
 use Rattle.stock_model.specs.PostingOrder.{put}
 use Rattle.stock_model.proofs.Pairwise.{Precedes, Pairwise, Each}
-use Rattle.repost_frontier.specs.Slots.{slot_entry, slot_place, is_slot_at, slot_comes_after, slot_at, put_slot, marked, mark_at, marks, with_found, valued_at, with_value, as_published, IsStanding}
+use Rattle.repost_frontier.specs.Slots.{slot_entry, slot_place, is_slot_at, slot_comes_before, slot_comes_after, slot_at, put_slot, marked, mark_change, mark_at, marks, with_found, value_change, valued_at, with_value, as_published}
 use Rattle.repost_frontier.specs.declared.slot.Slot.{Slot}
-use Rattle.repost_frontier.proofs.OnePasses.{Fails, passes_from_not_fails, fails_from_not_passes, Fails-from_none, find-found, map-none, map-StandsAt}
-use Rattle.repost_frontier.proofs.SlotPlaces.{IsSlotBefore, ordered, from-ordered, is_before-other, HoldsBack, IsPartitionedBy-HoldsBack, stands}
+use Rattle.repost_frontier.proofs.OnePasses.{Fails, passes_from_not_fails, fails_from_not_passes, Fails-from_none, map-none, map-StandsAt}
+use Rattle.repost_frontier.proofs.SlotPlaces.{IsSlotBefore, ordered, from-ordered, is_before-other, HoldsBack, IsPartitionedBy-HoldsBack, comes_before-back, IsPointOf, stands, found-other, found-past}
 
 -- what is not false is true, and back
 not-true : (b : Bool) → not b ≡ true → b ≡ false
@@ -24,29 +27,10 @@ not-false : (b : Bool) → not b ≡ false → b ≡ true
 not-false true h = refl
 not-false false h = absurd (false≢true (sym h))
 
--- a change of the one at a place is a change of what stands there
-map-standing : (f : Slot → Slot) (slots : List Slot) (place : Place) (n : ℕ) (s : Slot)
-    → IsInPostingOrder (map slot_entry slots)
-    → IsStanding slots place n s → map (λ t. cond (is_slot_at place t) (f t) t) slots ≡ set slots n (f s)
-map-standing f slots place n s order standing =
-    let at = (find-found (is_slot_at place) slots s standing.found).0 in
-    map-StandsAt (is_slot_at place) f slots n s (stands place slots n s (ordered slots order) standing.read at) standing.read
-
--- and where none stands there, of none
+-- where none stands at the place, a change of the one there changes nothing
 map-no_standing : (f : Slot → Slot) (slots : List Slot) (place : Place) → slot_at slots place ≡ None
     → map (λ t. cond (is_slot_at place t) (f t) t) slots ≡ slots
 map-no_standing f slots place none = map-none (is_slot_at place) f slots (Fails-from_none (is_slot_at place) slots none)
-
-pub marks-standing : (slots : List Slot) (place : Place) (n : ℕ) (s : Slot) → IsInPostingOrder (map slot_entry slots)
-    → IsStanding slots place n s
-    → set slots n (marked s) ≡ marks slots place
-marks-standing slots place n s order standing = sym (map-standing marked slots place n s order standing)
-
--- a mark of a suspect changes nothing
-marked-same : (s : Slot) → s.is_suspect ≡ true → marked s ≡ s
-marked-same s suspect =
-    let of : Bool → Slot = λ b. record s { is_suspect = b } in
-    ap of (sym suspect)
 
 set-same : (slots : List Slot) (n : ℕ) (s : Slot) → slice_get slots n ≡ Some s → set slots n s ≡ slots
 set-same [] zero s read = cc
@@ -54,23 +38,58 @@ set-same [] (suc n) s read = cc
 set-same (t ∷ slots) zero s read = let same : s ≡ t = cc in ap (λ (u : Slot). u ∷ slots) same
 set-same (t ∷ slots) (suc n) s read = ap (λ ts. t ∷ ts) (set-same slots n s read)
 
-pub marks-suspect : (slots : List Slot) (place : Place) (n : ℕ) (s : Slot) → IsInPostingOrder (map slot_entry slots)
-    → IsStanding slots place n s
-    → s.is_suspect ≡ true → slots ≡ marks slots place
-marks-suspect slots place n s order standing suspect =
-    sym (set-same slots n s standing.read) ∙ ap (set slots n) (sym (marked-same s suspect)) ∙ marks-standing slots place n s order standing
+-- and where the bound of the place falls before a movement, it changes at most that one
+map-at_bound : (f : Slot → Slot) (slots : List Slot) (place : Place) (n : ℕ) (s : Slot) → IsInPostingOrder (map slot_entry slots)
+    → IsPointOf place slots n → slice_get slots n ≡ Some s
+    → set slots n (cond (is_slot_at place s) (f s) s) ≡ map (λ t. cond (is_slot_at place t) (f t) t) slots
+map-at_bound f slots place n s order point read = by_cases (is_slot_at place s) refl
+  where
+    by_cases : (b : Bool) → is_slot_at place s ≡ b → set slots n (cond b (f s) s) ≡ map (λ t. cond (is_slot_at place t) (f t) t) slots
+    by_cases true is =
+        sym (map-StandsAt (is_slot_at place) f slots n s (stands place slots n s (ordered slots order) read is) read)
+    by_cases false is =
+        set-same slots n s read ∙ sym (map-no_standing f slots place (found-other place slots n s order point read is))
 
-pub marks-none : (slots : List Slot) (place : Place) → slot_at slots place ≡ None → slots ≡ marks slots place
-marks-none slots place none = sym (map-no_standing marked slots place none)
+-- so a change of the first that does not come before the place is a change of the one that stands there
+pub change-standing : (f : Slot → Slot) (change : Slot → Option Slot) (slots new : List Slot) (place : Place)
+    → ((s : Slot) → changed_item change s ≡ cond (is_slot_at place s) (f s) s) → IsInPostingOrder (map slot_entry slots)
+    → (at : ℕ) × HasSides (slot_comes_before place) slots at × (new ≡ change_at change slots at)
+    → new ≡ map (λ t. cond (is_slot_at place t) (f t) t) slots
+change-standing f change slots new place same order (at, sides, made) =
+    let parted = IsPartitionedBy-HoldsBack (slot_comes_before place) (comes_before-back place) slots (ordered slots order) in
+    let point = point-from_sides (slot_comes_before place) slots at parted sides in
+    elim (slice_get_cases slots at).1 [
+      | inl there ↦
+          let s = there.0 in
+          let read = there.2 in
+          made ∙ change_at-set change slots at s read ∙ ap (set slots at) (same s) ∙ map-at_bound f slots place at s order point read
+      | inr past ↦
+          made ∙ change_at-past change slots at past.0 ∙ sym (map-no_standing f slots place (found-past place slots at order point past.1))
+    ]
 
-pub with_value-standing : (slots : List Slot) (place : Place) (found : Valued) (n : ℕ) (s : Slot)
-    → IsInPostingOrder (map slot_entry slots)
-    → IsStanding slots place n s → set slots n (with_found found s) ≡ with_value slots place found
-with_value-standing slots place found n s order standing = sym (map-standing (with_found found) slots place n s order standing)
+-- a mark of a suspect changes nothing
+marked-same : (s : Slot) → s.is_suspect ≡ true → marked s ≡ s
+marked-same s suspect =
+    let of : Bool → Slot = λ b. record s { is_suspect = b } in
+    ap of (sym suspect)
 
-pub with_value-none : (slots : List Slot) (place : Place) (found : Valued) → slot_at slots place ≡ None
-    → slots ≡ with_value slots place found
-with_value-none slots place found none = sym (map-no_standing (with_found found) slots place none)
+pub mark_change-is : (place : Place) (s : Slot) → changed_item (mark_change place) s ≡ mark_at place s
+mark_change-is place s =
+    elim (is_slot_at place s) as (λ b. unwrap_or (cond (b && not s.is_suspect) (Some (marked s)) None) s ≡ cond b (marked s) s) [
+      | true ↦ by_cases s.is_suspect refl
+      | false ↦ refl
+    ]
+  where
+    by_cases : (b : Bool) → s.is_suspect ≡ b → unwrap_or (cond (not b) (Some (marked s)) None) s ≡ marked s
+    by_cases true is = sym (marked-same s is)
+    by_cases false is = refl
+
+pub value_change-is : (place : Place) (found : Valued) (s : Slot) → changed_item (value_change place found) s ≡ valued_at place found s
+value_change-is place found s =
+    elim (is_slot_at place s) as (λ b. unwrap_or (cond b (Some (with_found found s)) None) s ≡ cond b (with_found found s) s) [
+      | true ↦ refl
+      | false ↦ refl
+    ]
 
 -- what keeps the movement of each keeps all
 entries-same : (f : Slot → Slot) → ((s : Slot) → slot_entry (f s) ≡ slot_entry s) → (slots : List Slot)

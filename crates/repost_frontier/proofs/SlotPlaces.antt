@@ -1,5 +1,5 @@
 -- Movements in posting order, found by their places.
-use Rattle.std.proofs.Common.{◌≡◌, ◌≢◌, ℕ, zero, suc, ◌<◌, Bool, true, false, List, [], ◌∷◌, length, get_or, map, set, slice_get, Option, Some, None, IfSome, inl, inr, IsTrue, sym, ap, ◌∙◌, subst, arith, Contains}
+use Rattle.std.proofs.Common.{◌≡◌, ◌≢◌, ℕ, zero, suc, ◌<◌, Bool, true, false, List, [], ◌∷◌, length, get_or, map, slice_get, Option, Some, None, IfSome, inl, inr, IsTrue, sym, ap, ◌∙◌, subst, arith, Contains}
 use Rattle.std.specs.List.Sorted.{IsPartitionedBy, IsPartitionPoint}
 use Rattle.std.proofs.lemmas.Bool.{false≢true, cases_lt}
 use Rattle.std.proofs.lemmas.Option.{slice_get-get_or, get_or_from_slice_get, slice_get_past}
@@ -8,11 +8,9 @@ use Rattle.stock_nums.specs.declared.place.Place.{Place}
 use Rattle.stock_nums.proofs.PlaceOrder.{is_before-transitive, is_before-total}
 use Rattle.stock_model.specs.InOrder.{IsBefore, IsInPostingOrder}
 use Rattle.stock_model.proofs.Pairwise.{Precedes, Pairwise, Each, Each-at, Each-weaker, Each-from_Precedes, Pairwise-from_AllPairs, AllPairs-from_Pairwise}
-use Rattle.block_list.specs.Bounds.{HasSides}
-use Rattle.block_list.proofs.Sides.{sides-same}
 use Rattle.key_order.specs.SamePlace.{is_same_place}
 use Rattle.key_order.proofs.SamePlaces.{is_same_place-true, is_same_place-refl, is_same_place-before, is_same_place-after}
-use Rattle.repost_frontier.specs.Slots.{slot_entry, slot_place, is_slot_at, slot_comes_before, slot_comes_after, slot_at, IsStanding}
+use Rattle.repost_frontier.specs.Slots.{slot_entry, slot_place, is_slot_at, slot_comes_before, slot_comes_after, slot_at}
 use Rattle.repost_frontier.specs.declared.slot.Slot.{Slot}
 use Rattle.repost_frontier.proofs.OnePasses.{Fails, StandsAt, fails_from_not_passes, find-none, find-found, find-StandsAt}
 
@@ -146,21 +144,6 @@ read-within slots n s read =
 -- where the bound of the place falls
 abbrev pub IsPointOf : Place → List Slot → ℕ → Type 0
 IsPointOf place slots n = IsPartitionPoint (λ s. slot_comes_before place s ≡ true) (λ s. slot_comes_before place s ≡ false) slots n
-
--- there is one index for it
-sides-same_place : (place : Place) (slots : List Slot) (a b : ℕ) → IsInPostingOrder (map slot_entry slots)
-    → HasSides (slot_comes_before place) slots a → HasSides (slot_comes_before place) slots b → a ≡ b
-sides-same_place place slots a b order =
-    sides-same (slot_comes_before place) slots a b
-    (IsPartitionedBy-HoldsBack (slot_comes_before place) (comes_before-back place) slots (ordered slots order))
-
--- and so what is put in the place of another there is put where the movement stands
-pub set-standing : (place : Place) (slots new : List Slot) (s t : Slot) → IsInPostingOrder (map slot_entry slots)
-    → (standing : (at : ℕ) × HasSides (slot_comes_before place) slots at × IsStanding slots place at s)
-    → ((at : ℕ) × HasSides (slot_comes_before place) slots at × (new ≡ set slots at t))
-    → new ≡ set slots standing.0 t
-set-standing place slots new s t order (at, sides, standing) (n, falls, made) =
-    made ∙ ap (λ k. set slots k t) (sides-same_place place slots n at order falls sides)
 
 -- there stands the movement of the place
 pub found-there : (place : Place) (slots : List Slot) (n : ℕ) (s : Slot) → IsInPostingOrder (map slot_entry slots)

@@ -1,5 +1,5 @@
 -- Movements in posting order, each with what was last found of it.
-use Rattle.std.specs.Prelude.{◌≡◌, ℕ, ℤ, pos, ◌-ℤ◌, ◌<◌, ◌++◌, Bool, true, false, List, [], ◌∷◌, length, map, take, drop, slice_get, Option, Some, None, if◌then◌else◌}
+use Rattle.std.specs.Prelude.{ℕ, ℤ, pos, ◌-ℤ◌, ◌++◌, Bool, true, false, ◌&&◌, not, List, [], ◌∷◌, map, take, drop, Option, Some, None, if◌then◌else◌}
 use Rattle.std.specs.List.{find}
 use Rattle.stock_nums.specs.Places.{is_before}
 use Rattle.stock_nums.specs.declared.entry.Entry.{Entry}
@@ -52,6 +52,10 @@ new_slot e = record { entry = e; found = None; is_suspect = true; is_revalued = 
 abbrev pub marked : Slot → Slot
 marked s = record s { is_suspect = true }
 
+-- what a mark makes of a movement: so where it stands at this place and is not so yet, and else it stays
+abbrev pub mark_change : Place → Slot → Option Slot
+mark_change place s = if is_slot_at place s && not s.is_suspect then Some (marked s) else None
+
 -- the movements with the one at this place so
 abbrev pub mark_at : Place → Slot → Slot
 mark_at place s = if is_slot_at place s then marked s else s
@@ -62,6 +66,10 @@ marks slots place = map (mark_at place) slots
 -- a movement as it was just valued
 abbrev pub with_found : Valued → Slot → Slot
 with_found found s = record { entry = s.entry; found = Some found; is_suspect = false; is_revalued = true }
+
+-- what a value makes of a movement: so where it stands at this place, and else it stays
+abbrev pub value_change : Place → Valued → Slot → Option Slot
+value_change place found s = if is_slot_at place s then Some (with_found found s) else None
 
 -- the movements with the one at this place so
 abbrev pub valued_at : Place → Valued → Slot → Slot
@@ -81,9 +89,3 @@ published_until slots n = map as_published (take n slots) ++ drop n slots
 -- what a movement counts, so that a sum from nothing falls below it at the first suspect
 abbrev pub suspect_weight : Slot → ℤ
 suspect_weight s = if s.is_suspect then pos 0 -ℤ pos 1 else pos 0
-
--- this movement stands at the place, at this index
-pub record IsStanding (slots : List Slot) (place : Place) (index : ℕ) (s : Slot) : Type 0 where
-  pub within : index < length slots
-  pub read : slice_get slots index ≡ Some s
-  pub found : slot_at slots place ≡ Some s

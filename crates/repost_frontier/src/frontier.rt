@@ -1,14 +1,14 @@
 //! Movements in posting order, found by their places, with the first suspect found at once.
-ghost use Rattle.std.specs.Prelude.{◌≡◌, ◌+◌, ◌<◌, ◌≤◌, ◌^◌, ℕ, [], List, Some, None, length, take, drop, map, slice_get, position, IfSome, OnOk};
+ghost use Rattle.std.specs.Prelude.{◌≡◌, ◌+◌, ◌<◌, ◌≤◌, ◌^◌, [], List, Some, None, length, take, drop, map, position, IfSome, OnOk};
 ghost use Rattle.std.specs.List.{find};
 ghost use Rattle.std.specs.Option.{option_copied};
-ghost use Rattle.block_list.specs.Bounds.{HasSides};
 ghost use Rattle.stock_model.specs.InOrder.{IsInPostingOrder};
 ghost use Rattle.stock_model.specs.PostingOrder.{put};
-ghost use Rattle.repost_frontier.specs.Slots.{slot_entry, slot_at, slot_comes_before, is_slot_at, put_slot, new_slot, marks, with_value, is_suspect, is_revalued, as_published, published_until, IsStanding};
+ghost use Rattle.repost_frontier.specs.Slots.{slot_entry, slot_at, is_slot_at, put_slot, new_slot, marks, with_value, is_suspect, is_revalued, as_published, published_until};
 
 use crate::slot::Slot;
 use block_list::bound::Bound;
+use block_list::change::Change;
 use block_list::crossing::Crossing;
 use block_list::list::BlockList;
 use block_list::weigh::Weigh;
@@ -63,6 +63,47 @@ impl Bound<Slot> for NotAfter {
 
     fn is_above(&self, slot: &Slot) -> bool {
         !self.place.is_before(&slot.entry.place)
+    }
+}
+
+/// The movement that stands at a place becomes suspect, unless it is.
+#[derive(Clone, Copy)]
+struct Mark {
+    place: Place,
+}
+
+impl Change<Slot> for Mark {
+    ghost use Rattle.repost_frontier.specs.Slots.{mark_change};
+
+    ghost changed = { λ mark slot. mark_change mark.place slot };
+
+    fn change(&self, slot: &Slot) -> Option<Slot> {
+        if is_slot_at(slot, &self.place) && !slot.is_suspect {
+            Some(slot.marked())
+        } else {
+            None
+        }
+    }
+}
+
+/// This was found of the movement that stands at a place.
+#[derive(Clone, Copy)]
+struct Finding {
+    place: Place,
+    found: Valued,
+}
+
+impl Change<Slot> for Finding {
+    ghost use Rattle.repost_frontier.specs.Slots.{value_change};
+
+    ghost changed = { λ finding slot. value_change finding.place finding.found slot };
+
+    fn change(&self, slot: &Slot) -> Option<Slot> {
+        if is_slot_at(slot, &self.place) {
+            Some(slot.with_found(self.found))
+        } else {
+            None
+        }
     }
 }
 
@@ -144,12 +185,9 @@ impl Frontier {
         ensures marked { self.new.slots ≡ marks self.old.slots place.now }
         ensures room { self.new.spare ≡ self.old.spare }
     {
-        if let Some(slot) = standing_at(&self.list, place) {
-            if !slot.is_suspect {
-                let suspect = slot.marked();
-                self.list.set_first_from(&Before { place: *place }, suspect);
-            }
-        }
+        let place = *place;
+        self.list
+            .update_first_from(&Before { place }, &Mark { place });
     }
 
     /// Tells what was found of the movement at this place, if there is one: it is suspect no longer, and was valued since the
@@ -158,10 +196,9 @@ impl Frontier {
         ensures valued { self.new.slots ≡ with_value self.old.slots place.now found }
         ensures room { self.new.spare ≡ self.old.spare }
     {
-        if let Some(slot) = standing_at(&self.list, place) {
-            let valued = slot.with_found(found);
-            self.list.set_first_from(&Before { place: *place }, valued);
-        }
+        let place = *place;
+        self.list
+            .update_first_from(&Before { place }, &Finding { place, found });
     }
 
     /// The first suspect. None exactly where there is none. It takes no memory.
@@ -201,8 +238,7 @@ impl Frontier {
 // The movement at the place, or None where there is none. It is the first that does not come before the place.
 fn standing_at<'a>(list: &'a BlockList<Slot, Suspect>, place: &Place) -> Option<&'a Slot>
     requires { IsInPostingOrder (map slot_entry list.now.items) }
-    ensures found { option_copied result ≡ slot_at list.now.items place.now }
-    ensures standing { IfSome (option_copied result) (λ s. (at : ℕ) × HasSides (slot_comes_before place.now) list.now.items at × IsStanding list.now.items place.now at s) }
+    ensures { option_copied result ≡ slot_at list.now.items place.now }
 {
     let slot = list.first_from(&Before { place: *place })?;
     if is_slot_at(slot, place) {
