@@ -6,6 +6,7 @@ mod fields;
 mod forms;
 mod json_values;
 mod kinds;
+mod line_room;
 mod moment_strings;
 mod plain_reader;
 mod plain_texts;

@@ -7,6 +7,7 @@ ghost use Rattle.voucher_json.specs.Records.{receipt_line, issue_line};
 ghost use Rattle.voucher_json.specs.Tables.{LineTable, line_data};
 ghost use Rattle.voucher_json.specs.UsualRecords.{goods_text};
 
+use crate::line_room::with_room;
 use crate::text_fronts::{after_byte, number_after, text_after};
 use std::alloc::Global;
 use stock_model::vouchers::{IssueLine, ReceiptLine};
@@ -109,7 +110,7 @@ pub fn split_lines<L: StoredLine>(
     ensures least { IfOk result (λ found. IfSome found (λ parts. 1 ≤ length parts.0)) }
     ensures most { IfOk result (λ found. IfSome found (λ parts. length parts.0 ≤ MAX_LINES)) }
 {
-    let mut lines = Lines::new(alloc);
+    let mut lines = with_room(alloc, 1)?;
     let mut rest = text;
     while lines.len() < MAX_LINES {
         let Some((line, after)) = L::split(alloc, rest)? else {

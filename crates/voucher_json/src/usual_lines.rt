@@ -5,6 +5,7 @@ ghost use Rattle.voucher_json.specs.Records.{receipt_line, issue_line};
 ghost use Rattle.voucher_json.specs.Tables.{LineTable, line_data};
 ghost use Rattle.voucher_json.specs.UsualTexts.{BeginsWithGoods, BeginsWithElement, BeginsWithElements, EndsWithLines};
 
+use crate::line_room::with_room;
 use crate::plain_reader::PlainReader;
 use std::alloc::Global;
 use stock_model::read_faults::FieldName;
@@ -125,7 +126,7 @@ fn read_usual_lines<L: UsualLine>(
     ensures read { IfOk result (λ found. IfSome found (λ lines. BeginsWithElements reader.old (items_of (map (line_data L.table) lines)) reader.new)) }
     ensures count { IfOk result (λ found. IfSome found (λ lines. length lines ≤ MAX_LINES)) }
 {
-    let mut lines = Lines::new(alloc);
+    let mut lines = with_room(alloc, 1)?;
     while !reader.closes_list() {
         if lines.len() == MAX_LINES {
             return Ok(None);

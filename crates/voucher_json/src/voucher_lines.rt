@@ -9,6 +9,7 @@ ghost use Rattle.voucher_json.specs.Tables.{LineTable, IsLine, line_data};
 use crate::field_names::field_text;
 use crate::fields::{amount_field, code_field, number_field};
 use crate::forms::{check_object, elements_in, no_other};
+use crate::line_room::with_room;
 use serde_json::{Value, json};
 use std::alloc::{AllocError, Global};
 use stock_model::read_faults::{FieldName, ReadFault};
@@ -242,7 +243,9 @@ fn read_lines<L: VoucherLine>(
     ensures outcome { OrNoMemory (Elements (IsLine L.table) list 1 (items_view values.now)) result }
     ensures count { IfOk result (λ lines. length lines ≡ length values.now) }
 {
-    let mut lines = Lines::new(alloc);
+    let Ok(mut lines) = with_room(alloc, values.len()) else {
+        return Err(ReadFault::NoMemory);
+    };
     for value in values {
         let line = L::read(alloc, value, list, lines.len() as u32 + 1)?;
         let Ok(()) = lines.push(line) else {

@@ -18,7 +18,7 @@ loop-value-preserved g c =
     record {
       each = grind (arith, common_steps);
       read = λ end are.
-          rw c.in-Ok.ensures.added
+          rw c.in-Ok-push.ensures.added
           (read_more (IsLine g.L.VoucherLine.table) c.args.list _ _ c.value-item.result c.in_ok-line.line c.loop-value.lines end c.loop-value-test.true c.value-item.is (c.len.result + 1) (omega arith) c.in_ok-line.ensures c.loop-value.invariant.read are);
     }
 
