@@ -1,5 +1,5 @@
 //! Movements in posting order, found by their places, with the first suspect found at once.
-ghost use Rattle.std.specs.Prelude.{◌≡◌, ◌+◌, ◌<◌, ◌≤◌, ◌^◌, [], List, Some, None, length, take, drop, map, position, IfSome, OnOk};
+ghost use Rattle.std.specs.Prelude.{◌≡◌, ◌+◌, ◌<◌, ◌≤◌, ◌^◌, [], List, Some, None, length, take, drop, map, min, position, IfSome, OnOk};
 ghost use Rattle.std.specs.List.{find};
 ghost use Rattle.std.specs.Option.{option_copied};
 ghost use Rattle.stock_model.specs.InOrder.{IsInPostingOrder};
@@ -155,6 +155,16 @@ impl Frontier {
         ensures room_stays { self.old.spare ≤ self.new.spare }
     {
         self.list.reserve(n)
+    }
+
+    /// Gives the room back that nothing stands in: for at most 128 more movements some is left. The movements stay as they are.
+    /// It takes no memory.
+    pub fn release(&mut self)
+        ensures unchanged { self.new.slots ≡ self.old.slots }
+        ensures released { self.new.spare ≤ 128 }
+        ensures room { min 2 self.old.spare ≤ self.new.spare }
+    {
+        self.list.release();
     }
 
     /// Puts a movement in that was never valued, and so is suspect, at a place where there is none. It takes no memory.

@@ -100,6 +100,8 @@ fn revalued(frontier: &Frontier) -> usize {
 fn tells_what_was_found(rt: HostRuntime) -> Result<(), Fail> {
     let mut frontier = Frontier::new(rt.alloc());
     filled(&mut frontier, 200)?;
+    frontier.release();
+    put_in(&mut frontier, receipt(201))?;
     let place = receipt(7).place;
     frontier.value(&place, worth(70));
     frontier.value(&receipt(190).place, worth(80));

@@ -1,5 +1,5 @@
 //! Where the movements stand that a valuation looks at, and that it makes look again.
-ghost use Rattle.std.specs.Prelude.{◌≡◌, ◌+◌, ◌<◌, ◌≤◌, ◌^◌, ◌↔◌, ◌&&◌, List, [], length, Contains, Some, IsNone, IfSome, OnOk};
+ghost use Rattle.std.specs.Prelude.{◌≡◌, ◌+◌, ◌<◌, ◌≤◌, ◌^◌, ◌↔◌, ◌&&◌, List, [], length, min, Contains, Some, IsNone, IfSome, OnOk};
 ghost use Rattle.std.specs.List.{find};
 ghost use Rattle.std.specs.Option.{option_map};
 ghost use Rattle.stock_nums.specs.Places.{is_before};
@@ -88,6 +88,21 @@ impl Index {
         self.keys.reserve(n)?;
         self.ranges.reserve(n)?;
         reserve(&mut self.moments)
+    }
+
+    /// Gives the room back that no movement stands in: for at most 128 more some is left. What is found stays, and the room for
+    /// moments does. It takes no memory.
+    pub fn release(&mut self)
+        ensures keys { self.new.keys ≡ self.old.keys }
+        ensures entering { self.new.entering ≡ self.old.entering }
+        ensures leaving { self.new.leaving ≡ self.old.leaving }
+        ensures moments { self.new.moments ≡ self.old.moments }
+        ensures released { self.new.spare ≤ 128 }
+        ensures room { min 2 self.old.spare ≤ self.new.spare }
+        ensures dates_room { self.new.dates_spare ≡ self.old.dates_spare }
+    {
+        self.keys.release();
+        self.ranges.release();
     }
 
     /// Makes a movement of the line be found, which is new to it. It takes no memory.

@@ -124,6 +124,8 @@ fn finds_what_a_movement_looks_at(rt: HostRuntime) -> Result<(), Fail> {
     let mut index = Index::new(rt.alloc());
     index.reserve(2)?;
     put_first(&mut index, &issued);
+    index.release();
+    index.reserve(1)?;
     put_second(&mut index, &issued, &received);
     assert!(rt; are_found(&index, &received, &issued));
     Ok(())

@@ -79,6 +79,9 @@ impl Movements {
         self.index.reserve(entries.len())?;
         self.links.add(alloc, entries, charges)?;
         put_all(&mut self.frontier, &mut self.index, entries);
+        // The room was taken for the worst case of all of them.
+        self.frontier.release();
+        self.index.release();
         Ok(())
     }
 
