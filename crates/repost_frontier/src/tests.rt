@@ -100,6 +100,7 @@ fn revalued(frontier: &Frontier) -> usize {
 fn tells_what_was_found(rt: HostRuntime) -> Result<(), Fail> {
     let mut frontier = Frontier::new(rt.alloc());
     filled(&mut frontier, 200)?;
+    frontier.reserve(200)?;
     frontier.release();
     put_in(&mut frontier, receipt(201))?;
     let place = receipt(7).place;

@@ -122,7 +122,7 @@ fn finds_what_a_movement_looks_at(rt: HostRuntime) -> Result<(), Fail> {
     let received = receipt(4);
     let issued = issue(5);
     let mut index = Index::new(rt.alloc());
-    index.reserve(2)?;
+    index.reserve(200)?;
     put_first(&mut index, &issued);
     index.release();
     index.reserve(1)?;
