@@ -20,37 +20,35 @@ use Rattle.session_laws.specs.Exchanges.{store_failures}
 use Rattle.session_laws.specs.Sentences.{AcceptsNone}
 use Rattle.session_laws.proofs.AnswerCases.{KeepsOne, KeepsNothing, answer-cases}
 use Rattle.book_answers.specs.Posts.{Posts, CountsFailure}
-use Rattle.desk_server.specs.Answering.{AnswersOver}
-use Rattle.desk_server.specs.Responding.{bytes_of, IsResponse}
+use Rattle.desk_server.specs.Answering.{AnswersOver, AnswersOnceTold, ComesTo}
+use Rattle.desk_server.specs.Responding.{bytes_of}
 use Rattle.desk_server.specs.Responses.{response_to}
-use Rattle.desk_server.specs.declared.responding.Response.{Response}
-use Rattle.desk_server.specs.declared.responding.Response.TheVariants.{NoMemory}
+use Rattle.desk_server.specs.declared.answering.Answered.{Answered}
+use Rattle.desk_server.specs.declared.answering.Answered.TheVariants.{Whole, Untold}
 
 module _ (desk : ℕ) (request : Request) (close : Bool) (old new : BookState) where
   -- nothing was kept, and memory was wanting
-  pub over-no_memory : new.history ≡ old.history → NeverFalls old.keeper.faults new.keeper.faults
-      → AnswersOver desk request close old new (response_to (Told MemoryFailed []) close)
-  over-no_memory same never_falls = record {
+  pub over-no_memory : (response : List ℕ) → new.history ≡ old.history → NeverFalls old.keeper.faults new.keeper.faults
+      → response ≡ response_to (Told MemoryFailed []) close → AnswersOver desk request close old new response
+  over-no_memory response same never_falls text = record {
     answer = Told MemoryFailed [];
     kept = [];
     answers = inl (refl, refl);
     grows = same ∙ sym (append-nil old.history);
     faults = record { never_falls = never_falls; failed = λ _. omega (arith, never_falls) };
-    response_is = refl;
+    response_is = text;
   }
 
-  -- what was answered was told, or memory was wanting for that and nothing was kept
-  pub over-told : (answer : Answer) (kept : List Deed) (response : Response) → IsAnswer desk old.history request answer kept
+  -- nothing was kept, and the answer is told, or memory is wanting for that
+  pub over-told : (answer : Answer) (kept : List Deed) → IsAnswer desk old.history request answer kept → kept ≡ []
       → new.history ≡ old.history ++ kept → CountsFailure answer old.keeper.faults new.keeper.faults
-      → IsResponse answer close response → (response ≡ NoMemory close → kept ≡ [])
-      → AnswersOver desk request close old new (bytes_of response)
-  over-told answer kept response answers grows faults told none =
+      → AnswersOnceTold desk request close old new (Untold answer)
+  over-told answer kept answers none grows faults response told =
       ⊎_elim
-      (λ (text : bytes_of response ≡ response_to answer close).
+      (λ (text : response ≡ response_to answer close).
       record { answer = answer; kept = kept; answers = inr answers; grows = grows; faults = faults; response_is = text })
-      (λ (no_memory : response ≡ NoMemory close).
-      subst (λ (r : Response). AnswersOver desk request close old new (bytes_of r)) (sym no_memory)
-      (over-no_memory (grows ∙ ap (λ (k : List Deed). old.history ++ k) (none no_memory) ∙ append-nil old.history) faults.never_falls))
+      (λ (no_memory : response ≡ response_to (Told MemoryFailed []) close).
+      over-no_memory response (grows ∙ ap (λ (k : List Deed). old.history ++ k) none ∙ append-nil old.history) faults.never_falls no_memory)
       told
 
   -- what was told is what was kept
@@ -76,18 +74,18 @@ module _ (desk : ℕ) (request : Request) (close : Bool) (old new : BookState) w
       (λ (nothing : KeepsNothing answer posts.kept). absurd (nothing.other n is))
       (answer-cases desk old.history answer posts.kept (Post what) posts.posted)
 
-  pub over-not_accepted : (what : What) (answer : Answer) (response : Response) → request ≡ Post what
+  pub over-not_accepted : (what : What) (answer : Answer) → request ≡ Post what
       → Posts desk old.history what answer new.history → CountsFailure answer old.keeper.faults new.keeper.faults
-      → AcceptsNone answer → IsResponse answer close response → AnswersOver desk request close old new (bytes_of response)
-  over-not_accepted what answer response asked posts faults none told =
-      over-told answer posts.kept response
-      (subst (λ (r : Request). IsAnswer desk old.history r answer posts.kept) (sym asked) posts.posted) posts.grows faults told
-      (λ _.
-      ⊎_elim
+      → AcceptsNone answer → AnswersOnceTold desk request close old new (Untold answer)
+  over-not_accepted what answer asked posts faults none =
+      over-told answer posts.kept
+      (subst (λ (r : Request). IsAnswer desk old.history r answer posts.kept) (sym asked) posts.posted)
+      (⊎_elim
       (λ (one : KeepsOne desk old.history (Post what) answer posts.kept).
       absurd (none (record { 0 = accepted old.history + 1 }) one.told))
       (λ (nothing : KeepsNothing answer posts.kept). nothing.nothing)
       (answer-cases desk old.history answer posts.kept (Post what) posts.posted))
+      posts.grows faults
 
 -- a report keeps nothing
 no_failure : (met : Need) (history : List Deed) (query : Query) → store_failures (report_by met history query) ≡ 0
@@ -95,13 +93,21 @@ no_failure need.Ready history query = refl
 no_failure (need.Pending covered wanted) history query = refl
 no_failure (need.NoSuchRecord held wanted) history query = refl
 
-pub over-report : (desk : ℕ) (query : Query) (close : Bool) (book : BookState) (answer : Answer) (response : Response)
-    → answer ≡ report book.history query → IsResponse answer close response
-    → AnswersOver desk (Report query) close book book (bytes_of response)
-over-report desk query close book answer response is told =
-    over-told desk (Report query) close book book answer [] response (is, refl) (sym (append-nil book.history))
+pub over-report : (desk : ℕ) (query : Query) (close : Bool) (book : BookState) (answer : Answer)
+    → answer ≡ report book.history query → AnswersOnceTold desk (Report query) close book book (Untold answer)
+over-report desk query close book answer is =
+    over-told desk (Report query) close book book answer [] (is, refl) refl (sym (append-nil book.history))
     (record {
       never_falls = omega arith;
       failed = λ _. omega (arith, ap store_failures is, no_failure (need_at book.history query) book.history query);
     })
-    told (λ _. refl)
+
+-- what the response may come to: there is always one
+pub told-first : Answered → Bool → List ℕ
+told-first (Whole response) close = bytes_of response
+told-first (Untold answer) close = response_to answer close
+
+pub comes-to : (answered : Answered) (close : Bool) → ComesTo answered close (told-first answered close)
+unfolding told-first
+comes-to (Whole response) close = refl
+comes-to (Untold answer) close = inl refl

@@ -1,10 +1,10 @@
-//! The response to a request, over the book.
+//! What a request is answered over the book, and the response that comes of it once the book is given back.
 ghost use Rattle.std.specs.Prelude.{ℕ, ◌≤◌, IsTrue};
 ghost use Rattle.stock_nums.specs.declared.limits.TheConstants.{MAX_DESK};
 ghost use Rattle.stock_model.specs.Limits.{is_within_limits};
 ghost use Rattle.stock_model.specs.declared.requests.Request.TheVariants as request;
 ghost use Rattle.voucher_json.specs.Requests.{IsWithinLimits};
-ghost use Rattle.desk_server.specs.Answering.{IsOfDesk, TellsNumber, AnswersOver};
+ghost use Rattle.desk_server.specs.Answering.{IsOfDesk, TellsNumber, AnswersOnceTold, CanBeTold, ComesTo};
 ghost use Rattle.desk_server.specs.Responding.{bytes_of};
 
 use crate::responding::{Response, response_to};
@@ -21,18 +21,41 @@ use stock_model::vouchers::What;
 use stock_nums::memory::NoMemory;
 use stock_nums::numbers::{DeskNo, RecordNo};
 
-/// The response to a request of a desk, at this point of the book's history. Where memory is wanting, nothing is kept.
+/// What a turn at the book leaves to be told. A long text is made when the turn is over, so that nobody waits for it.
+#[derive(Drop)]
+pub enum Answered {
+    /// This response, which is whole.
+    Whole(Response),
+    /// This answer, whose response is still to be made.
+    Untold(Answer),
+}
+
+impl Answered {
+    /// The response, or the one for want of memory where it is still to be made.
+    pub fn finish(self, alloc: Global, close: bool) -> Response
+        requires { CanBeTold self }
+        ensures { ComesTo self close (bytes_of result) }
+    {
+        match self {
+            Answered::Whole(response) => response,
+            Answered::Untold(answer) => response_to(alloc, &answer, close),
+        }
+    }
+}
+
+/// What a request of a desk is answered, at this point of the book's history. Where memory is wanting, nothing is kept.
 pub fn respond<K: Keeper>(
     alloc: Global,
     book: &mut Book<K>,
     desk: DeskNo,
     request: Request,
     close: bool,
-) -> Response
+) -> Answered
     requires desk { desk.0 ≤ MAX_DESK }
     requires limits { IsWithinLimits request }
     requires of_desk { IsOfDesk request }
-    ensures { AnswersOver desk.0 request close book.old book.new (bytes_of result) }
+    ensures answers { AnswersOnceTold desk.0 request close book.old book.new result }
+    ensures told { CanBeTold result }
 {
     match request {
         Request::Post(what) => post(alloc, book, desk, what, close),
@@ -48,22 +71,23 @@ fn post<K: Keeper>(
     desk: DeskNo,
     what: What,
     close: bool,
-) -> Response
+) -> Answered
     requires desk { desk.0 ≤ MAX_DESK }
     requires limits { IsTrue (is_within_limits what) }
-    ensures { AnswersOver desk.0 (request.Post what) close book.old book.new (bytes_of result) }
+    ensures answers { AnswersOnceTold desk.0 (request.Post what) close book.old book.new result }
+    ensures told { CanBeTold result }
 {
     let next = RecordNo(book.accepted().0.saturating_add(1));
     let accepted = told(alloc, Reply::Accepted(next));
     let Response::Text(text) = response_to(alloc, &accepted, close) else {
-        return Response::NoMemory { close };
+        return Answered::Whole(Response::NoMemory { close });
     };
     let Ok(answer) = posting::post(alloc, book, desk, what) else {
-        return Response::NoMemory { close };
+        return Answered::Whole(Response::NoMemory { close });
     };
     match number_told(&answer) {
-        Some(_) => Response::Text(text),
-        None => response_to(alloc, &answer, close),
+        Some(_) => Answered::Whole(Response::Text(text)),
+        None => Answered::Untold(answer),
     }
 }
 
@@ -80,11 +104,12 @@ fn number_told(answer: &Answer) -> Option<RecordNo>
     }
 }
 
-fn report<K: Keeper>(alloc: Global, book: &Book<K>, query: Query, close: bool) -> Response
-    ensures { (desk : ℕ) → AnswersOver desk (request.Report query) close book.now book.now (bytes_of result) }
+fn report<K: Keeper>(alloc: Global, book: &Book<K>, query: Query, close: bool) -> Answered
+    ensures answers { (desk : ℕ) → AnswersOnceTold desk (request.Report query) close book.now book.now result }
+    ensures told { CanBeTold result }
 {
     match reporting::report(alloc, book, query) {
-        Ok(answer) => response_to(alloc, &answer, close),
-        Err(NoMemory) => Response::NoMemory { close },
+        Ok(answer) => Answered::Untold(answer),
+        Err(NoMemory) => Answered::Whole(Response::NoMemory { close }),
     }
 }

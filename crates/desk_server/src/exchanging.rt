@@ -55,7 +55,7 @@ pub fn exchange<K: Keeper, R: Wait>(
     }
 }
 
-// Answers a request in a turn of the pass.
+// Answers a request in a turn of the pass. The response is made when the turn is over.
 fn take_turn<K: Keeper, R: Wait>(
     rt: &R,
     alloc: Global,
@@ -76,10 +76,11 @@ fn take_turn<K: Keeper, R: Wait>(
     ensures responds { RespondsInTurn desk.0 pass.view result.pass.view request close (bytes_of result.response) }
 {
     let mut held = lock.take(rt, pass);
-    let response = respond(alloc, held.book(), desk, request, close);
+    let answered = respond(alloc, held.book(), desk, request, close);
+    let pass = lock.give(held);
     Exchanged {
-        pass: lock.give(held),
-        response,
+        pass,
+        response: answered.finish(alloc, close),
     }
 }
 

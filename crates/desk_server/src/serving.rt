@@ -23,7 +23,7 @@ use turn_lock::pass::Pass;
 
 // What one more request leaves: the pass, and the end of the session if it has come.
 #[derive(Drop)]
-struct Answered<K: Keeper> {
+struct AfterRequest<K: Keeper> {
     pass: Pass<Book<K>>,
     end: Option<End>,
 }
@@ -85,7 +85,7 @@ fn answer_next<K: Keeper, P: Link, R: Wait>(
     inbox: &mut Inbox,
     request: Request,
     link: &mut P,
-) -> Answered<K>
+) -> AfterRequest<K>
     requires same_lock { pass.lock ≡ lock.now.lock }
     requires number { desk.0 ≡ pass.view.number }
     requires desk { desk.0 ≤ MAX_DESK }
@@ -104,7 +104,7 @@ fn answer_next<K: Keeper, P: Link, R: Wait>(
     let exchanged = exchange(rt, alloc, lock, pass, desk, body, request.close);
     inbox.pass(end_of_body);
     let end = write_response(link, exchanged.response.bytes(), request.close);
-    Answered {
+    AfterRequest {
         pass: exchanged.pass,
         end,
     }
