@@ -164,10 +164,30 @@ fn run(alloc: Global, book: &mut Book<Nowhere>) -> Result<Seen, Fail> {
     })
 }
 
-// What a report is made from after all was published.
-fn selected(alloc: Global, book: &mut Book<Nowhere>) -> Result<Selected, Fail> {
+// How many records a report covers, and of how many movements, items and warehouses it is made.
+type Sizes = (RecordNo, usize, usize);
+
+fn sizes(chosen: &Selected) -> Sizes {
+    (chosen.covered, chosen.rows.len(), chosen.heads.len())
+}
+
+#[derive(Clone, Copy)]
+struct Reports {
+    before: Sizes,
+    after: Sizes,
+    told: Option<[(u32, i64); 3]>,
+}
+
+// What reports are made from before all is published and after it, where the first is held meanwhile.
+fn report_twice(alloc: Global, book: &mut Book<Nowhere>) -> Result<Reports, Fail> {
+    let before = select(book, &balances(alloc, 4)?)?;
     publish_all(alloc, book)?;
-    Ok(select(book, &balances(alloc, 5)?)?)
+    let after = select(book, &balances(alloc, 5)?)?;
+    Ok(Reports {
+        before: sizes(&before),
+        after: sizes(&after),
+        told: told(after.rows.as_slice()),
+    })
 }
 
 #[test]
@@ -188,15 +208,9 @@ fn a_receipt_of_the_day_before(rt: HostRuntime) -> Result<(), Fail> {
     };
     assert_eq!(rt; seen.needs, [Need::Ready, pending, none]);
     assert_eq!(rt; seen.fetched, Some((1, RecordNo(5))));
-    let before = select(&book, &balances(alloc, 4)?)?;
-    let after = selected(alloc, &mut book)?;
-    assert_eq!(rt; before.covered, RecordNo(4));
-    assert_eq!(rt; before.rows.len(), 2);
-    assert_eq!(rt; after.covered, RecordNo(5));
-    assert_eq!(rt; after.heads.len(), 2);
-    assert_eq!(rt;
-        told(after.rows.as_slice()),
-        Some([(5, 500), (3, 1000), (4, 100)])
-    );
+    let reports = report_twice(alloc, &mut book)?;
+    assert_eq!(rt; reports.before, (RecordNo(4), 2, 2));
+    assert_eq!(rt; reports.after, (RecordNo(5), 3, 2));
+    assert_eq!(rt; reports.told, Some([(5, 500), (3, 1000), (4, 100)]));
     Ok(())
 }
