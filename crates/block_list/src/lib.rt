@@ -12,7 +12,5 @@ mod heads;
 pub mod list;
 mod sending;
 mod sums;
-#[cfg(test)]
-mod tests;
 mod walks;
 pub mod weigh;

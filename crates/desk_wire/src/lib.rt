@@ -8,6 +8,4 @@ pub mod heard;
 pub mod inbox;
 mod length;
 pub mod response;
-#[cfg(test)]
-mod tests;
 pub mod wire;

@@ -25,8 +25,6 @@ pub mod shortages;
 pub mod target_faults;
 pub mod target_lines;
 pub mod targets;
-#[cfg(test)]
-mod tests;
 pub mod vouchers;
 pub mod worked;
 pub mod worked_issues;

@@ -1,7 +1,7 @@
 //! Requests and stored records as JSON texts, and the texts of the replies.
 #![tactic(auto)]
 
-mod field_names;
+pub mod field_names;
 mod fields;
 mod forms;
 mod json_values;
@@ -11,11 +11,7 @@ mod moment_strings;
 mod plain_reader;
 mod plain_texts;
 pub mod reading;
-#[cfg(test)]
-mod reading_tests;
 pub mod record_reading;
-#[cfg(test)]
-mod record_tests;
 pub mod record_texts;
 pub mod replying;
 mod report_reading;
@@ -23,6 +19,6 @@ mod stored_lines;
 mod text_fronts;
 mod usual_lines;
 pub mod usual_records;
-mod usual_requests;
+pub mod usual_requests;
 mod voucher_lines;
 mod whats;

@@ -1,12 +1,14 @@
 //! A small journal with vouchers of all kinds, over ample memory.
 
-use crate::masters::{code_of, heads_after, item_with, store_with};
-use crate::movements::count;
-use crate::posting::posting_line;
-use crate::records::Record;
-use crate::vouchers::{Basis, IssueLine, Purpose, ReceiptLine, ReturnLine, TransferLine, What};
 use std::alloc::Global;
 use std::test::Fail;
+use stock_model::masters::{code_of, heads_after, item_with, store_with};
+use stock_model::movements::count;
+use stock_model::posting::posting_line;
+use stock_model::records::Record;
+use stock_model::vouchers::{
+    Basis, IssueLine, Purpose, ReceiptLine, ReturnLine, TransferLine, What,
+};
 use stock_nums::cause::{Method, Target};
 use stock_nums::code::Code;
 use stock_nums::entry::Entry;

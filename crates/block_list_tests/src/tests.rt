@@ -1,10 +1,10 @@
 //! Lists of some hundreds or thousands of numbers, over ample memory, beside plain ones.
 
-use crate::bound::Bound;
-use crate::change::Change;
-use crate::crossing::Crossing;
-use crate::list::BlockList;
-use crate::weigh::Weigh;
+use block_list::bound::Bound;
+use block_list::change::Change;
+use block_list::crossing::Crossing;
+use block_list::list::BlockList;
+use block_list::weigh::Weigh;
 use std::alloc::Global;
 use std::test::Fail;
 

@@ -1,10 +1,10 @@
 ghost use Rattle.std.specs.Prelude.{◌<◌};
 
-use crate::framing::frame;
-use crate::heard::{Heard, Request, Stop};
-use crate::inbox::Inbox;
-use crate::response::response_text;
-use crate::wire::{Wire, next_request};
+use desk_wire::framing::frame;
+use desk_wire::heard::{Heard, Request, Stop};
+use desk_wire::inbox::Inbox;
+use desk_wire::response::response_text;
+use desk_wire::wire::{Wire, next_request};
 use itoa::Buffer;
 use std::alloc::Global;
 use std::test::Fail;

@@ -4,7 +4,7 @@ use Rattle.stock_nums.specs.declared.entry.Entry.{Entry}
 use Rattle.stock_model.specs.Returns.{returns_of}
 use Rattle.cost_links.specs.Linked.{returns_to}
 use Rattle.cost_links.proofs.ReturnSteps.{back-small, filter-short}
-use Rattle.cost_links.proofs.links.tests.links_a_return_to_its_issue.Goals as goal
+use Rattle.cost_links_tests.proofs.link_tests.links_a_return_to_its_issue.Goals as goal
 
 pub returned_before-requires : goal.returned_before-requires
 returned_before-requires g c =

@@ -1,6 +1,3 @@
-use crate::field_names::field_text;
-use crate::reading::read_request;
-use crate::usual_requests::read_usual;
 use std::alloc::Global;
 use std::test::Fail;
 use stock_model::queries::Query;
@@ -8,6 +5,9 @@ use stock_model::read_faults::ReadFault;
 use stock_model::requests::Request;
 use stock_model::vouchers::{IssueLine, ReceiptLine, ReturnLine, TransferLine, What};
 use stock_nums::cause::Target;
+use voucher_json::field_names::field_text;
+use voucher_json::reading::read_request;
+use voucher_json::usual_requests::read_usual;
 
 fn told_receipt(alloc: Global, text: &mut String, lines: &[ReceiptLine]) -> Result<(), Fail> {
     for line in lines {

@@ -1,10 +1,10 @@
-use crate::field_names::field_text;
-use crate::record_reading::read_record;
-use crate::record_texts::{is_text_of, record_text};
-use crate::usual_records::usual_record;
 use std::alloc::Global;
 use std::test::Fail;
 use stock_model::read_faults::ReadFault;
+use voucher_json::field_names::field_text;
+use voucher_json::record_reading::read_record;
+use voucher_json::record_texts::{is_text_of, record_text};
+use voucher_json::usual_records::usual_record;
 
 /// The stored text of the record that a text is read as, or why it is none.
 fn read(alloc: Global, text: &[u8]) -> Result<String, Fail> {
