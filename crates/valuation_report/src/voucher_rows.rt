@@ -35,3 +35,43 @@ pub(crate) fn push_voucher_row(
         }
     }
 }
+
+#[cfg(test)]
+mod tests {
+    use super::*;
+    use std::test::Fail;
+    use stock_nums::numbers::{AccountNo, Minor};
+
+    const CASES: [(i64, i64, &[u8], &[u8]); 2] = [
+        (
+            250_000,
+            0,
+            br#"{"account":1000,"credit":0,"debit":250000,"line":2},"#,
+            br"2,1000,250000,0\n",
+        ),
+        (
+            0,
+            75,
+            br#"{"account":1000,"credit":75,"debit":0,"line":2},"#,
+            br"2,1000,0,75\n",
+        ),
+    ];
+
+    #[test]
+    fn shows_lines(rt: HostRuntime) -> Result<(), Fail> {
+        for (debit, credit, json, csv) in CASES {
+            let made = GlLine {
+                account: AccountNo(1000),
+                debit: Minor(debit),
+                credit: Minor(credit),
+            };
+            let mut text = Vec::new(rt.alloc());
+            push_voucher_row(&mut text, Format::Json, 2, &made)?;
+            assert_eq!(rt; text.as_slice(), json);
+            text.clear();
+            push_voucher_row(&mut text, Format::Csv, 2, &made)?;
+            assert_eq!(rt; text.as_slice(), csv);
+        }
+        Ok(())
+    }
+}
