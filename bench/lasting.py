@@ -6,7 +6,6 @@ import sys
 import measuring
 
 LEAST = 0.75  # of what README says
-MORE_RUNS = 2
 # How the row of a figure begins, and what the number is in it.
 ROWS = {
     "receipts_of_1": ("receipts of 1 line are read", r"([\d.]+) times `json\.loads`"),
@@ -35,21 +34,11 @@ def ratios_of(bad_lines, reading, sheets):
     return {"bad_lines": bad_lines["times_python"], "sheets": printed, **{kind: it["times_python"] for kind, it in reading.items()}}
 
 
-def fallen(ratios):
-    """Returns the ratios that fell by a quarter against README's, each with what README tells."""
-    return {figure: (ratios[figure], ratio) for figure, ratio in told().items() if ratios[figure] < LEAST * ratio}
-
-
-def check(ratios, measured_again):
-    """Ends the run with status 1 where a ratio fell by a quarter against README's, in this run and in each of two more: a machine that is
-    slow for a moment slows one of them."""
-    for _ in range(MORE_RUNS):
-        if not fallen(ratios):
-            return
-        again = measured_again()
-        ratios = {figure: max(ratio, again[figure]) for figure, ratio in ratios.items()}
-    measuring.require(not fallen(ratios), "; ".join(
-        f"{figure} is {found} times as fast as Python, and README tells {ratio}" for figure, (found, ratio) in fallen(ratios).items()))
+def check(ratios):
+    """Ends the run with status 1 where a ratio fell by a quarter against README's."""
+    fallen = [f"{figure} is {ratios[figure]} times as fast as Python, and README tells {ratio}"
+              for figure, ratio in told().items() if ratios[figure] < LEAST * ratio]
+    measuring.require(not fallen, "; ".join(fallen))
 
 
 if __name__ == "__main__":
