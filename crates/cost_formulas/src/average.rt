@@ -61,18 +61,3 @@ impl Average {
         cost
     }
 }
-
-#[cfg(test)]
-mod tests {
-    use super::*;
-
-    #[test]
-    fn takes_all_in_the_end(rt: HostRuntime) {
-        let mut held = Average::new();
-        held.add(Qty(3), Minor(100));
-        assert_eq!(rt; held.take(Qty(1)), Minor(33));
-        assert_eq!(rt; held.take(Qty(1)), Minor(34));
-        assert_eq!(rt; held.take(Qty(1)), Minor(33));
-        assert_eq!(rt; held, Average::new());
-    }
-}

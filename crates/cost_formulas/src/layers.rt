@@ -133,31 +133,3 @@ fn take_of_first(layers: &mut VecDeque<Layer>, qty: Qty) -> Minor
         None => Minor(0),
     }
 }
-
-#[cfg(test)]
-mod tests {
-    use super::*;
-    use std::test::Fail;
-
-    #[test]
-    fn takes_what_entered_first(rt: HostRuntime) -> Result<(), Fail> {
-        let mut held = Layers::new(rt.alloc());
-        held.push(Qty(10), Minor(1_000))?;
-        held.push(Qty(10), Minor(1_300))?;
-        assert_eq!(rt; held.take(Qty(15)), Minor(1_650));
-        assert_eq!(rt; held.held(), Qty(5));
-        assert_eq!(rt; held.take(Qty(5)), Minor(650));
-        assert_eq!(rt; held.held(), Qty(0));
-        Ok(())
-    }
-
-    #[test]
-    fn rounds_no_layer_twice(rt: HostRuntime) -> Result<(), Fail> {
-        let mut held = Layers::new(rt.alloc());
-        held.push(Qty(3), Minor(100))?;
-        assert_eq!(rt; held.take(Qty(1)), Minor(33));
-        assert_eq!(rt; held.take(Qty(1)), Minor(33));
-        assert_eq!(rt; held.take(Qty(1)), Minor(34));
-        Ok(())
-    }
-}

@@ -7,5 +7,3 @@ pub mod open_fault;
 pub mod publishing;
 mod sending;
 pub mod table_laws;
-#[cfg(test)]
-mod tests;

@@ -6,5 +6,3 @@ pub mod change;
 mod key_bounds;
 pub mod order;
 mod sending;
-#[cfg(test)]
-mod tests;

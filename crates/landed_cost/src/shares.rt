@@ -68,27 +68,3 @@ fn parted(alloc: Global, charge: Minor, weights: &[u64], all: Qty) -> Result<Lin
     }
     Ok(parted)
 }
-
-#[cfg(test)]
-mod tests {
-    use super::*;
-    use std::test::Fail;
-
-    #[test]
-    fn loses_no_minor_unit(rt: HostRuntime) -> Result<(), Fail> {
-        let thirds = shares(rt.alloc(), Minor(100), [1, 1, 1].as_slice())?;
-        assert_eq!(rt;
-            thirds.as_slice(),
-            [Minor(33), Minor(33), Minor(34)].as_slice()
-        );
-        let by_amount = shares(rt.alloc(), Minor(900), [5_000, 10_000].as_slice())?;
-        assert_eq!(rt; by_amount.as_slice(), [Minor(300), Minor(600)].as_slice());
-        Ok(())
-    }
-
-    #[test]
-    fn needs_a_basis(rt: HostRuntime) {
-        let fault = shares(rt.alloc(), Minor(900), [0, 0].as_slice()).err();
-        assert_eq!(rt; fault, Some(ShareFault::NoBasis));
-    }
-}

@@ -4,5 +4,3 @@
 pub mod layer;
 pub mod ranges;
 mod sending;
-#[cfg(test)]
-mod tests;

@@ -3,5 +3,3 @@
 
 pub mod fetch;
 mod sending;
-#[cfg(test)]
-mod tests;

@@ -6,5 +6,3 @@ pub mod frontier;
 mod sending;
 pub mod slot;
 pub mod slot_laws;
-#[cfg(test)]
-mod tests;

@@ -6,5 +6,3 @@ pub mod index;
 pub mod layer_laws;
 mod moments;
 mod sending;
-#[cfg(test)]
-mod tests;

@@ -3,5 +3,3 @@
 
 pub mod list;
 mod sending;
-#[cfg(test)]
-mod tests;

@@ -18,5 +18,3 @@ pub mod sink;
 pub mod source;
 pub mod standard;
 pub mod sure;
-#[cfg(test)]
-mod tests;

@@ -11,6 +11,4 @@ pub mod nowhere;
 mod sending;
 pub mod shelf;
 pub mod tables;
-#[cfg(test)]
-mod tests;
 pub mod worths;

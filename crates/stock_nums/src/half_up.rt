@@ -39,22 +39,3 @@ fn share(value: u64, take: u64, whole: u64) -> u64
     let doubled = 2 * u128::from(value) * u128::from(take) + u128::from(whole);
     (doubled / (2 * u128::from(whole))) as u64
 }
-
-#[cfg(test)]
-mod tests {
-    use super::*;
-
-    #[test]
-    fn rounds_half_up(rt: HostRuntime) {
-        let table = [
-            (10_600, 10, 40, 2_650),
-            (1_100, 4, 10, 440),
-            (100, 1, 3, 33),
-            (67, 1, 2, 34),
-            (33, 1, 1, 33),
-        ];
-        for (value, take, whole, want) in table {
-            assert_eq!(rt; half_up(Minor(value), Qty(take), Qty(whole)), Minor(want));
-        }
-    }
-}

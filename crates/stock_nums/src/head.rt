@@ -25,23 +25,3 @@ impl Head {
         })
     }
 }
-
-#[cfg(test)]
-mod tests {
-    use super::*;
-    use std::test::Fail;
-
-    #[test]
-    fn copies(rt: HostRuntime) -> Result<(), Fail> {
-        let head = Head {
-            number: RecordNo(7),
-            code: Code::of(rt.alloc(), "MAIN")?,
-            account: Some(AccountNo(1400)),
-        };
-        let copy = head.copy(rt.alloc())?;
-        assert_eq!(rt; copy.number, RecordNo(7));
-        assert_eq!(rt; copy.code.text(), "MAIN");
-        assert_eq!(rt; copy.account, Some(AccountNo(1400)));
-        Ok(())
-    }
-}

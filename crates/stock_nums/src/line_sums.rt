@@ -69,31 +69,3 @@ impl LineSums {
         }
     }
 }
-
-#[cfg(test)]
-mod tests {
-    use super::*;
-    use crate::numbers::RecordNo;
-    use std::test::Fail;
-
-    #[test]
-    fn adds_up_by_line(rt: HostRuntime) -> Result<(), Fail> {
-        let line = Target {
-            voucher: RecordNo(6),
-            line: 1,
-        };
-        let other = Target { line: 2, ..line };
-        let mut sums = LineSums::new(rt.alloc());
-        sums.reserve(line)?;
-        sums.add(line, 3);
-        sums.reserve(line)?;
-        sums.add(line, 2);
-        assert_eq!(rt; sums.of(line), 5);
-        if sums.of(line) == 5 {
-            sums.subtract(line, 4);
-        }
-        assert_eq!(rt; sums.of(line), 1);
-        assert_eq!(rt; sums.of(other), 0);
-        Ok(())
-    }
-}

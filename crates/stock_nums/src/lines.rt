@@ -79,21 +79,3 @@ impl<T> Lines<T> {
         self.items.is_empty()
     }
 }
-
-#[cfg(test)]
-mod tests {
-    use super::*;
-    use std::test::Fail;
-
-    #[test]
-    fn grows(rt: HostRuntime) -> Result<(), Fail> {
-        let mut lines = Lines::new(rt.alloc());
-        assert!(rt; lines.is_empty());
-        lines.push(3u32)?;
-        lines.push(5)?;
-        lines.insert(1, 4)?;
-        assert_eq!(rt; lines.as_slice(), [3, 4, 5].as_slice());
-        assert_eq!(rt; lines.len(), 3);
-        Ok(())
-    }
-}

@@ -25,16 +25,3 @@ impl<T: Drop> From<AllocFailed<T>> for NoMemory {
         NoMemory
     }
 }
-
-#[cfg(test)]
-mod tests {
-    use super::*;
-    use std::test::Fail;
-
-    #[test]
-    fn is_shown(rt: HostRuntime) -> Result<(), Fail> {
-        let shown = format!(in rt.alloc(); "{}", NoMemory)?;
-        assert_eq!(rt; shown.as_str(), "out of memory");
-        Ok(())
-    }
-}

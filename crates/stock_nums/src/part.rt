@@ -40,27 +40,3 @@ fn share(total: u64, first: u64, whole: u64) -> u64
 {
     (u128::from(total) * u128::from(first) / u128::from(whole)) as u64
 }
-
-#[cfg(test)]
-mod tests {
-    use super::*;
-
-    #[test]
-    fn rounds_the_whole_down(rt: HostRuntime) {
-        let table = [
-            (1_000, 0, 10, 30, 333),
-            (1_000, 10, 2, 30, 67),
-            (1_000, 12, 18, 30, 600),
-            (100, 1, 1, 3, 33),
-            (100, 2, 1, 3, 34),
-            (100, 2, 0, 3, 0),
-            (100, 0, 3, 3, 100),
-        ];
-        for (total, before, take, whole, want) in table {
-            assert_eq!(rt;
-                part(Minor(total), Qty(before), Qty(take), Qty(whole)),
-                Minor(want)
-            );
-        }
-    }
-}

@@ -49,31 +49,3 @@ pub fn places_are_in_total_order()
     ensures total { (p q : Place) →
         IsTrue (is_before p q) ⊎ IsTrue (is_before q p) ⊎ (p ≡ q) }
 {}
-
-#[cfg(test)]
-mod tests {
-    use super::*;
-
-    #[test]
-    fn leaves_before_it_enters(rt: HostRuntime) {
-        let moment = Moment {
-            date: 20_260_103,
-            second: 0,
-        };
-        let leaves = Place {
-            moment,
-            voucher: RecordNo(4),
-            line: 1,
-            side: Side::Leaves,
-        };
-        let enters = Place {
-            side: Side::Enters,
-            ..leaves
-        };
-        let later = Place { line: 2, ..leaves };
-        assert!(rt; leaves.is_before(&enters));
-        assert!(rt; !enters.is_before(&leaves));
-        assert!(rt; !leaves.is_before(&leaves));
-        assert!(rt; enters.is_before(&later));
-    }
-}

@@ -39,25 +39,3 @@ impl<L: Ledger> Steps<L> {
         self.counted.add(&mut self.counter, 1);
     }
 }
-
-#[cfg(test)]
-mod tests {
-    use super::*;
-    use std::marker::Brand;
-
-    fn ticks<L: Ledger>(blank: Blank)
-        requires name { blank.name ≡ L.name }
-        requires parts { blank.parts ≡ L.parts }
-        requires some { 0 < L.parts }
-    {
-        let mut steps = Steps::<L>::new(blank);
-        steps.tick();
-        steps.tick();
-    }
-
-    #[test]
-    fn costs_nothing(rt: HostRuntime) {
-        assert_eq!(rt; std::mem::size_of::<Steps<Brand>>(), 0);
-        ticks::<Brand>(Blank::new(1));
-    }
-}

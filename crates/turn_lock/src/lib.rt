@@ -8,6 +8,4 @@ pub mod pass;
 mod plays;
 mod rule;
 mod sending;
-#[cfg(test)]
-mod tests;
 pub mod view;

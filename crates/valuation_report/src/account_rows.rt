@@ -29,38 +29,3 @@ pub(crate) fn push_account_row(
         }
     }
 }
-
-#[cfg(test)]
-mod tests {
-    use super::*;
-    use std::test::Fail;
-    use stock_nums::numbers::{AccountNo, Minor};
-
-    const CASES: [(u32, i64, &[u8], &[u8]); 3] = [
-        (
-            1000,
-            250_000,
-            br#"{"account":1000,"balance":250000},"#,
-            br"1000,250000\n",
-        ),
-        (1, -99, br#"{"account":1,"balance":-99},"#, br"1,-99\n"),
-        (4, 0, br#"{"account":4,"balance":0},"#, br"4,0\n"),
-    ];
-
-    #[test]
-    fn shows_accounts(rt: HostRuntime) -> Result<(), Fail> {
-        for (account, balance, json, csv) in CASES {
-            let row = Balance {
-                account: AccountNo(account),
-                balance: Minor(balance),
-            };
-            let mut text = Vec::new(rt.alloc());
-            push_account_row(&mut text, Format::Json, &row)?;
-            assert_eq!(rt; text.as_slice(), json);
-            text.clear();
-            push_account_row(&mut text, Format::Csv, &row)?;
-            assert_eq!(rt; text.as_slice(), csv);
-        }
-        Ok(())
-    }
-}
