@@ -7,6 +7,7 @@ use std::env::Env;
 use std::process::ExitCode;
 use std::{env, io};
 use stock_cli::top;
+use stock_ends::notes::without_memory;
 use stock_io::net_listener::NetListener;
 use stock_io::standard::{StdSink, StdSource};
 
@@ -26,7 +27,7 @@ fn main(rt: HostRuntime) -> ExitCode {
     let words = match words_of(&rt) {
         Ok(words) => words,
         Err(error) if error.kind() == io::ErrorKind::OutOfMemory => {
-            return ExitCode::from(top::without_memory(&mut notes));
+            return ExitCode::from(without_memory(&mut notes));
         }
         // Words that are no text are no form of words.
         Err(_) => Vec::new(alloc),

@@ -3,8 +3,8 @@ use Rattle.std.proofs.Common.{◌≡◌, ℕ, ◌⊎◌, sym, ◌∙◌, subst}
 use Rattle.stock_io.specs.Listeners.{IsFresh}
 use Rattle.desk_service.specs.Listening.{heard}
 use Rattle.desk_service.specs.Service.{IsPeerServed}
-use Rattle.stock_cli.proofs.ServedRuns.{served-told, served-complete}
-use Rattle.stock_cli.proofs.Told.{status_not_2}
+use Rattle.stock_serving.proofs.ServedRuns.{served-told, served-complete}
+use Rattle.stock_ends.proofs.Told.{status_not_2}
 use Rattle.stock_cli.proofs.top.serve_asked.Goals as goal
 
 pub returns-clause-serves : goal.returns-clause-serves

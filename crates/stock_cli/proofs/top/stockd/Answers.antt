@@ -1,42 +1,299 @@
--- The words of a service are those of nothing else.
-use Rattle.std.proofs.Common.{◌≡◌, ℕ, map, inl, inr, subst, string_bytes}
+-- Each command does what the words ask for, which is nothing else, and no end has the status of other words.
+use Rattle.std.proofs.Common.{◌≡◌, ℕ, map, inl, inr, refl, subst, sym, ap, ◌∙◌, string_bytes, arith}
 use Rattle.stock_io.specs.Listeners.{IsFresh}
+use Rattle.repost_worker.specs.Paces.{first_pace}
 use Rattle.desk_service.specs.Listening.{heard}
 use Rattle.desk_service.specs.Service.{IsPeerServed}
-use Rattle.stock_cli.specs.Serving.{ServesOverShelf}
-use Rattle.stock_cli.specs.declared.end.End.{End}
-use Rattle.stock_cli.specs.Statuses.{status_of}
-use Rattle.stock_cli.proofs.ServeWords.{serve_is_no_batch, serve_is_not_over, serve_is_no_load, one_service}
+use Rattle.stock_words.specs.Words.{Spells, IsFaultOf}
+use Rattle.stock_words.proofs.ServeWords.{one_service}
+use Rattle.stock_words.proofs.Forms.{batch_begins, over_begins, load_begins, serve_begins, batch_is_not_over, load_once}
+use Rattle.stock_ends.specs.Statuses.{status_of}
+use Rattle.stock_ends.specs.declared.end.End.{End}
+use Rattle.stock_ends.specs.declared.end.End.TheVariants.{NoMemory}
+use Rattle.stock_ends.proofs.Told.{status_not_2}
+use Rattle.stock_batch.proofs.Ends.{Ran-no_memory}
+use Rattle.stock_load.specs.Loads.{IsLoaded}
+use Rattle.stock_load.proofs.LoadEnds.{loaded-told, loaded-complete}
+use Rattle.stock_serving.specs.Serving.{ServesOverShelf}
 use Rattle.stock_cli.proofs.top.stockd.Goals as goal
 
-pub returns-clause-words : goal.returns-clause-words
-returns-clause-words g c = ((λ two. absurd (c.serve_asked.ensures.served two)), (λ none. absurd (none.3 _ _ _ c.in-Some.ensures)))
+-- the one word `batch`
 
-pub returns-clause-nothing_written : goal.returns-clause-nothing_written
-returns-clause-nothing_written g c two = absurd (c.serve_asked.ensures.served two)
+pub returns-in-Ok-Batch-clause-words : goal.returns-in-Ok-Batch-clause-words
+returns-in-Ok-Batch-clause-words g c =
+    let words = map string_bytes c.args.words.now in
+    let spells = subst (Spells words) c.in-Ok-Batch.field-0-is c.in-Ok-Batch.ensures.asked in
+    let told = c.tell-status.ensures.told in (
+      (λ two. absurd (status_not_2 told.0 (sym told.2 ∙ two))),
+      (λ none. absurd (none.0 spells)),
+    )
 
-pub returns-clause-nothing_opened : goal.returns-clause-nothing_opened
-returns-clause-nothing_opened g c (inl two) = absurd (c.serve_asked.ensures.served two)
-returns-clause-nothing_opened g c (inr batch) = absurd (serve_is_no_batch (map string_bytes c.args.words.now) _ _ _ c.in-Some.ensures batch)
+pub returns-in-Ok-Batch-clause-load : goal.returns-in-Ok-Batch-clause-load
+returns-in-Ok-Batch-clause-load g c n load =
+    let words = map string_bytes c.args.words.now in
+    let spells = subst (Spells words) c.in-Ok-Batch.field-0-is c.in-Ok-Batch.ensures.asked in
+    absurd (omega (arith, load_begins words n load, batch_begins words spells))
 
-pub returns-clause-usage : goal.returns-clause-usage
-returns-clause-usage g c two = absurd (c.serve_asked.ensures.served two)
+pub returns-in-Ok-Batch-clause-load_takes_nothing : goal.returns-in-Ok-Batch-clause-load_takes_nothing
+returns-in-Ok-Batch-clause-load_takes_nothing g c n load =
+    let words = map string_bytes c.args.words.now in
+    let spells = subst (Spells words) c.in-Ok-Batch.field-0-is c.in-Ok-Batch.ensures.asked in
+    absurd (omega (arith, load_begins words n load, batch_begins words spells))
 
-pub returns-clause-run : goal.returns-clause-run
-returns-clause-run g c batch = absurd (serve_is_no_batch (map string_bytes c.args.words.now) _ _ _ c.in-Some.ensures batch)
+pub returns-in-Ok-Batch-clause-load_opens_nothing : goal.returns-in-Ok-Batch-clause-load_opens_nothing
+returns-in-Ok-Batch-clause-load_opens_nothing g c n load =
+    let words = map string_bytes c.args.words.now in
+    let spells = subst (Spells words) c.in-Ok-Batch.field-0-is c.in-Ok-Batch.ensures.asked in
+    absurd (omega (arith, load_begins words n load, batch_begins words spells))
 
-pub returns-clause-over : goal.returns-clause-over
-returns-clause-over g c path over = absurd (serve_is_not_over (map string_bytes c.args.words.now) _ path _ _ c.in-Some.ensures over)
+pub returns-in-Ok-Batch-clause-complete_load : goal.returns-in-Ok-Batch-clause-complete_load
+returns-in-Ok-Batch-clause-complete_load g c n load none =
+    let words = map string_bytes c.args.words.now in
+    let spells = subst (Spells words) c.in-Ok-Batch.field-0-is c.in-Ok-Batch.ensures.asked in
+    absurd (omega (arith, load_begins words n load, batch_begins words spells))
 
-pub returns-clause-load : goal.returns-clause-load
-returns-clause-load g c n load = absurd (serve_is_no_load (map string_bytes c.args.words.now) _ _ _ n c.in-Some.ensures load)
+pub returns-in-Ok-Batch-clause-serve : goal.returns-in-Ok-Batch-clause-serve
+returns-in-Ok-Batch-clause-serve g c path port desks serve =
+    let words = map string_bytes c.args.words.now in
+    let spells = subst (Spells words) c.in-Ok-Batch.field-0-is c.in-Ok-Batch.ensures.asked in
+    absurd (omega (arith, serve_begins words path port desks serve, batch_begins words spells))
 
-pub returns-clause-load_opens_nothing : goal.returns-clause-load_opens_nothing
-returns-clause-load_opens_nothing g c n load = absurd (serve_is_no_load (map string_bytes c.args.words.now) _ _ _ n c.in-Some.ensures load)
+pub returns-in-Ok-Batch-clause-serve_takes_nothing : goal.returns-in-Ok-Batch-clause-serve_takes_nothing
+returns-in-Ok-Batch-clause-serve_takes_nothing g c path port desks serve =
+    let words = map string_bytes c.args.words.now in
+    let spells = subst (Spells words) c.in-Ok-Batch.field-0-is c.in-Ok-Batch.ensures.asked in
+    absurd (omega (arith, serve_begins words path port desks serve, batch_begins words spells))
 
-pub returns-clause-serve : goal.returns-clause-serve
-returns-clause-serve g c path port desks serve =
-    let same = one_service (map string_bytes c.args.words.now) _ _ _ _ _ _ c.in-Some.ensures serve in
+pub returns-in-Ok-Batch-clause-complete_serve : goal.returns-in-Ok-Batch-clause-complete_serve
+returns-in-Ok-Batch-clause-complete_serve g c path port desks serve shelf kept listener output =
+    let words = map string_bytes c.args.words.now in
+    let spells = subst (Spells words) c.in-Ok-Batch.field-0-is c.in-Ok-Batch.ensures.asked in
+    absurd (omega (arith, serve_begins words path port desks serve, batch_begins words spells))
+
+-- `batch` over a file
+
+pub returns-in-Ok-BatchOver-clause-words : goal.returns-in-Ok-BatchOver-clause-words
+returns-in-Ok-BatchOver-clause-words g c =
+    let words = map string_bytes c.args.words.now in
+    let spells = subst (Spells words) c.in-Ok-BatchOver.field-0-is c.in-Ok-BatchOver.ensures.asked in
+    let told = c.tell-status-in-Ok-BatchOver.ensures.told in (
+      (λ two. absurd (status_not_2 told.0 (sym told.2 ∙ two))),
+      (λ none. absurd (none.1 _ spells)),
+    )
+
+pub returns-in-Ok-BatchOver-clause-load : goal.returns-in-Ok-BatchOver-clause-load
+returns-in-Ok-BatchOver-clause-load g c n load =
+    let words = map string_bytes c.args.words.now in
+    let spells = subst (Spells words) c.in-Ok-BatchOver.field-0-is c.in-Ok-BatchOver.ensures.asked in
+    absurd (omega (arith, load_begins words n load, over_begins words _ spells))
+
+pub returns-in-Ok-BatchOver-clause-load_takes_nothing : goal.returns-in-Ok-BatchOver-clause-load_takes_nothing
+returns-in-Ok-BatchOver-clause-load_takes_nothing g c n load =
+    let words = map string_bytes c.args.words.now in
+    let spells = subst (Spells words) c.in-Ok-BatchOver.field-0-is c.in-Ok-BatchOver.ensures.asked in
+    absurd (omega (arith, load_begins words n load, over_begins words _ spells))
+
+pub returns-in-Ok-BatchOver-clause-load_opens_nothing : goal.returns-in-Ok-BatchOver-clause-load_opens_nothing
+returns-in-Ok-BatchOver-clause-load_opens_nothing g c n load =
+    let words = map string_bytes c.args.words.now in
+    let spells = subst (Spells words) c.in-Ok-BatchOver.field-0-is c.in-Ok-BatchOver.ensures.asked in
+    absurd (omega (arith, load_begins words n load, over_begins words _ spells))
+
+pub returns-in-Ok-BatchOver-clause-complete_load : goal.returns-in-Ok-BatchOver-clause-complete_load
+returns-in-Ok-BatchOver-clause-complete_load g c n load none =
+    let words = map string_bytes c.args.words.now in
+    let spells = subst (Spells words) c.in-Ok-BatchOver.field-0-is c.in-Ok-BatchOver.ensures.asked in
+    absurd (omega (arith, load_begins words n load, over_begins words _ spells))
+
+pub returns-in-Ok-BatchOver-clause-serve : goal.returns-in-Ok-BatchOver-clause-serve
+returns-in-Ok-BatchOver-clause-serve g c path port desks serve =
+    let words = map string_bytes c.args.words.now in
+    let spells = subst (Spells words) c.in-Ok-BatchOver.field-0-is c.in-Ok-BatchOver.ensures.asked in
+    absurd (omega (arith, serve_begins words path port desks serve, over_begins words _ spells))
+
+pub returns-in-Ok-BatchOver-clause-serve_takes_nothing : goal.returns-in-Ok-BatchOver-clause-serve_takes_nothing
+returns-in-Ok-BatchOver-clause-serve_takes_nothing g c path port desks serve =
+    let words = map string_bytes c.args.words.now in
+    let spells = subst (Spells words) c.in-Ok-BatchOver.field-0-is c.in-Ok-BatchOver.ensures.asked in
+    absurd (omega (arith, serve_begins words path port desks serve, over_begins words _ spells))
+
+pub returns-in-Ok-BatchOver-clause-complete_serve : goal.returns-in-Ok-BatchOver-clause-complete_serve
+returns-in-Ok-BatchOver-clause-complete_serve g c path port desks serve shelf kept listener output =
+    let words = map string_bytes c.args.words.now in
+    let spells = subst (Spells words) c.in-Ok-BatchOver.field-0-is c.in-Ok-BatchOver.ensures.asked in
+    absurd (omega (arith, serve_begins words path port desks serve, over_begins words _ spells))
+
+-- `load`
+
+pub returns-in-Ok-Load-clause-words : goal.returns-in-Ok-Load-clause-words
+returns-in-Ok-Load-clause-words g c =
+    let words = map string_bytes c.args.words.now in
+    let spells = subst (Spells words) c.in-Ok-Load.field-0-is c.in-Ok-Load.ensures.asked in
+    let told = c.tell-status-in-Ok-Load.ensures.told in (
+      (λ two. absurd (status_not_2 told.0 (sym told.2 ∙ two))),
+      (λ none. absurd (none.2 _ spells)),
+    )
+
+pub returns-in-Ok-Load-clause-nothing_taken : goal.returns-in-Ok-Load-clause-nothing_taken
+returns-in-Ok-Load-clause-nothing_taken g c two =
+    refl
+
+pub returns-in-Ok-Load-clause-nothing_written : goal.returns-in-Ok-Load-clause-nothing_written
+returns-in-Ok-Load-clause-nothing_written g c two =
+    let told = c.tell-status-in-Ok-Load.ensures.told in
+    absurd (status_not_2 told.0 (sym told.2 ∙ two))
+
+pub returns-in-Ok-Load-clause-nothing_opened : goal.returns-in-Ok-Load-clause-nothing_opened
+returns-in-Ok-Load-clause-nothing_opened g c neither =
+    refl
+
+pub returns-in-Ok-Load-clause-usage : goal.returns-in-Ok-Load-clause-usage
+returns-in-Ok-Load-clause-usage g c two =
+    let told = c.tell-status-in-Ok-Load.ensures.told in
+    absurd (status_not_2 told.0 (sym told.2 ∙ two))
+
+pub returns-in-Ok-Load-clause-run : goal.returns-in-Ok-Load-clause-run
+returns-in-Ok-Load-clause-run g c batch =
+    let words = map string_bytes c.args.words.now in
+    let spells = subst (Spells words) c.in-Ok-Load.field-0-is c.in-Ok-Load.ensures.asked in
+    absurd (omega (arith, batch_begins words batch, load_begins words _ spells))
+
+pub returns-in-Ok-Load-clause-over : goal.returns-in-Ok-Load-clause-over
+returns-in-Ok-Load-clause-over g c path over =
+    let words = map string_bytes c.args.words.now in
+    let spells = subst (Spells words) c.in-Ok-Load.field-0-is c.in-Ok-Load.ensures.asked in
+    absurd (omega (arith, over_begins words path over, load_begins words _ spells))
+
+pub returns-in-Ok-Load-clause-load : goal.returns-in-Ok-Load-clause-load
+returns-in-Ok-Load-clause-load g c n load =
+    let words = map string_bytes c.args.words.now in
+    let spells = subst (Spells words) c.in-Ok-Load.field-0-is c.in-Ok-Load.ensures.asked in
+    let told = c.tell-status-in-Ok-Load.ensures.told in (
+      told.0,
+      told.2,
+      subst (λ (m : ℕ). IsLoaded g.O.Sink.written g.O.Sink.faults c.args.output.now c.load-end.new.output m told.0) (load_once words _ n spells load)
+          (loaded-told g.O.Sink.written g.O.Sink.faults c.args.output.now c.load-end.new.output _ c.load-end.result told.0 told.1 c.load-end.ensures.loaded),
+    )
+
+pub returns-in-Ok-Load-clause-load_takes_nothing : goal.returns-in-Ok-Load-clause-load_takes_nothing
+returns-in-Ok-Load-clause-load_takes_nothing g c n load =
+    refl
+
+pub returns-in-Ok-Load-clause-load_opens_nothing : goal.returns-in-Ok-Load-clause-load_opens_nothing
+returns-in-Ok-Load-clause-load_opens_nothing g c n load =
+    refl
+
+pub returns-in-Ok-Load-clause-serve : goal.returns-in-Ok-Load-clause-serve
+returns-in-Ok-Load-clause-serve g c path port desks serve =
+    let words = map string_bytes c.args.words.now in
+    let spells = subst (Spells words) c.in-Ok-Load.field-0-is c.in-Ok-Load.ensures.asked in
+    absurd (omega (arith, serve_begins words path port desks serve, load_begins words _ spells))
+
+pub returns-in-Ok-Load-clause-serve_takes_nothing : goal.returns-in-Ok-Load-clause-serve_takes_nothing
+returns-in-Ok-Load-clause-serve_takes_nothing g c path port desks serve =
+    let words = map string_bytes c.args.words.now in
+    let spells = subst (Spells words) c.in-Ok-Load.field-0-is c.in-Ok-Load.ensures.asked in
+    absurd (omega (arith, serve_begins words path port desks serve, load_begins words _ spells))
+
+pub returns-in-Ok-Load-clause-complete_serve : goal.returns-in-Ok-Load-clause-complete_serve
+returns-in-Ok-Load-clause-complete_serve g c path port desks serve shelf kept listener output =
+    let words = map string_bytes c.args.words.now in
+    let spells = subst (Spells words) c.in-Ok-Load.field-0-is c.in-Ok-Load.ensures.asked in
+    absurd (omega (arith, serve_begins words path port desks serve, load_begins words _ spells))
+
+pub returns-in-Ok-Load-clause-complete : goal.returns-in-Ok-Load-clause-complete
+returns-in-Ok-Load-clause-complete g c batch source output few =
+    let words = map string_bytes c.args.words.now in
+    let spells = subst (Spells words) c.in-Ok-Load.field-0-is c.in-Ok-Load.ensures.asked in
+    absurd (omega (arith, batch_begins words batch, load_begins words _ spells))
+
+pub returns-in-Ok-Load-clause-complete_over : goal.returns-in-Ok-Load-clause-complete_over
+returns-in-Ok-Load-clause-complete_over g c path over source output shelf kept few =
+    let words = map string_bytes c.args.words.now in
+    let spells = subst (Spells words) c.in-Ok-Load.field-0-is c.in-Ok-Load.ensures.asked in
+    absurd (omega (arith, over_begins words path over, load_begins words _ spells))
+
+pub returns-in-Ok-Load-clause-complete_load : goal.returns-in-Ok-Load-clause-complete_load
+returns-in-Ok-Load-clause-complete_load g c n load none =
+    let told = c.tell-status-in-Ok-Load.ensures.told in
+    let loaded = loaded-told g.O.Sink.written g.O.Sink.faults c.args.output.now c.load-end.new.output _ c.load-end.result told.0 told.1
+    c.load-end.ensures.loaded in
+    elim (loaded-complete g.O.Sink.written g.O.Sink.faults c.args.output.now c.load-end.new.output _ told.0 loaded none) [
+      | inl done ↦ inl (told.2 ∙ done)
+      | inr memory ↦ inr (told.2 ∙ memory)
+    ]
+
+pub returns-in-Ok-Load-clause-noted : goal.returns-in-Ok-Load-clause-noted
+returns-in-Ok-Load-clause-noted g c known =
+    let told = c.tell-status-in-Ok-Load.ensures.told in
+    (told.0, told.2, told.3)
+
+pub returns-in-Ok-Load-clause-silent : goal.returns-in-Ok-Load-clause-silent
+returns-in-Ok-Load-clause-silent g c =
+    c.tell-status-in-Ok-Load.ensures.silent
+
+pub returns-in-Ok-Load-clause-notes_never_fall : goal.returns-in-Ok-Load-clause-notes_never_fall
+returns-in-Ok-Load-clause-notes_never_fall g c =
+    c.tell-status-in-Ok-Load.ensures.never_falls
+
+-- `serve`
+
+pub returns-in-Ok-Serve-clause-words : goal.returns-in-Ok-Serve-clause-words
+returns-in-Ok-Serve-clause-words g c =
+    let words = map string_bytes c.args.words.now in
+    let spells = subst (Spells words) c.in-Ok-Serve.field-0-is c.in-Ok-Serve.ensures.asked in
+    ((λ two. absurd (c.serve_asked.ensures.served two)), (λ none. absurd (none.3 _ _ _ spells)))
+
+pub returns-in-Ok-Serve-clause-nothing_written : goal.returns-in-Ok-Serve-clause-nothing_written
+returns-in-Ok-Serve-clause-nothing_written g c two =
+    absurd (c.serve_asked.ensures.served two)
+
+pub returns-in-Ok-Serve-clause-nothing_opened : goal.returns-in-Ok-Serve-clause-nothing_opened
+returns-in-Ok-Serve-clause-nothing_opened g c (inl two) = absurd (c.serve_asked.ensures.served two)
+returns-in-Ok-Serve-clause-nothing_opened g c (inr batch) =
+    let words = map string_bytes c.args.words.now in
+    let spells = subst (Spells words) c.in-Ok-Serve.field-0-is c.in-Ok-Serve.ensures.asked in
+    absurd (omega (arith, batch_begins words batch, serve_begins words _ _ _ spells))
+
+pub returns-in-Ok-Serve-clause-usage : goal.returns-in-Ok-Serve-clause-usage
+returns-in-Ok-Serve-clause-usage g c two =
+    absurd (c.serve_asked.ensures.served two)
+
+pub returns-in-Ok-Serve-clause-run : goal.returns-in-Ok-Serve-clause-run
+returns-in-Ok-Serve-clause-run g c batch =
+    let words = map string_bytes c.args.words.now in
+    let spells = subst (Spells words) c.in-Ok-Serve.field-0-is c.in-Ok-Serve.ensures.asked in
+    absurd (omega (arith, batch_begins words batch, serve_begins words _ _ _ spells))
+
+pub returns-in-Ok-Serve-clause-over : goal.returns-in-Ok-Serve-clause-over
+returns-in-Ok-Serve-clause-over g c path over =
+    let words = map string_bytes c.args.words.now in
+    let spells = subst (Spells words) c.in-Ok-Serve.field-0-is c.in-Ok-Serve.ensures.asked in
+    absurd (omega (arith, over_begins words path over, serve_begins words _ _ _ spells))
+
+pub returns-in-Ok-Serve-clause-load : goal.returns-in-Ok-Serve-clause-load
+returns-in-Ok-Serve-clause-load g c n load =
+    let words = map string_bytes c.args.words.now in
+    let spells = subst (Spells words) c.in-Ok-Serve.field-0-is c.in-Ok-Serve.ensures.asked in
+    absurd (omega (arith, load_begins words n load, serve_begins words _ _ _ spells))
+
+pub returns-in-Ok-Serve-clause-load_opens_nothing : goal.returns-in-Ok-Serve-clause-load_opens_nothing
+returns-in-Ok-Serve-clause-load_opens_nothing g c n load =
+    let words = map string_bytes c.args.words.now in
+    let spells = subst (Spells words) c.in-Ok-Serve.field-0-is c.in-Ok-Serve.ensures.asked in
+    absurd (omega (arith, load_begins words n load, serve_begins words _ _ _ spells))
+
+pub returns-in-Ok-Serve-clause-complete_load : goal.returns-in-Ok-Serve-clause-complete_load
+returns-in-Ok-Serve-clause-complete_load g c n load none =
+    let words = map string_bytes c.args.words.now in
+    let spells = subst (Spells words) c.in-Ok-Serve.field-0-is c.in-Ok-Serve.ensures.asked in
+    absurd (omega (arith, load_begins words n load, serve_begins words _ _ _ spells))
+
+pub returns-in-Ok-Serve-clause-serve : goal.returns-in-Ok-Serve-clause-serve
+returns-in-Ok-Serve-clause-serve g c path port desks serve =
+    let words = map string_bytes c.args.words.now in
+    let spells = subst (Spells words) c.in-Ok-Serve.field-0-is c.in-Ok-Serve.ensures.asked in
+    let same = one_service words _ _ _ _ _ _ spells serve in
     subst (λ (n : ℕ). (end : End) × (c.serve_asked.result.status ≡ status_of end)
     × ServesOverShelf g.H.Kept.Keeper.tells g.H.Shelf.tells g.H.Shelf.plan g.H.Shelf.faults g.H.Shelf.kept_faults
     (heard g.L.Listener.waiting g.L.Listener.hung_up g.L.Listener.accepts g.L.Listener.hang_ups g.L.Listener.faults)
@@ -46,38 +303,154 @@ returns-clause-serve g c path port desks serve =
     c.args.shelf.now c.serve_asked.new.shelf c.args.listener c.serve_asked.result.listener c.args.output.now c.serve_asked.new.output end) same
     c.serve_asked.ensures.serves
 
-pub returns-clause-nothing_heard : goal.returns-clause-nothing_heard
-returns-clause-nothing_heard g c none = absurd (none _ _ _ c.in-Some.ensures)
+pub returns-in-Ok-Serve-clause-nothing_heard : goal.returns-in-Ok-Serve-clause-nothing_heard
+returns-in-Ok-Serve-clause-nothing_heard g c none =
+    let words = map string_bytes c.args.words.now in
+    let spells = subst (Spells words) c.in-Ok-Serve.field-0-is c.in-Ok-Serve.ensures.asked in
+    absurd (none _ _ _ spells)
 
-pub returns-clause-complete : goal.returns-clause-complete
-returns-clause-complete g c batch source output few =
-    absurd (serve_is_no_batch (map string_bytes c.args.words.now) _ _ _ c.in-Some.ensures batch)
+pub returns-in-Ok-Serve-clause-complete : goal.returns-in-Ok-Serve-clause-complete
+returns-in-Ok-Serve-clause-complete g c batch source output few =
+    let words = map string_bytes c.args.words.now in
+    let spells = subst (Spells words) c.in-Ok-Serve.field-0-is c.in-Ok-Serve.ensures.asked in
+    absurd (omega (arith, batch_begins words batch, serve_begins words _ _ _ spells))
 
-pub returns-clause-complete_over : goal.returns-clause-complete_over
-returns-clause-complete_over g c path over source output shelf kept few =
-    absurd (serve_is_not_over (map string_bytes c.args.words.now) _ path _ _ c.in-Some.ensures over)
+pub returns-in-Ok-Serve-clause-complete_over : goal.returns-in-Ok-Serve-clause-complete_over
+returns-in-Ok-Serve-clause-complete_over g c path over source output shelf kept few =
+    let words = map string_bytes c.args.words.now in
+    let spells = subst (Spells words) c.in-Ok-Serve.field-0-is c.in-Ok-Serve.ensures.asked in
+    absurd (omega (arith, over_begins words path over, serve_begins words _ _ _ spells))
 
-pub returns-clause-complete_load : goal.returns-clause-complete_load
-returns-clause-complete_load g c n load output =
-    absurd (serve_is_no_load (map string_bytes c.args.words.now) _ _ _ n c.in-Some.ensures load)
+pub returns-in-Ok-Serve-clause-complete_serve : goal.returns-in-Ok-Serve-clause-complete_serve
+returns-in-Ok-Serve-clause-complete_serve g c path port desks serve shelf kept listener output =
+    c.serve_asked.ensures.complete shelf kept listener output
 
-pub returns-clause-complete_serve : goal.returns-clause-complete_serve
-returns-clause-complete_serve g c path port desks serve shelf kept listener output = c.serve_asked.ensures.complete shelf kept listener output
+pub returns-in-Ok-Serve-clause-noted : goal.returns-in-Ok-Serve-clause-noted
+returns-in-Ok-Serve-clause-noted g c some =
+    c.serve_asked.ensures.noted
 
-pub returns-clause-noted : goal.returns-clause-noted
-returns-clause-noted g c some = c.serve_asked.ensures.noted
+-- other words
 
--- words of no service
-pub returns-in_default-clause-words : goal.returns-in_default-clause-words
-returns-in_default-clause-words g c =
-    let told = c.batch_or_load.ensures.words in (
-      (λ two. let others = told.0 two in (others.0, others.1, others.2, c.in_default.ensures)),
-      (λ none. told.1 (none.0, none.1, none.2)),
+pub returns-in-Err-Unknown-clause-words : goal.returns-in-Err-Unknown-clause-words
+returns-in-Err-Unknown-clause-words g c =
+    let words = map string_bytes c.args.words.now in
+    let nothing = subst (IsFaultOf words) c.in-Err-Unknown.field-0-is c.in-Err-Unknown.ensures.fault in
+    ((λ two. (nothing.0, nothing.1, nothing.2, nothing.3)), (λ none. c.other_words-status.ensures.status))
+
+pub returns-in-Err-Unknown-clause-usage : goal.returns-in-Err-Unknown-clause-usage
+returns-in-Err-Unknown-clause-usage g c two =
+    c.other_words-status.ensures.noted
+
+pub returns-in-Err-Unknown-clause-run : goal.returns-in-Err-Unknown-clause-run
+returns-in-Err-Unknown-clause-run g c batch =
+    let words = map string_bytes c.args.words.now in
+    let nothing = subst (IsFaultOf words) c.in-Err-Unknown.field-0-is c.in-Err-Unknown.ensures.fault in
+    absurd (nothing.0 batch)
+
+pub returns-in-Err-Unknown-clause-over : goal.returns-in-Err-Unknown-clause-over
+returns-in-Err-Unknown-clause-over g c path over =
+    let words = map string_bytes c.args.words.now in
+    let nothing = subst (IsFaultOf words) c.in-Err-Unknown.field-0-is c.in-Err-Unknown.ensures.fault in
+    absurd (nothing.1 path over)
+
+pub returns-in-Err-Unknown-clause-complete_over : goal.returns-in-Err-Unknown-clause-complete_over
+returns-in-Err-Unknown-clause-complete_over g c path over source output shelf kept few =
+    let words = map string_bytes c.args.words.now in
+    let nothing = subst (IsFaultOf words) c.in-Err-Unknown.field-0-is c.in-Err-Unknown.ensures.fault in
+    absurd (nothing.1 path over)
+
+pub returns-in-Err-Unknown-clause-load : goal.returns-in-Err-Unknown-clause-load
+returns-in-Err-Unknown-clause-load g c n load =
+    let words = map string_bytes c.args.words.now in
+    let nothing = subst (IsFaultOf words) c.in-Err-Unknown.field-0-is c.in-Err-Unknown.ensures.fault in
+    absurd (nothing.2 n load)
+
+pub returns-in-Err-Unknown-clause-complete_load : goal.returns-in-Err-Unknown-clause-complete_load
+returns-in-Err-Unknown-clause-complete_load g c n load none =
+    let words = map string_bytes c.args.words.now in
+    let nothing = subst (IsFaultOf words) c.in-Err-Unknown.field-0-is c.in-Err-Unknown.ensures.fault in
+    absurd (nothing.2 n load)
+
+pub returns-in-Err-Unknown-clause-serve : goal.returns-in-Err-Unknown-clause-serve
+returns-in-Err-Unknown-clause-serve g c path port desks serve =
+    let words = map string_bytes c.args.words.now in
+    let nothing = subst (IsFaultOf words) c.in-Err-Unknown.field-0-is c.in-Err-Unknown.ensures.fault in
+    absurd (nothing.3 path port desks serve)
+
+pub returns-in-Err-Unknown-clause-complete_serve : goal.returns-in-Err-Unknown-clause-complete_serve
+returns-in-Err-Unknown-clause-complete_serve g c path port desks serve shelf kept listener output =
+    let words = map string_bytes c.args.words.now in
+    let nothing = subst (IsFaultOf words) c.in-Err-Unknown.field-0-is c.in-Err-Unknown.ensures.fault in
+    absurd (nothing.3 path port desks serve)
+
+pub returns-in-Err-Unknown-clause-load_takes_nothing : goal.returns-in-Err-Unknown-clause-load_takes_nothing
+returns-in-Err-Unknown-clause-load_takes_nothing g c n load =
+    refl
+
+pub returns-in-Err-Unknown-clause-load_opens_nothing : goal.returns-in-Err-Unknown-clause-load_opens_nothing
+returns-in-Err-Unknown-clause-load_opens_nothing g c n load =
+    refl
+
+pub returns-in-Err-Unknown-clause-serve_takes_nothing : goal.returns-in-Err-Unknown-clause-serve_takes_nothing
+returns-in-Err-Unknown-clause-serve_takes_nothing g c path port desks serve =
+    refl
+
+-- memory was wanting while the words were read
+
+pub returns-in-Err-NoMemory-clause-words : goal.returns-in-Err-NoMemory-clause-words
+returns-in-Err-NoMemory-clause-words g c =
+    let words = map string_bytes c.args.words.now in
+    let some = subst (IsFaultOf words) c.in-Err-NoMemory.field-0-is c.in-Err-NoMemory.ensures.fault in (
+      (λ two. absurd (status_not_2 NoMemory (sym c.without_memory-status.ensures.status ∙ two))),
+      (λ none. elim some [
+        | inl batch ↦ absurd (none.0 batch)
+        | inr other ↦ elim other [ inl over ↦ absurd (none.1 over.0 over.1) | inr load ↦ absurd (none.2 load.0 load.1) ]
+      ]),
     )
 
-pub returns-in_default-clause-serve : goal.returns-in_default-clause-serve
-returns-in_default-clause-serve g c path port desks serve = absurd (c.in_default.ensures path port desks serve)
+pub returns-in-Err-NoMemory-clause-run : goal.returns-in-Err-NoMemory-clause-run
+returns-in-Err-NoMemory-clause-run g c batch = (
+  NoMemory,
+  c.without_memory-status.ensures.status,
+  first_pace,
+  Ran-no_memory g.S.Source.left g.S.Source.taken g.S.Source.faults g.O.Sink.written g.O.Sink.faults c.args.input.now
+      c.args.output.now first_pace tt,
+)
 
-pub returns-in_default-clause-complete_serve : goal.returns-in_default-clause-complete_serve
-returns-in_default-clause-complete_serve g c path port desks serve shelf kept listener output =
-    absurd (c.in_default.ensures path port desks serve)
+pub returns-in-Err-NoMemory-clause-over : goal.returns-in-Err-NoMemory-clause-over
+returns-in-Err-NoMemory-clause-over g c path over = (
+  NoMemory,
+  c.without_memory-status.ensures.status,
+  inl (record { nothing_taken = refl; nothing_written = refl; tables_stay = inl (λ t told. told); cause = tt }),
+)
+
+pub returns-in-Err-NoMemory-clause-serve : goal.returns-in-Err-NoMemory-clause-serve
+returns-in-Err-NoMemory-clause-serve g c path port desks serve = (
+  NoMemory,
+  c.without_memory-status.ensures.status,
+  inl (record { nothing_taken = refl; nothing_written = refl; tables_stay = inl (λ t told. told); cause = tt }),
+)
+
+pub returns-in-Err-NoMemory-clause-load : goal.returns-in-Err-NoMemory-clause-load
+returns-in-Err-NoMemory-clause-load g c n load =
+    (NoMemory, c.without_memory-status.ensures.status, refl)
+
+pub returns-in-Err-NoMemory-clause-load_takes_nothing : goal.returns-in-Err-NoMemory-clause-load_takes_nothing
+returns-in-Err-NoMemory-clause-load_takes_nothing g c n load =
+    refl
+
+pub returns-in-Err-NoMemory-clause-load_opens_nothing : goal.returns-in-Err-NoMemory-clause-load_opens_nothing
+returns-in-Err-NoMemory-clause-load_opens_nothing g c n load =
+    refl
+
+pub returns-in-Err-NoMemory-clause-serve_takes_nothing : goal.returns-in-Err-NoMemory-clause-serve_takes_nothing
+returns-in-Err-NoMemory-clause-serve_takes_nothing g c path port desks serve =
+    refl
+
+pub returns-in-Err-NoMemory-clause-complete_load : goal.returns-in-Err-NoMemory-clause-complete_load
+returns-in-Err-NoMemory-clause-complete_load g c n load none =
+    inr c.without_memory-status.ensures.status
+
+pub returns-in-Err-NoMemory-clause-complete_serve : goal.returns-in-Err-NoMemory-clause-complete_serve
+returns-in-Err-NoMemory-clause-complete_serve g c path port desks serve shelf kept listener output =
+    inr (inl c.without_memory-status.ensures.status)

@@ -1,0 +1,7 @@
+pub mod KeeperCalls
+pub mod Runs
+pub mod PacedRuns
+pub mod Parts
+pub mod Batches
+pub mod Ends
+pub mod FiledRuns

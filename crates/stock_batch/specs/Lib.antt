@@ -1,0 +1,9 @@
+pub mod InputParts
+pub mod OpenLines
+pub mod Answers
+pub mod Paces
+pub mod Replies
+pub mod Batches
+pub mod Endings
+pub mod Ran
+pub mod Filed

@@ -1,0 +1,2 @@
+pub mod LoadScript
+pub mod Loads

@@ -1,0 +1,5 @@
+//! A load: the lines of a script answered over a new book, of which the sums alone are told.
+#![tactic(auto)]
+
+pub mod load;
+mod load_script;

@@ -1,0 +1,114 @@
+-- How far a service comes with the ledger of a keeper.
+use Rattle.std.proofs.Common.{◌≡◌, ◌<◌, ◌≤◌, ℕ, List, Option, Result, Ok, Err, inl, inr, sym, subst, arith}
+use Rattle.std.specs.Prelude.{String}
+use Rattle.std.specs.declared.alloc.Global.{Global}
+use Rattle.std.proofs.lemmas.Bool.{cases_lt}
+use Rattle.stock_io.specs.Counts.{Rose, NeverFalls}
+use Rattle.stock_model.specs.declared.deeds.Deed.{Deed}
+use Rattle.stock_keeper.specs.declared.fault.KeepFault.{KeepFault}
+use Rattle.stock_keeper.specs.declared.fault.KeepFault.TheVariants as keep
+use Rattle.stock_keeper.specs.declared.tables.Tables.{Tables}
+use Rattle.repost_worker.specs.Paces.{Pace}
+use Rattle.desk_service.specs.Listening.{Heard}
+use Rattle.desk_service.specs.Service.{IsService}
+use Rattle.stock_ends.specs.Openings.{end_of_refusal}
+use Rattle.stock_serving.specs.Serving.{Settles, IsRefusedFor, IsUnsettledFor, IsCutShort, Leaves, LeavesKept, IsBegun}
+use Rattle.stock_ends.specs.declared.end.End.{End}
+use Rattle.stock_ends.specs.declared.end.End.TheVariants.{Done, NoMemory, ReadFailed, WriteFailed, TooLong, StoreFailed, ListenFailed, Damaged}
+
+-- all of it is heard as it was
+pub heard-same : {P : Type 0} (old new : Heard P) → new.waiting ≡ old.waiting → new.hung_up ≡ old.hung_up → new.accepts ≡ old.accepts
+    → new.hang_ups ≡ old.hang_ups → new.faults ≡ old.faults → new ≡ old
+heard-same old new waiting hung_up accepts hang_ups faults i =
+    record { waiting = waiting i; hung_up = hung_up i; accepts = accepts i; hang_ups = hang_ups i; faults = faults i }
+
+-- the end of what was refused after a service
+pub unsettled : (fault : KeepFault) (served last : Pace) → IsRefusedFor fault served last → IsUnsettledFor (end_of_refusal fault) served last
+unsettled keep.Failed served last refused =
+    let rose : Rose 0 last.keeper.faults = λ few. omega (arith, refused.last.fault few) in
+    (refused, rose)
+unsettled keep.NoMemory served last refused = inl refused
+
+module _ {P : Type 0} (serves : ℕ → ℕ → List Deed → List Deed → P → P → Type 0) (is_fresh : P → Type 0) (desks : ℕ) where
+  -- the count of the listener did not fall
+  pub service-falls : (came : ℕ) (first final : List Deed) (faults faults' : ℕ) (old new : Heard P) → IsService serves is_fresh desks came first final faults faults' old new
+      → NeverFalls old.faults new.faults
+  service-falls came first final faults faults' old new service = omega (arith, service.came.never_falls, service.hung_up.faults)
+
+  -- no more came than were wanted
+  service-all : (came : ℕ) (first final : List Deed) (faults faults' : ℕ) (old new : Heard P) → IsService serves is_fresh desks came first final faults faults' old new
+      → desks ≤ came → IsService serves is_fresh desks desks first final faults faults' old new
+  service-all came first final faults faults' old new service all =
+      let same : came ≡ desks = omega (arith, all, service.count, service.came.no_more) in
+      subst (λ (n : ℕ). IsService serves is_fresh desks n first final faults faults' old new) same service
+
+  -- fewer came, as the listener failed
+  service-few : (came : ℕ) (first last : Pace) (old new : Heard P)
+      → IsService serves is_fresh desks came first.history last.history first.keeper.faults last.keeper.faults old new → came < desks
+      → IsCutShort serves is_fresh desks first last old new
+  service-few came first last old new service few =
+      record {
+        came = came;
+        few = few;
+        service = service;
+        cause = subst (Rose old.faults) (sym service.hung_up.faults) (service.came.cause (omega (arith, few, service.count)));
+      }
+
+  -- all came, and what they had left of the ledger was settled, or that was refused
+  leaves-settled : (summary : Result (String Global) End) (first served last : Pace) (old new : Heard P)
+      → IsService serves is_fresh desks desks first.history served.history first.keeper.faults served.keeper.faults old new → Settles summary served last
+      → Leaves serves is_fresh desks summary first last old new
+  leaves-settled (Ok text) first served last old new service settles =
+      (record { served = served; service = service; then = settles.0 }, settles.1)
+  leaves-settled (Err NoMemory) first served last old new service settles =
+      inr (record { served = served; service = service; then = settles })
+  leaves-settled (Err StoreFailed) first served last old new service settles =
+      record { served = served; service = service; then = settles }
+  leaves-settled (Err Done) first served last old new service settles = absurd settles
+  leaves-settled (Err ReadFailed) first served last old new service settles = absurd settles
+  leaves-settled (Err WriteFailed) first served last old new service settles = absurd settles
+  leaves-settled (Err TooLong) first served last old new service settles = absurd settles
+  leaves-settled (Err ListenFailed) first served last old new service settles = absurd settles
+  leaves-settled (Err (Damaged damage)) first served last old new service settles = absurd settles
+
+  leaves-few : (summary : Result (String Global) End) (came : ℕ) (first served last : Pace) (old new : Heard P)
+      → IsService serves is_fresh desks came first.history served.history first.keeper.faults served.keeper.faults old new → came < desks
+      → (summary ≡ Err ListenFailed) × (last ≡ served) → Leaves serves is_fresh desks summary first last old new
+  leaves-few summary came first served last old new service few ended =
+      subst (λ (s : Result (String Global) End). Leaves serves is_fresh desks s first last old new) (sym ended.0)
+      (subst (λ (p : Pace). Leaves serves is_fresh desks (Err ListenFailed) first p old new) (sym ended.1)
+      (inr (service-few came first served old new service few)))
+
+  pub leaves : (summary : Result (String Global) End) (came : ℕ) (first served last : Pace) (old new : Heard P)
+      → IsService serves is_fresh desks came first.history served.history first.keeper.faults served.keeper.faults old new
+      → (came < desks → (summary ≡ Err ListenFailed) × (last ≡ served)) → (desks ≤ came → Settles summary served last)
+      → Leaves serves is_fresh desks summary first last old new
+  leaves summary came first served last old new service few all = elim (cases_lt came desks) [
+    | inl short ↦ leaves-few summary came first served last old new service short (few short)
+    | inr enough ↦ leaves-settled summary first served last old new
+        (service-all came first.history served.history first.keeper.faults served.keeper.faults old new service enough) (all enough)
+  ]
+
+  -- the same from equal states of the book and what is heard
+  pub leaves-of : (summary : Result (String Global) End) (came : ℕ) (before first served last : Pace) (old new heard : Heard P)
+      → before ≡ first → heard ≡ new → IsService serves is_fresh desks came before.history served.history before.keeper.faults served.keeper.faults old new
+      → (came < desks → (summary ≡ Err ListenFailed) × (last ≡ served)) → (desks ≤ came → Settles summary served last)
+      → Leaves serves is_fresh desks summary first last old heard
+  leaves-of summary came before first served last old new heard same_book same_heard service few all =
+      subst (λ (h : Heard P). Leaves serves is_fresh desks summary first last old h) (sym same_heard)
+      (leaves summary came first served last old new
+      (subst (λ (p : Pace). IsService serves is_fresh desks came p.history served.history p.keeper.faults served.keeper.faults old new) same_book service) few all)
+
+  pub leaves-heard : (summary : Result (String Global) End) (first last : Pace) (old mid new : Heard P) → mid ≡ old
+      → Leaves serves is_fresh desks summary first last mid new → Leaves serves is_fresh desks summary first last old new
+  leaves-heard summary first last old mid new same leaves =
+      subst (λ (h : Heard P). Leaves serves is_fresh desks summary first last h new) same leaves
+
+-- what was begun leaves a summary or none
+module _ {Kt L P : Type 0} (tells : Kt → Tables → Type 0) (faults : Kt → ℕ) (plan : Kt → Option (List ℕ)) (calls : Kt → ℕ)
+    (hears : L → Heard P) (serves : ℕ → ℕ → List Deed → List Deed → P → P → Type 0) (is_fresh : P → Type 0) (desks : ℕ) where
+  pub leaves-begun : (summary : Result (String Global) End) (keeper keeper' : Kt) (listener listener' : L)
+      → IsBegun tells faults plan calls (λ first last. Leaves serves is_fresh desks summary first last (hears listener) (hears listener')) keeper keeper'
+      → LeavesKept tells faults plan calls hears serves is_fresh desks summary keeper keeper' listener listener'
+  leaves-begun (Ok text) keeper keeper' listener listener' begun = begun
+  leaves-begun (Err end) keeper keeper' listener listener' begun = inr begun

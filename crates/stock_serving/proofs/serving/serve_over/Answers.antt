@@ -1,0 +1,36 @@
+-- The shelf fails, or the service is that over its keeper.
+use Rattle.std.proofs.Common.{Err, ap, inl, refl}
+use Rattle.stock_io.specs.Listeners.{IsFresh}
+use Rattle.desk_service.specs.Listening.{heard}
+use Rattle.desk_service.specs.Service.{IsPeerServed}
+use Rattle.stock_ends.proofs.Openings.{unopened-refused}
+use Rattle.stock_serving.proofs.ServedRuns.{over-served}
+use Rattle.stock_serving.proofs.serving.serve_over.Goals as goal
+
+pub returns-in-Err-clause-serves : goal.returns-in-Err-clause-serves
+returns-in-Err-clause-serves g c =
+    let refused = c.in-Err in
+    inl (record {
+      nothing_taken = refl;
+      nothing_written = refl;
+      tables_stay = inl refused.ensures.tables_kept;
+      cause =
+          unopened-refused g.H.Kept.Keeper.tells (g.H.Shelf.tells c.args.shelf.now) (g.H.Shelf.plan c.args.shelf.now) (g.H.Shelf.faults c.args.shelf.now)
+          (g.H.Shelf.faults c.open_keeper.new.self) (g.H.Shelf.kept_faults c.open_keeper.new.self) refused.fault
+          c.end_of_refusal.result c.end_of_refusal.ensures (λ is. refused.ensures.cause (ap Err is));
+    })
+
+pub returns-clause-serves : goal.returns-clause-serves
+returns-clause-serves g c =
+    let opened = c.in-Ok in
+    let served = c.serve_kept-summary in
+    over-served g.H.Kept.Keeper.tells g.H.Kept.Keeper.faults g.H.Kept.Keeper.plan g.H.Kept.Keeper.calls g.H.Shelf.tells g.H.Shelf.plan
+    g.H.Shelf.faults g.H.Shelf.kept_faults
+    (heard g.L.Listener.waiting g.L.Listener.hung_up g.L.Listener.accepts g.L.Listener.hang_ups g.L.Listener.faults)
+    g.O.Sink.written g.O.Sink.faults
+    (IsPeerServed g.P.Source.left g.P.Source.taken g.P.Sink.written g.P.Source.faults g.P.Link.ended)
+    (IsFresh g.P.Source.taken g.P.Sink.written g.P.Source.faults g.P.Link.ended) c.args.desks
+    c.args.shelf.now c.put_back.new.self opened.keeper served.result.keeper c.args.listener served.result.listener c.args.output.now
+    c.write_summary-end.new.output served.result.summary c.write_summary-end.result opened.ensures.tables opened.ensures.fresh
+    opened.ensures.plan opened.ensures.uncalled c.put_back.ensures.tables c.put_back.ensures.plan c.put_back.ensures.kept_faults served.ensures.serves
+    c.write_summary-end.ensures.written c.write_summary-end.ensures.end_kept c.write_summary-end.ensures.nothing_written

@@ -1,0 +1,4 @@
+//! A service: desks that answer over a ledger that is kept, and what they leave of it.
+#![tactic(auto)]
+
+pub mod serving;

@@ -1,0 +1,40 @@
+-- The commands begin with bytes of their own, so no words are two of the program's forms; and those of a load tell one number.
+use Rattle.std.proofs.Common.{◌≡◌, ℕ, List, [], ◌∷◌, get_or, inl, inr, sym, ap, ◌∙◌}
+use Rattle.std.specs.Prelude.{codes}
+use Rattle.std.specs.Str.Parse.{digits_value}
+use Rattle.stock_words.specs.ServeWords.{SpellsServe}
+use Rattle.stock_words.specs.Words.{SpellsBatchOver, SpellsLoad}
+
+-- the first byte of the first of some words
+abbrev pub initial : List (List ℕ) → ℕ
+initial [] = 0
+initial (word ∷ words) = get_or word 0 0
+
+pub batch_begins : (words : List (List ℕ)) → words ≡ codes "batch" ∷ [] → initial words ≡ 98
+batch_begins words batch = ap initial batch
+
+pub over_begins : (words : List (List ℕ)) (path : List ℕ) → SpellsBatchOver words path → initial words ≡ 98
+over_begins words path (inl two) = ap initial two.0
+over_begins words path (inr one) = ap initial one.0
+
+pub load_begins : (words : List (List ℕ)) (n : ℕ) → SpellsLoad words n → initial words ≡ 108
+load_begins words n load = ap initial load.1
+
+pub serve_begins : (words : List (List ℕ)) (path : List ℕ) (port desks : ℕ) → SpellsServe words path port desks → initial words ≡ 115
+serve_begins words path port desks serve = ap initial serve.command
+
+-- one word is not two
+pub batch_is_not_over : (words : List (List ℕ)) (path : List ℕ) → words ≡ codes "batch" ∷ [] → SpellsBatchOver words path → ⊥
+batch_is_not_over words path batch (inl two) = let same = sym batch ∙ two.0 in cc
+batch_is_not_over words path batch (inr one) = let same = sym batch ∙ one.0 in cc
+
+abbrev second_word : List (List ℕ) → List ℕ
+second_word [] = []
+second_word (word ∷ []) = []
+second_word (word ∷ next ∷ words) = next
+
+-- a load tells one number
+pub load_once : (words : List (List ℕ)) (m n : ℕ) → SpellsLoad words m → SpellsLoad words n → m ≡ n
+load_once words m n one other =
+    let same : one.0 ≡ other.0 = sym (ap second_word one.1) ∙ ap second_word other.1 in
+    sym one.2.told ∙ ap (digits_value 10) same ∙ other.2.told

@@ -1,0 +1,4 @@
+pub mod NumberWords
+pub mod ServeWords
+pub mod WordsLemmas
+pub mod Forms

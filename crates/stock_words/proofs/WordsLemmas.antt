@@ -1,0 +1,173 @@
+-- What the kit's parser finds in the words of a batch and of a load.
+use Rattle.std.proofs.Common.{◌≡◌, ◌⊎◌, ℕ, true, false, refl, List, [], ◌∷◌, ◌++◌, get_or, Option, Some, None, inl, inr, sym, ap, ◌∙◌, subst, arith}
+use Rattle.std.proofs.lemmas.Bool.{ne_eqb}
+use Rattle.std.proofs.lemmas.List.Elements.{All-head}
+use Rattle.std.specs.Char.{IsAsciiDigit}
+use Rattle.std.proofs.lemmas.Bool.Decides.{eqb_tells}
+use Rattle.std.specs.Prelude.{codes, MatchOption}
+use Rattle.std.specs.Option.{option_map_or}
+use Rattle.std.specs.Str.{bytes_eq}
+use Rattle.clap.specs.Lexer.{long_of, short_of}
+use Rattle.clap.specs.Words.{Row, Text, first_of, takes, subcommand_of}
+use Rattle.clap.proofs.OnLiterals.{clap_on_literals}
+use Rattle.stock_words.specs.Commands.{program, AsksFor, AsksForNothing}
+use Rattle.stock_words.specs.Words.{Spells, SpellsBatchOver, SpellsBatchOrLoad, SpellsNothing, IsPath, IsCount}
+use Rattle.stock_words.specs.declared.words.Asked.{Asked}
+use Rattle.stock_words.specs.declared.words.Asked.TheVariants.{Batch, BatchOver, Load, Serve}
+
+-- the word is a value: no `--`, no long option and no short one
+record IsValue (word : Text) : Type 0 where
+  no_end : bytes_eq word (codes "--") ≡ false
+  no_long : long_of word ≡ None
+  no_short : short_of word ≡ None
+
+path_is_value : (path : Text) → IsPath path → IsValue path
+path_is_value [] is = absurd is
+path_is_value (byte ∷ []) is = elim (eqb_tells byte 45) [
+  | inl dash ↦ record { no_end = rw dash.0 refl; no_long = rw dash.0 refl; no_short = rw dash.0 refl }
+  | inr other ↦ record { no_end = rw other.0 refl; no_long = rw other.0 refl; no_short = rw other.0 refl }
+]
+path_is_value (byte ∷ next ∷ rest) is =
+    let other = ne_eqb byte 45 is in
+    record { no_end = rw other refl; no_long = rw other refl; no_short = rw other refl }
+
+-- the command that was found, and its file
+abbrev named : Option (Text × List Row) → Option (Text × Option Text)
+named None = None
+named (Some (name, rows)) = Some (name, first_of (codes "file") rows)
+
+-- the parser takes the words, and finds a batch in them, over this file if they name one
+record Reads (words : List Text) (file : Option Text) : Type 0 where
+  taken : takes program words ≡ true
+  found : named (subcommand_of program words) ≡ Some (codes "batch", file)
+
+reads-batch : Reads (codes "batch" ∷ []) None
+unfolding clap_on_literals
+reads-batch = record { taken = refl; found = refl }
+
+reads-two : (path : Text) → IsValue path → Reads (codes "batch" ∷ codes "--file" ∷ path ∷ []) (Some path)
+unfolding clap_on_literals
+reads-two path value = record {
+  taken = rw (value.no_end, value.no_long, value.no_short) refl;
+  found = rw (value.no_end, value.no_long, value.no_short) refl;
+}
+
+reads-one : (path : Text) → Reads (codes "batch" ∷ (codes "--file=" ++ path) ∷ []) (Some path)
+unfolding clap_on_literals
+reads-one path = record { taken = refl; found = refl }
+
+-- the parser finds a load in them, with this word
+abbrev named_load : Option (Text × List Row) → Option (Text × Option Text)
+named_load None = None
+named_load (Some (name, rows)) = Some (name, first_of (codes "count") rows)
+
+record ReadsLoad (words : List Text) (word : Text) : Type 0 where
+  taken : takes program words ≡ true
+  found : named_load (subcommand_of program words) ≡ Some (codes "load", Some word)
+
+reads-load : (word : Text) → IsValue word → ReadsLoad (codes "load" ∷ word ∷ []) word
+unfolding clap_on_literals
+reads-load word value = record {
+  taken = rw (value.no_end, value.no_long, value.no_short) refl;
+  found = rw (value.no_end, value.no_long, value.no_short) refl;
+}
+
+-- digits are no option
+count_is_path : (word : Text) (n : ℕ) → IsCount word n → IsPath word
+count_is_path [] n count = absurd (omega (arith, count.some))
+count_is_path (digit ∷ []) n count = tt
+count_is_path (digit ∷ next ∷ rest) n count =
+    let first = All-head IsAsciiDigit digit (next ∷ rest) count.digits in
+    λ dash. absurd (omega (arith, first.0, dash))
+
+-- the words spell a batch, over this file if they name one
+abbrev SpellsFile : List Text → Option Text → Type 0
+SpellsFile words None = words ≡ codes "batch" ∷ []
+SpellsFile words (Some path) = SpellsBatchOver words path
+
+-- the words that the program knows spell a batch, or a load
+abbrev IsKnownBatch : List Text → Type 0
+IsKnownBatch words = (file : Option Text) × SpellsFile words file × Reads words file
+
+record IsKnownLoad (words : List Text) : Type 0 where
+  word : Text
+  count : ℕ
+  words_are : words ≡ codes "load" ∷ word ∷ []
+  is_count : IsCount word count
+  reads : ReadsLoad words word
+
+known-read : (words : List Text) → SpellsBatchOrLoad words → IsKnownBatch words ⊎ IsKnownLoad words
+known-read words (inl batch) = inl (None, batch, subst (λ (ws : List Text). Reads ws None) (sym batch) reads-batch)
+known-read words (inr (inl (path, inl two))) =
+    inl (Some path, inl two, subst (λ (ws : List Text). Reads ws (Some path)) (sym two.0) (reads-two path (path_is_value path two.1)))
+known-read words (inr (inl (path, inr one))) =
+    inl (Some path, inr one, subst (λ (ws : List Text). Reads ws (Some path)) (sym one.0) (reads-one path))
+known-read words (inr (inr (n, (word, is, count)))) =
+    inr (record {
+      word = word;
+      count = n;
+      words_are = is;
+      is_count = count;
+      reads =
+          subst (λ (ws : List Text). ReadsLoad ws word) (sym is) (reads-load word (path_is_value word (count_is_path word n count)));
+    })
+
+-- the parser refuses no words that the program knows
+pub known-taken : (words : List Text) → SpellsBatchOrLoad words → takes program words ≡ true
+known-taken words known = elim (known-read words known) [ inl batch ↦ batch.2.taken | inr load ↦ load.reads.taken ]
+
+-- no command is both
+batch_is_no_load : codes "batch" ≡ codes "load" → ⊥
+batch_is_no_load is = let first : 98 ≡ 108 = ap (λ (word : Text). get_or word 0 0) is in absurd (omega (arith, first))
+
+-- what the parser finds in a batch asks for it
+asks-batch : (words : List Text) (found : Option (Text × List Row)) (file : Option Text) (asked : Asked)
+    → named found ≡ Some (codes "batch", file) → SpellsFile words file → AsksFor found asked → Spells words asked
+asks-batch words None file asked is spells asks = absurd asks
+asks-batch words (Some (name, rows)) file Batch is spells (inl asks) =
+    subst (SpellsFile words) (sym (ap (λ o. option_map_or (λ p. p.1) o file) is) ∙ asks.1) spells
+asks-batch words (Some (name, rows)) file (BatchOver path) is spells (inl asks) =
+    subst (SpellsFile words) (sym (ap (λ o. option_map_or (λ p. p.1) o file) is) ∙ asks.1) spells
+asks-batch words (Some (name, rows)) file (Load n) is spells (inl asks) = absurd asks.1
+asks-batch words (Some (name, rows)) file (Serve service) is spells (inl asks) = absurd asks.1
+asks-batch words (Some (name, rows)) file asked is spells (inr asks) =
+    absurd (batch_is_no_load (sym (ap (λ o. option_map_or (λ p. p.0) o name) is) ∙ asks.0))
+
+-- and so does what it finds in a load
+asks-load : (words : List Text) (found : Option (Text × List Row)) (word : Text) (asked : Asked)
+    → named_load found ≡ Some (codes "load", Some word) → words ≡ codes "load" ∷ word ∷ [] → AsksFor found asked → Spells words asked
+asks-load words None word asked is spells asks = absurd asks
+asks-load words (Some (name, rows)) word asked is spells (inl asks) =
+    absurd (batch_is_no_load (sym asks.0 ∙ ap (λ o. option_map_or (λ p. p.0) o name) is))
+asks-load words (Some (name, rows)) word Batch is spells (inr asks) = absurd asks.1
+asks-load words (Some (name, rows)) word (BatchOver path) is spells (inr asks) = absurd asks.1
+asks-load words (Some (name, rows)) word (Serve service) is spells (inr asks) = absurd asks.1
+asks-load words (Some (name, rows)) word (Load n) is spells (inr (named_so, (told, first, count))) =
+    let same : Some told ≡ Some word = sym first ∙ ap (λ o. option_map_or (λ p. p.1) o (Some word)) is in
+    let word_is : told ≡ word = cc in (word, spells, subst (λ (w : Text). IsCount w n) word_is count)
+
+something-in_batch : (found : Option (Text × List Row)) (file : Option Text) → named found ≡ Some (codes "batch", file)
+    → AsksForNothing found → ⊥
+something-in_batch None file is nothing = cc
+something-in_batch (Some (name, rows)) file is nothing = absurd (nothing.0 (ap (λ o. option_map_or (λ p. p.0) o name) is))
+
+something-in_load : (found : Option (Text × List Row)) (word : Text) (n : ℕ) → named_load found ≡ Some (codes "load", Some word)
+    → IsCount word n → AsksForNothing found → ⊥
+something-in_load None word n is count nothing = cc
+something-in_load (Some (name, rows)) word n is count nothing =
+    nothing.1 (ap (λ o. option_map_or (λ p. p.0) o name) is) word (ap (λ o. option_map_or (λ p. p.1) o (Some word)) is) n count
+
+-- what the parser finds in them is what they spell
+pub known-asked : (words : List Text) (asked : Option Asked) → SpellsBatchOrLoad words
+    → MatchOption asked (AsksForNothing (subcommand_of program words)) (AsksFor (subcommand_of program words))
+    → MatchOption asked (SpellsNothing words) (Spells words)
+known-asked words None known nothing =
+    elim (known-read words known) [
+      | inl batch ↦ absurd (something-in_batch (subcommand_of program words) batch.0 batch.2.found nothing)
+      | inr load ↦ absurd (something-in_load (subcommand_of program words) load.word load.count load.reads.found load.is_count nothing)
+    ]
+known-asked words (Some asked) known asks =
+    elim (known-read words known) [
+      | inl batch ↦ asks-batch words (subcommand_of program words) batch.0 asked batch.2.found batch.1 asks
+      | inr load ↦ asks-load words (subcommand_of program words) load.word asked load.reads.found load.words_are asks
+    ]

@@ -1,0 +1,5 @@
+pub mod Paths
+pub mod NumberWords
+pub mod ServeWords
+pub mod Words
+pub mod Commands

@@ -1,0 +1,68 @@
+-- What the program's words ask for, each word as its bytes.
+use Rattle.std.specs.Prelude.{ℕ, ◌≡◌, ◌≢◌, ◌⊎◌, List, [], ◌∷◌, ◌++◌, map, codes, String, string_bytes}
+use Rattle.std.specs.declared.alloc.Global.{Global}
+use Rattle.stock_words.specs.declared.words.TheConstants.{MAX_LOAD}
+use Rattle.stock_words.specs.NumberWords.{IsNumber, IsNoNumber}
+pub use Rattle.stock_words.specs.Paths.{IsPath}
+use Rattle.stock_words.specs.ServeWords.{SpellsServe, SpellsNoService}
+use Rattle.stock_words.specs.declared.words.Asked.{Asked}
+use Rattle.stock_words.specs.declared.words.Asked.TheVariants.{Batch, BatchOver, Load, Serve}
+use Rattle.stock_words.specs.declared.words.WordsFault.{WordsFault}
+use Rattle.stock_words.specs.declared.words.WordsFault.TheVariants.{Unknown, NoMemory}
+
+-- the word is `--file=` followed by a path
+abbrev pub IsFileOption : List ℕ → List ℕ → Type 0
+IsFileOption word path = (word ≡ codes "--file=" ++ path) × (path ≢ [])
+
+-- the words are `batch`, `--file` and the path, or `batch` and one word for both
+abbrev pub SpellsBatchOver : List (List ℕ) → List ℕ → Type 0
+SpellsBatchOver words path = ((words ≡ codes "batch" ∷ codes "--file" ∷ path ∷ []) × IsPath path)
+    ⊎ ((words ≡ codes "batch" ∷ (codes "--file=" ++ path) ∷ []) × (path ≢ []))
+
+-- the word tells a number of vouchers, from 1 to 40,000
+abbrev pub IsCount : List ℕ → ℕ → Type 0
+IsCount word n = IsNumber MAX_LOAD word n
+
+abbrev pub IsNoCount : List ℕ → Type 0
+IsNoCount word = IsNoNumber MAX_LOAD word
+
+-- the words are `load` and a word that tells the number
+abbrev pub SpellsLoad : List (List ℕ) → ℕ → Type 0
+SpellsLoad words n = (word : List ℕ) × (words ≡ codes "load" ∷ word ∷ []) × IsCount word n
+
+-- the words ask for this
+abbrev pub Spells : List (List ℕ) → Asked → Type 0
+Spells words Batch = words ≡ codes "batch" ∷ []
+Spells words (BatchOver path) = SpellsBatchOver words path.now
+Spells words (Load n) = SpellsLoad words n
+Spells words (Serve asked) = SpellsServe words asked.path.now asked.port asked.desks
+
+-- the words are no form that the program knows
+abbrev pub SpellsNothing : List (List ℕ) → Type 0
+SpellsNothing words = (words ≢ codes "batch" ∷ []) × ((path : List ℕ) → SpellsBatchOver words path → ⊥)
+    × ((n : ℕ) → SpellsLoad words n → ⊥) × SpellsNoService words
+
+-- the words ask for a batch or a load
+abbrev pub SpellsBatchOrLoad : List (List ℕ) → Type 0
+SpellsBatchOrLoad words = (words ≡ codes "batch" ∷ []) ⊎ ((path : List ℕ) × SpellsBatchOver words path) ⊎ ((n : ℕ) × SpellsLoad words n)
+
+-- why nothing can be done for the words: they are no form, or memory was wanting to read a batch or a load
+abbrev pub IsFaultOf : List (List ℕ) → WordsFault → Type 0
+IsFaultOf words Unknown = SpellsNothing words
+IsFaultOf words NoMemory = SpellsBatchOrLoad words
+
+-- the words are exactly the one word `batch`
+abbrev pub IsBatch : List (String Global) → Type 0
+IsBatch words = map string_bytes words ≡ codes "batch" ∷ []
+
+-- `batch` over the file at this path
+abbrev pub IsBatchOver : List (String Global) → List ℕ → Type 0
+IsBatchOver words path = SpellsBatchOver (map string_bytes words) path
+
+-- `load` with this number of vouchers
+abbrev pub IsLoad : List (String Global) → ℕ → Type 0
+IsLoad words n = SpellsLoad (map string_bytes words) n
+
+-- `serve` over the file at this path, at this port, for so many desks
+abbrev pub IsServe : List (String Global) → List ℕ → ℕ → ℕ → Type 0
+IsServe words path port desks = SpellsServe (map string_bytes words) path port desks
