@@ -1,4 +1,5 @@
-//! A small journal with vouchers of all kinds, over ample memory.
+//! A small journal with vouchers of all kinds is read, and its items and warehouses are found.
+ghost use Rattle.std.specs.Prelude.{◌≡◌, [], ◌∷◌, IfOk};
 
 use std::alloc::Global;
 use std::test::Fail;
@@ -34,61 +35,81 @@ const SALE: Target = Target {
     line: 1,
 };
 
+// A list of one.
+fn one<T: Drop>(alloc: Global, item: T) -> Result<Lines<T>, NoMemory>
+    ensures { IfOk result (λ lines. lines ≡ item ∷ []) }
+{
+    let mut lines = Lines::new(alloc);
+    lines.push(item)?;
+    Ok(lines)
+}
+
 fn item(alloc: Global) -> Result<Record, NoMemory> {
+    let code = Code::of(alloc, "A")?;
     Ok(Record {
         desk: DeskNo(0),
         what: What::Item {
-            code: Code::of(alloc, "A")?,
+            code,
             method: Method::Average,
         },
     })
 }
 
 fn store(alloc: Global, code: &str) -> Result<Record, NoMemory> {
+    let code = Code::of(alloc, code)?;
     Ok(Record {
         desk: DeskNo(0),
         what: What::Store {
-            code: Code::of(alloc, code)?,
+            code,
             account: AccountNo(100),
         },
     })
 }
 
-fn receipt(alloc: Global) -> Result<Record, NoMemory> {
-    let mut lines = Lines::new(alloc);
-    lines.push(ReceiptLine {
+fn receipt_line(alloc: Global) -> Result<ReceiptLine, NoMemory> {
+    Ok(ReceiptLine {
         item: Code::of(alloc, "A")?,
         store: Code::of(alloc, "W1")?,
         qty: Qty(4),
         amount: Minor(100),
-    })?;
+    })
+}
+
+fn receipt(alloc: Global) -> Result<Record, NoMemory> {
+    let lines = one(alloc, receipt_line(alloc)?)?;
     Ok(Record {
         desk: DeskNo(0),
         what: What::Receipt { at: NINE, lines },
     })
 }
 
-fn transfer(alloc: Global) -> Result<Record, NoMemory> {
-    let mut lines = Lines::new(alloc);
-    lines.push(TransferLine {
+fn transfer_line(alloc: Global) -> Result<TransferLine, NoMemory> {
+    Ok(TransferLine {
         item: Code::of(alloc, "A")?,
         from: Code::of(alloc, "W1")?,
         to: Code::of(alloc, "W2")?,
         qty: Qty(3),
-    })?;
+    })
+}
+
+fn transfer(alloc: Global) -> Result<Record, NoMemory> {
+    let lines = one(alloc, transfer_line(alloc)?)?;
     Ok(Record {
         desk: DeskNo(0),
         what: What::Transfer { at: NINE, lines },
     })
 }
 
-fn sale(alloc: Global) -> Result<Record, NoMemory> {
-    let mut lines = Lines::new(alloc);
-    lines.push(IssueLine {
+fn issue_line(alloc: Global) -> Result<IssueLine, NoMemory> {
+    Ok(IssueLine {
         item: Code::of(alloc, "A")?,
         store: Code::of(alloc, "W2")?,
         qty: Qty(2),
-    })?;
+    })
+}
+
+fn sale(alloc: Global) -> Result<Record, NoMemory> {
+    let lines = one(alloc, issue_line(alloc)?)?;
     Ok(Record {
         desk: DeskNo(0),
         what: What::Issue {
@@ -99,26 +120,32 @@ fn sale(alloc: Global) -> Result<Record, NoMemory> {
     })
 }
 
-fn customer_return(alloc: Global) -> Result<Record, NoMemory> {
-    let mut lines = Lines::new(alloc);
-    lines.push(ReturnLine {
+fn sold_line(alloc: Global) -> Result<ReturnLine, NoMemory> {
+    Ok(ReturnLine {
         target: SALE,
         store: Code::of(alloc, "W1")?,
         qty: Qty(1),
-    })?;
+    })
+}
+
+fn customer_return(alloc: Global) -> Result<Record, NoMemory> {
+    let lines = one(alloc, sold_line(alloc)?)?;
     Ok(Record {
         desk: DeskNo(0),
         what: What::CustomerReturn { at: NINE, lines },
     })
 }
 
-fn supplier_return(alloc: Global) -> Result<Record, NoMemory> {
-    let mut lines = Lines::new(alloc);
-    lines.push(ReturnLine {
+fn bought_line(alloc: Global) -> Result<ReturnLine, NoMemory> {
+    Ok(ReturnLine {
         target: BOUGHT,
         store: Code::of(alloc, "W1")?,
         qty: Qty(1),
-    })?;
+    })
+}
+
+fn supplier_return(alloc: Global) -> Result<Record, NoMemory> {
+    let lines = one(alloc, bought_line(alloc)?)?;
     Ok(Record {
         desk: DeskNo(0),
         what: What::SupplierReturn { at: NINE, lines },
@@ -126,8 +153,7 @@ fn supplier_return(alloc: Global) -> Result<Record, NoMemory> {
 }
 
 fn landed(alloc: Global) -> Result<Record, NoMemory> {
-    let mut targets = Lines::new(alloc);
-    targets.push(BOUGHT)?;
+    let targets = one(alloc, BOUGHT)?;
     Ok(Record {
         desk: DeskNo(0),
         what: What::Landed {
@@ -138,36 +164,39 @@ fn landed(alloc: Global) -> Result<Record, NoMemory> {
     })
 }
 
+// The record with a number from 1 to 9.
+fn record(alloc: Global, number: u32) -> Result<Record, NoMemory> {
+    match number {
+        1 => item(alloc),
+        2 => store(alloc, "W1"),
+        3 => store(alloc, "W2"),
+        4 => receipt(alloc),
+        5 => transfer(alloc),
+        6 => sale(alloc),
+        7 => customer_return(alloc),
+        8 => supplier_return(alloc),
+        _ => landed(alloc),
+    }
+}
+
 fn journal(alloc: Global) -> Result<Lines<Record>, NoMemory> {
     let mut journal = Lines::new(alloc);
-    journal.push(item(alloc)?)?;
-    journal.push(store(alloc, "W1")?)?;
-    journal.push(store(alloc, "W2")?)?;
-    journal.push(receipt(alloc)?)?;
-    journal.push(transfer(alloc)?)?;
-    journal.push(sale(alloc)?)?;
-    journal.push(customer_return(alloc)?)?;
-    journal.push(supplier_return(alloc)?)?;
-    journal.push(landed(alloc)?)?;
+    for number in 1..=9 {
+        journal.push(record(alloc, number)?)?;
+    }
     Ok(journal)
 }
 
-/// The record, the side and the warehouse of a movement.
+// The record, the side and the warehouse of a movement.
 fn seen(entry: &Entry) -> (u32, Side, u32) {
     (entry.place.voucher.0, entry.place.side, entry.store.0)
 }
 
 #[test]
-fn vouchers_of_all_kinds_are_read(rt: HostRuntime) -> Result<(), Fail> {
-    let alloc = rt.alloc();
-    let journal = journal(alloc)?;
-    let records = journal.as_slice();
-    assert_eq!(rt; records.len(), 9);
-    let line = posting_line(alloc, records)?;
-    let mut moved = Lines::new(alloc);
-    for entry in line.as_slice() {
-        moved.push(seen(entry))?;
-    }
+fn of_all_kinds_are_read(rt: HostRuntime) -> Result<(), Fail> {
+    let journal = journal(rt.alloc())?;
+    assert_eq!(rt; journal.len(), 9);
+    let line = posting_line(rt.alloc(), journal.as_slice())?;
     let want = [
         (4, Side::Enters, 2),
         (5, Side::Leaves, 2),
@@ -176,12 +205,26 @@ fn vouchers_of_all_kinds_are_read(rt: HostRuntime) -> Result<(), Fail> {
         (7, Side::Enters, 2),
         (8, Side::Leaves, 2),
     ];
-    assert_eq!(rt; moved.as_slice(), want.as_slice());
+    assert_eq!(rt; line.len(), want.len());
+    for (entry, want) in line.as_slice().iter().zip(want) {
+        assert_eq!(rt; seen(entry), want);
+    }
     Ok(())
 }
 
 #[test]
-fn masters_are_found_and_records_copied(rt: HostRuntime) -> Result<(), Fail> {
+fn make_as_many_movements_when_copied(rt: HostRuntime) -> Result<(), Fail> {
+    let journal = journal(rt.alloc())?;
+    let counts = [0, 0, 0, 1, 2, 1, 1, 1, 0];
+    assert_eq!(rt; journal.len(), counts.len());
+    for (record, want) in journal.as_slice().iter().zip(counts) {
+        assert_eq!(rt; count(&record.copy(rt.alloc())?), want);
+    }
+    Ok(())
+}
+
+#[test]
+fn make_items_and_warehouses(rt: HostRuntime) -> Result<(), Fail> {
     let alloc = rt.alloc();
     let journal = journal(alloc)?;
     let records = journal.as_slice();
@@ -189,9 +232,17 @@ fn masters_are_found_and_records_copied(rt: HostRuntime) -> Result<(), Fail> {
     let heads = heads_after(alloc, records, 0)?;
     assert_eq!(rt; heads.len(), 3);
     assert_eq!(rt; heads_after(alloc, records, 1)?.len(), 2);
-    let second = code_of(alloc, heads.as_slice(), 3)?;
-    assert_eq!(rt; second.text(), "W2");
-    let item = Code::of(alloc, "A")?;
+    assert_eq!(rt; code_of(alloc, heads.as_slice(), 3)?.text(), "W2");
+    Ok(())
+}
+
+#[test]
+fn are_searched_for_items_and_warehouses(rt: HostRuntime) -> Result<(), Fail> {
+    let alloc = rt.alloc();
+    let journal = journal(alloc)?;
+    let records = journal.as_slice();
+    assert_eq!(rt; records.len(), 9);
+    let (item, second) = (Code::of(alloc, "A")?, Code::of(alloc, "W2")?);
     assert_eq!(rt;
         item_with(records, &item),
         Some((ItemNo(1), Method::Average))
@@ -200,10 +251,5 @@ fn masters_are_found_and_records_copied(rt: HostRuntime) -> Result<(), Fail> {
         store_with(records, &second),
         Some((StoreNo(3), AccountNo(100)))
     );
-    let mut counts = Lines::new(alloc);
-    for record in records {
-        counts.push(count(&record.copy(alloc)?))?;
-    }
-    assert_eq!(rt; counts.as_slice(), [0, 0, 0, 1, 2, 1, 1, 1, 0].as_slice());
     Ok(())
 }

@@ -1,5 +1,0 @@
-//! The tests of lists in blocks, in a crate of their own, so that they don't have its functions proved once more.
-#![tactic(auto)]
-
-#[cfg(test)]
-mod tests;

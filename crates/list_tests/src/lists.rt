@@ -1,0 +1,88 @@
+//! Lists grow and are held by several, numbers are added up by line, and want of memory is shown.
+
+use shared_list::list::SharedList;
+use std::alloc::Global;
+use std::test::Fail;
+use stock_nums::cause::Target;
+use stock_nums::line_sums::LineSums;
+use stock_nums::lines::Lines;
+use stock_nums::memory::NoMemory;
+use stock_nums::numbers::RecordNo;
+
+#[test]
+fn want_of_memory_is_shown(rt: HostRuntime) -> Result<(), Fail> {
+    let shown = format!(in rt.alloc(); "{}", NoMemory)?;
+    assert_eq!(rt; shown.as_str(), "out of memory");
+    Ok(())
+}
+
+#[test]
+fn grow(rt: HostRuntime) -> Result<(), Fail> {
+    let mut lines = Lines::new(rt.alloc());
+    assert!(rt; lines.is_empty());
+    lines.push(3u32)?;
+    lines.push(5)?;
+    lines.insert(1, 4)?;
+    assert_eq!(rt; lines.as_slice(), [3, 4, 5].as_slice());
+    assert_eq!(rt; lines.len(), 3);
+    Ok(())
+}
+
+// A line of record 6.
+fn line(line: u32) -> Target {
+    Target {
+        voucher: RecordNo(6),
+        line,
+    }
+}
+
+#[test]
+fn add_numbers_up_by_line(rt: HostRuntime) -> Result<(), Fail> {
+    let (first, second) = (line(1), line(2));
+    let mut sums = LineSums::new(rt.alloc());
+    sums.reserve(first)?;
+    sums.add(first, 3);
+    sums.reserve(first)?;
+    sums.add(first, 2);
+    assert_eq!(rt; sums.of(first), 5);
+    if sums.of(first) == 5 {
+        sums.subtract(first, 4);
+    }
+    assert_eq!(rt; (sums.of(first), sums.of(second)), (1, 0));
+    Ok(())
+}
+
+// The numbers from 3 to 5, in order.
+fn three_to_five(alloc: Global) -> Result<SharedList<u32>, NoMemory> {
+    let mut items = Lines::new(alloc);
+    for item in 3..6 {
+        items.push(item)?;
+    }
+    SharedList::of(alloc, items)
+}
+
+// The first items once more, or all where there are fewer.
+fn first(list: &SharedList<u32>, len: usize) -> Result<SharedList<u32>, NoMemory> {
+    list.front(len.min(list.len()))
+}
+
+#[test]
+fn are_held_by_several(rt: HostRuntime) -> Result<(), Fail> {
+    let all = three_to_five(rt.alloc())?;
+    let two = first(&all, 2)?;
+    assert_eq!(rt; (all.len(), two.len()), (3, 2));
+    assert_eq!(rt; all.as_slice(), [3, 4, 5].as_slice());
+    drop(all);
+    let one = first(&two, 1)?;
+    drop(two);
+    assert_eq!(rt; one.as_slice(), [3].as_slice());
+    Ok(())
+}
+
+#[test]
+fn are_empty(rt: HostRuntime) -> Result<(), Fail> {
+    let none: SharedList<u32> = SharedList::new();
+    assert!(rt; none.as_slice().is_empty());
+    assert_eq!(rt; first(&none, 1)?.len(), 0);
+    Ok(())
+}
