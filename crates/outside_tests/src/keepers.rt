@@ -1,11 +1,11 @@
 //! A keeper in memory keeps what it is handed, fails as planned, and leaves after a crash what it may; a shelf hands it out.
+//! What is said of every keeper is proved of every keeper: the functions that call one take any.
 ghost use Rattle.std.specs.Prelude.{◌≡◌, pos, length, IfOk, OnOk};
-ghost use Rattle.stock_keeper.specs.Changed.{appended, new_tables};
+ghost use Rattle.stock_keeper.specs.Changed.{appended, new_tables, CoversMore, CoversRecords};
 ghost use Rattle.stock_keeper.specs.declared.tables.Tables.{Tables};
 
 use crate::lists::lines_of;
 use std::alloc::Global;
-use std::test::Fail;
 use stock_keeper::changes::{Changes, SpotWorth};
 use stock_keeper::fault::KeepFault;
 use stock_keeper::keeper::Keeper;
@@ -19,7 +19,10 @@ use stock_nums::memory::NoMemory;
 use stock_nums::numbers::{Minor, RecordNo};
 use stock_nums::place::{Side, Spot};
 
-fn spot(voucher: u32, line: u32) -> Spot {
+// A voucher, a line of it, and what enters there is worth.
+type Kept = (u32, u32, i64);
+
+fn spot_of(voucher: u32, line: u32) -> Spot {
     Spot {
         voucher: RecordNo(voucher),
         line,
@@ -27,14 +30,26 @@ fn spot(voucher: u32, line: u32) -> Spot {
     }
 }
 
-fn row(voucher: u32, line: u32, value: i64) -> SpotWorth {
-    SpotWorth {
-        spot: spot(voucher, line),
-        worth: Worth {
-            value: Minor(value),
-            share: Minor(0),
-        },
+fn rows_of(alloc: Global, kept: &[Kept]) -> Result<Lines<SpotWorth>, NoMemory> {
+    let mut rows = Lines::new(alloc);
+    for (voucher, line, value) in kept {
+        rows.push(SpotWorth {
+            spot: spot_of(*voucher, *line),
+            worth: Worth {
+                value: Minor(*value),
+                share: Minor(0),
+            },
+        })?;
     }
+    Ok(rows)
+}
+
+fn spots_of(alloc: Global, gone: &[(u32, u32)]) -> Result<Lines<Spot>, NoMemory> {
+    let mut spots = Lines::new(alloc);
+    for (voucher, line) in gone {
+        spots.push(spot_of(*voucher, *line))?;
+    }
+    Ok(spots)
 }
 
 // A new keeper, of whose calls these fail.
@@ -50,7 +65,7 @@ fn failing_at(alloc: Global, calls: &[u64]) -> Result<MemKeeper, NoMemory>
     Ok(MemKeeper::of(alloc, tables, lines_of(alloc, calls)?))
 }
 
-// Appends two records to a keeper in which nothing is kept. This is proved for every keeper.
+// Appends two records to a keeper in which nothing is kept.
 fn append_both<K: Keeper>(keeper: &mut K, first: &[u8], second: &[u8]) -> Result<(), KeepFault>
     requires { (t : Tables) → K.tells keeper.old t → t ≡ new_tables }
     ensures { OnOk result ((t : Tables) → K.tells keeper.new t
@@ -61,8 +76,8 @@ fn append_both<K: Keeper>(keeper: &mut K, first: &[u8], second: &[u8]) -> Result
 }
 
 // Appends a record twice, or a second one where the first append was done.
-fn append_two(keeper: &mut MemKeeper) -> (Result<(), KeepFault>, Result<(), KeepFault>)
-    requires { keeper.old.tables ≡ new_tables }
+fn append_two<K: Keeper>(keeper: &mut K) -> (Result<(), KeepFault>, Result<(), KeepFault>)
+    requires { (t : Tables) → K.tells keeper.old t → t ≡ new_tables }
 {
     let first = keeper.append(RecordNo(1), b"one");
     let second = match first {
@@ -72,8 +87,21 @@ fn append_two(keeper: &mut MemKeeper) -> (Result<(), KeepFault>, Result<(), Keep
     (first, second)
 }
 
+fn published<K: Keeper>(
+    keeper: &mut K,
+    covered: RecordNo,
+    changes: &Changes,
+) -> Result<(), KeepFault>
+    requires more { (t : Tables) → K.tells keeper.old t → CoversMore t covered }
+    requires within { (t : Tables) → K.tells keeper.old t → CoversRecords t covered }
+{
+    keeper.publish(covered, changes)
+}
+
 // How many records there are, the last one's number and first byte, how many are covered, and how many worths there are.
-fn shape(tables: &Tables) -> (usize, i64, u8, i64, usize) {
+type Shape = (usize, i64, u8, i64, usize);
+
+fn shape(tables: &Tables) -> Shape {
     let records = tables.records.as_slice();
     let (number, byte) = match records.last() {
         Some(record) => (
@@ -91,126 +119,231 @@ fn shape(tables: &Tables) -> (usize, i64, u8, i64, usize) {
     )
 }
 
-#[test]
-fn a_keeper_in_memory_keeps_what_was_appended(rt: HostRuntime) -> Result<(), Fail> {
-    let mut keeper = MemKeeper::new(rt.alloc());
-    append_both(&mut keeper, b"one", b"two")?;
+fn loaded<K: Keeper>(keeper: &mut K) -> Result<Shape, KeepFault> {
     let tables = keeper.load()?;
-    assert_eq!(rt; shape(&tables), (2, 2, b't', 0, 0));
-    assert_eq!(rt; shape(keeper.tables()), (2, 2, b't', 0, 0));
-    assert_eq!(rt;
-        (keeper.images(), keeper.faults(), keeper.calls()),
-        (0, 0, 3)
-    );
-    Ok(())
+    Ok(shape(&tables))
 }
 
-#[test]
-fn a_refused_append_may_be_there_after_a_crash(rt: HostRuntime) -> Result<(), Fail> {
-    let mut keeper = failing_at(rt.alloc(), &[1, 2])?;
-    assert_eq!(rt;
-        append_two(&mut keeper),
-        (Err(KeepFault::Failed), Err(KeepFault::Failed))
-    );
-    assert_eq!(rt; shape(keeper.tables()), (0, 0, 0, 0, 0));
-    assert_eq!(rt;
-        (keeper.images(), keeper.faults(), keeper.calls()),
-        (2, 2, 2)
-    );
-    let left = keeper.crash(1)?;
-    assert_eq!(rt; shape(left.tables()), (1, 1, b'o', 0, 0));
-    assert_eq!(rt; (left.images(), left.faults(), left.calls()), (0, 0, 0));
-    let same = left.crash(0)?;
-    assert_eq!(rt; shape(same.tables()), (1, 1, b'o', 0, 0));
-    Ok(())
+// How many images there are, and how many faults and calls there were.
+type Counts = (usize, u64, u64);
+
+fn seen(keeper: &MemKeeper) -> (Shape, Counts) {
+    let counts = (keeper.images(), keeper.faults(), keeper.calls());
+    (shape(keeper.tables()), counts)
 }
 
 // A keeper of two records, of whose calls these fail, but not the first two.
-fn with_two_records(alloc: Global, failing: &[u64]) -> Result<MemKeeper, KeepFault>
-    ensures records { IfOk result (λ keeper. length keeper.tables.records ≡ 2) }
-    ensures none_covered { IfOk result (λ keeper. keeper.tables.covered ≡ pos 0) }
-{
+fn with_two_records(alloc: Global, failing: &[u64]) -> Result<MemKeeper, KeepFault> {
     let mut keeper = failing_at(alloc, failing)?;
-    keeper.append(RecordNo(1), b"one")?;
-    keeper.append(RecordNo(2), b"two")?;
+    append_both(&mut keeper, b"one", b"two")?;
     Ok(keeper)
 }
 
-// These rows, and at the spots of the others nothing.
-fn changes_of(alloc: Global, rows: &[SpotWorth], gone: &[SpotWorth]) -> Result<Changes, NoMemory> {
-    let mut spots = Lines::new(alloc);
-    for row in gone {
-        spots.push(row.spot)?;
-    }
-    Ok(Changes {
-        rows: lines_of(alloc, rows)?,
-        gone: spots,
-    })
+// The same of a keeper that is made with nothing in it.
+fn with_both(alloc: Global) -> Result<MemKeeper, KeepFault> {
+    let mut keeper = MemKeeper::new(alloc);
+    append_both(&mut keeper, b"one", b"two")?;
+    Ok(keeper)
 }
 
 #[test]
-fn a_publication_puts_worths_in_and_takes_others_out(rt: HostRuntime) -> Result<(), Fail> {
-    let mut keeper = with_two_records(rt.alloc(), &[])?;
-    let first = changes_of(
-        rt.alloc(),
-        &[row(2, 1, 70), row(1, 2, 50), row(1, 1, 30)],
-        &[],
-    )?;
-    keeper.publish(RecordNo(1), &first)?;
-    let all = [row(1, 1, 30), row(1, 2, 50), row(2, 1, 70)];
-    assert_eq!(rt; keeper.tables().worths.as_slice(), all.as_slice());
-
-    let second = changes_of(rt.alloc(), &[row(1, 2, 55)], &[row(2, 1, 0), row(9, 9, 0)])?;
-    assert_eq!(rt; keeper.publish(RecordNo(2), &second), Ok(()));
-    let rest = [row(1, 1, 30), row(1, 2, 55)];
-    assert_eq!(rt; keeper.tables().worths.as_slice(), rest.as_slice());
-    assert_eq!(rt; shape(keeper.tables()), (2, 2, b't', 2, 2));
-    Ok(())
-}
-
-#[test]
-fn a_refused_publication_is_there_whole_or_not_at_all(rt: HostRuntime) -> Result<(), Fail> {
-    let mut keeper = with_two_records(rt.alloc(), &[3])?;
-    let rows = [row(1, 1, 30), row(2, 1, 70)];
-    let changes = changes_of(rt.alloc(), &rows, &[])?;
-    assert_eq!(rt;
-        keeper.publish(RecordNo(2), &changes),
-        Err(KeepFault::Failed)
-    );
-    assert_eq!(rt; shape(keeper.tables()), (2, 2, b't', 0, 0));
-    let left = keeper.crash(0)?;
-    assert_eq!(rt; left.tables().worths.as_slice(), rows.as_slice());
-    assert_eq!(rt; shape(left.tables()), (2, 2, b't', 2, 2));
-    Ok(())
-}
-
-// How many records and worths the next keeper has that the shelf hands out, which goes back.
-fn opened<H: Shelf>(shelf: &mut H) -> Result<(usize, usize), KeepFault> {
-    let mut keeper = shelf.open_keeper("here")?;
-    let loaded = keeper.load();
-    shelf.put_back(keeper);
-    let tables = loaded?;
-    Ok((tables.records.len(), tables.worths.len()))
-}
-
-#[test]
-fn a_shelf_in_memory_hands_its_keeper_out_and_takes_it_back(rt: HostRuntime) -> Result<(), Fail> {
-    let kept = with_two_records(rt.alloc(), &[3, 4])?;
-    let mut shelf = MemShelf::new(kept, lines_of(rt.alloc(), &[2])?);
-    assert_eq!(rt; opened(&mut shelf), Ok((2, 0)));
-    assert_eq!(rt; opened(&mut shelf), Err(KeepFault::Failed));
-    assert_eq!(rt; (shelf.faults(), shelf.kept_faults()), (1, 0));
-
-    let Ok(mut keeper) = shelf.open_keeper("here") else {
-        return Ok(());
+fn a_keeper_in_memory_keeps_what_was_appended(rt: HostRuntime) {
+    let two = (2, 2, b't', 0, 0);
+    let Ok(mut keeper) = with_both(rt.alloc()) else {
+        panic!(rt; "both are appended")
     };
-    assert!(rt; shelf.kept().is_none());
-    assert_eq!(rt; opened(&mut shelf), Err(KeepFault::Failed));
-    assert!(rt; keeper.load().is_ok());
-    assert!(rt; keeper.load().is_ok());
-    assert_eq!(rt; keeper.load().err(), Some(KeepFault::Failed));
+    assert!(rt; loaded(&mut keeper) == Ok(two));
+    assert!(rt; seen(&keeper) == (two, (0, 0, 3)));
+}
+
+// A keeper that refused a record twice; none where it did not.
+fn refusing(alloc: Global) -> Option<MemKeeper> {
+    let Ok(mut keeper) = failing_at(alloc, &[1, 2]) else {
+        return None;
+    };
+    match append_two(&mut keeper) {
+        (Err(KeepFault::Failed), Err(KeepFault::Failed)) => Some(keeper),
+        _ => None,
+    }
+}
+
+// What a crash leaves with this pick.
+fn crashed(keeper: MemKeeper, pick: usize) -> MemKeeper {
+    match keeper.crash(pick) {
+        Ok(left) => left,
+        Err(_) => unreachable!(),
+    }
+}
+
+#[test]
+fn a_refused_append_may_be_there_after_a_crash(rt: HostRuntime) {
+    let Some(mut keeper) = refusing(rt.alloc()) else {
+        panic!(rt; "both appends are refused")
+    };
+    let one = (1, 1, b'o', 0, 0);
+    for (told, pick) in [
+        (((0, 0, 0, 0, 0), (2, 2, 2)), 1),
+        ((one, (0, 0, 0)), 0),
+        ((one, (0, 0, 0)), 0),
+    ] {
+        assert!(rt; seen(&keeper) == told);
+        keeper = crashed(keeper, pick);
+    }
+}
+
+// Publishes these changes; none where no more records would be covered than before, or more than there are.
+fn publish_changes(
+    keeper: &mut MemKeeper,
+    covered: u32,
+    changes: &Changes,
+) -> Option<Result<(), KeepFault>> {
+    let tables = keeper.tables();
+    if tables.covered >= i64::from(covered) || covered as usize > tables.records.len() {
+        return None;
+    }
+    Some(published(keeper, RecordNo(covered), changes))
+}
+
+// Publishes these worths, and that there are none at the spots that are gone.
+fn publish(
+    alloc: Global,
+    keeper: &mut MemKeeper,
+    covered: u32,
+    rows: &[Kept],
+    gone: &[(u32, u32)],
+) -> Result<Option<Result<(), KeepFault>>, NoMemory> {
+    let changes = Changes {
+        rows: rows_of(alloc, rows)?,
+        gone: spots_of(alloc, gone)?,
+    };
+    Ok(publish_changes(keeper, covered, &changes))
+}
+
+fn are_kept(alloc: Global, keeper: &MemKeeper, kept: &[Kept]) -> Result<bool, NoMemory> {
+    let rows = rows_of(alloc, kept)?;
+    Ok(keeper.tables().worths.as_slice() == rows.as_slice())
+}
+
+#[test]
+fn a_publication_puts_worths_in_and_takes_others_out(rt: HostRuntime) {
+    let Ok(mut keeper) = with_two_records(rt.alloc(), &[]) else {
+        panic!(rt; "both are appended")
+    };
+    let cases: [(u32, &[Kept], &[(u32, u32)], &[Kept]); 2] = [
+        (
+            1,
+            &[(2, 1, 70), (1, 2, 50), (1, 1, 30)],
+            &[],
+            &[(1, 1, 30), (1, 2, 50), (2, 1, 70)],
+        ),
+        (
+            2,
+            &[(1, 2, 55)],
+            &[(2, 1), (9, 9)],
+            &[(1, 1, 30), (1, 2, 55)],
+        ),
+    ];
+    for (covered, rows, gone, kept) in cases {
+        let answer = publish(rt.alloc(), &mut keeper, covered, rows, gone);
+        assert!(rt; answer == Ok(Some(Ok(()))), "of {covered}");
+        assert!(rt;
+            are_kept(rt.alloc(), &keeper, kept) == Ok(true),
+            "of {covered}"
+        );
+    }
+    assert!(rt; seen(&keeper) == ((2, 2, b't', 2, 2), (0, 0, 4)));
+}
+
+// A keeper of two records that refused a publication of these worths, of both; none where it did not.
+fn refusing_worths(alloc: Global, rows: &[Kept]) -> Option<MemKeeper> {
+    let Ok(mut keeper) = with_two_records(alloc, &[3]) else {
+        return None;
+    };
+    match publish(alloc, &mut keeper, 2, rows, &[]) {
+        Ok(Some(Err(KeepFault::Failed))) => Some(keeper),
+        _ => None,
+    }
+}
+
+#[test]
+fn a_refused_publication_is_there_whole_or_not_at_all(rt: HostRuntime) {
+    let rows = [(1, 1, 30), (2, 1, 70)];
+    let Some(keeper) = refusing_worths(rt.alloc(), &rows) else {
+        panic!(rt; "the publication is refused")
+    };
+    assert!(rt; seen(&keeper) == ((2, 2, b't', 0, 0), (1, 1, 3)));
+    let left = crashed(keeper, 0);
+    assert!(rt; are_kept(rt.alloc(), &left, &rows) == Ok(true));
+    assert!(rt; seen(&left) == ((2, 2, b't', 2, 2), (0, 0, 0)));
+}
+
+// What the next keeper has that the shelf hands out, which goes back.
+fn opened<H: Shelf>(shelf: &mut H) -> Result<Shape, KeepFault> {
+    let mut keeper = shelf.open_keeper("here")?;
+    let loaded = loaded(&mut keeper);
     shelf.put_back(keeper);
-    assert_eq!(rt; (shelf.faults(), shelf.kept_faults()), (2, 1));
-    assert!(rt; shelf.into_kept().is_some());
-    Ok(())
+    loaded
+}
+
+// What comes of three loads of the next keeper that the shelf hands out, and what the shelf answers while it is out.
+type Loads = (Result<Shape, KeepFault>, [Result<Shape, KeepFault>; 3]);
+
+fn loaded_while_out<H: Shelf>(shelf: &mut H) -> Result<Loads, KeepFault> {
+    let mut keeper = shelf.open_keeper("here")?;
+    let answer = opened(shelf);
+    let loads = [
+        loaded(&mut keeper),
+        loaded(&mut keeper),
+        loaded(&mut keeper),
+    ];
+    shelf.put_back(keeper);
+    Ok((answer, loads))
+}
+
+// How many openings failed, and how many faults the keeper had that was put back last.
+fn faults(shelf: &MemShelf) -> (u64, u64) {
+    (shelf.faults(), shelf.kept_faults())
+}
+
+// Whether its keeper is out.
+fn is_out(shelf: &MemShelf) -> bool {
+    shelf.kept().is_none()
+}
+
+// A shelf whose second opening fails. Its keeper has two records, and fails at the third call and the fourth.
+fn failing_shelf(alloc: Global) -> Result<MemShelf, KeepFault> {
+    let kept = with_two_records(alloc, &[3, 4])?;
+    Ok(MemShelf::new(kept, lines_of(alloc, &[2])?))
+}
+
+#[test]
+fn a_shelf_in_memory_hands_its_keeper_out_and_takes_it_back(rt: HostRuntime) {
+    let two = Ok((2, 2, b't', 0, 0));
+    let failed = Err(KeepFault::Failed);
+    let Ok(mut shelf) = failing_shelf(rt.alloc()) else {
+        panic!(rt; "both are appended")
+    };
+    for (answer, told) in [(two, (0, 0)), (failed, (1, 0))] {
+        assert!(rt; opened(&mut shelf) == answer);
+        assert!(rt; faults(&shelf) == told);
+    }
+    let loads = Ok((failed, [two, two, failed]));
+    assert!(rt; loaded_while_out(&mut shelf) == loads);
+    assert!(rt; faults(&shelf) == (2, 1));
+}
+
+// Whether the shelf has no keeper while it is out, and has it afterwards, for good.
+fn has_it_but_for_meanwhile(mut shelf: MemShelf) -> Result<bool, KeepFault> {
+    let keeper = shelf.open_keeper("here")?;
+    let is_out_meanwhile = is_out(&shelf);
+    shelf.put_back(keeper);
+    Ok(is_out_meanwhile && !is_out(&shelf) && shelf.into_kept().is_some())
+}
+
+#[test]
+fn a_shelf_in_memory_has_no_keeper_while_it_is_out(rt: HostRuntime) {
+    let Ok(shelf) = failing_shelf(rt.alloc()) else {
+        panic!(rt; "both are appended")
+    };
+    assert!(rt; has_it_but_for_meanwhile(shelf) == Ok(true));
 }

@@ -3,9 +3,8 @@ ghost use Rattle.std.specs.Prelude.{All, IfOk};
 ghost use Rattle.stock_io.specs.Listeners.{IsNewPeer};
 
 use crate::lists::lines_of;
-use crate::streams::{next_read, written};
+use crate::streams::{Read, next_read, writes};
 use std::alloc::Global;
-use std::test::Fail;
 use stock_io::failed::Failed;
 use stock_io::link::Link;
 use stock_io::listener::Listener;
@@ -22,28 +21,36 @@ fn failing_link(alloc: Global) -> Result<MemLink, NoMemory> {
     MemLink::new(alloc, bytes, 3, 4, failing_reads, failing_writes)
 }
 
-// What was counted of a link, and whether it was ended.
-fn counts(link: &MemLink) -> (u64, u64, bool) {
-    (link.taken(), link.faults(), link.is_ended())
+// What a read gives, a write that fails, a read that fails, the write again, and a last read.
+fn talk<L: Link>(link: &mut L) -> (Read, bool, Read, bool, Read) {
+    (
+        next_read(link),
+        writes(link, b"xy"),
+        next_read(link),
+        writes(link, b"xy"),
+        next_read(link),
+    )
 }
 
 fn end<L: Link>(link: &mut L) {
     link.end();
 }
 
+// Whether this was written to the peer, and what was counted, and whether the link was ended.
+fn has(link: &MemLink, written: &[u8], told: (u64, u64, bool)) -> bool {
+    link.written() == written && (link.taken(), link.faults(), link.is_ended()) == told
+}
+
 #[test]
-fn a_link_in_memory_fails_as_planned(rt: HostRuntime) -> Result<(), Fail> {
-    let mut link = failing_link(rt.alloc())?;
-    assert_eq!(rt; next_read(&mut link), Ok((3, b'a')));
-    assert_eq!(rt; written(&mut link, b"xy"), Err(Failed));
-    assert_eq!(rt; next_read(&mut link), Err(Failed));
-    assert_eq!(rt; written(&mut link, b"xy"), Ok(()));
-    assert_eq!(rt; next_read(&mut link), Ok((2, b'd')));
-    assert_eq!(rt; link.written(), b"xy".as_slice());
-    assert_eq!(rt; counts(&link), (5, 2, false));
+fn a_link_in_memory_fails_as_planned(rt: HostRuntime) {
+    let Ok(mut link) = failing_link(rt.alloc()) else {
+        panic!(rt; "no memory")
+    };
+    let told = (Ok((3, b'a')), false, Err(Failed), true, Ok((2, b'd')));
+    assert!(rt; talk(&mut link) == told);
+    assert!(rt; has(&link, b"xy", (5, 2, false)));
     end(&mut link);
-    assert_eq!(rt; counts(&link), (5, 2, true));
-    Ok(())
+    assert!(rt; has(&link, b"xy", (5, 2, true)));
 }
 
 fn peer_of(alloc: Global, bytes: &[u8]) -> Result<MemLink, NoMemory>
@@ -63,8 +70,15 @@ fn two_peers(alloc: Global, first: &[u8], second: &[u8]) -> Result<Vec<MemLink>,
     Ok(peers)
 }
 
+// A listener to which two peers come, and whose third call fails.
+fn failing_listener(alloc: Global) -> Result<MemListener, NoMemory> {
+    let peers = two_peers(alloc, b"abc", b"d")?;
+    let failing = lines_of(alloc, &[3u64])?;
+    MemListener::new(alloc, peers, failing)
+}
+
 // Reads from the next peer, and hangs it up.
-fn next_peer<L: Listener>(listener: &mut L) -> Result<(usize, u8), Failed> {
+fn next_peer<L: Listener>(listener: &mut L) -> Read {
     let mut peer = listener.accept()?;
     let read = next_read(&mut peer);
     peer.end();
@@ -72,19 +86,23 @@ fn next_peer<L: Listener>(listener: &mut L) -> Result<(usize, u8), Failed> {
     read
 }
 
-fn listens<L: Listener>(listener: &mut L, port: u16) -> bool {
-    listener.listen(port).is_ok()
+fn listens<L: Listener>(listener: &mut L) -> bool {
+    listener.listen(8080).is_ok()
+}
+
+// How many peers were hung up, and how many calls failed.
+fn counts(listener: &MemListener) -> (usize, u64) {
+    (listener.hung_up().len(), listener.faults())
 }
 
 #[test]
-fn a_listener_in_memory_hands_its_peers_out_in_order(rt: HostRuntime) -> Result<(), Fail> {
-    let peers = two_peers(rt.alloc(), b"abc", b"d")?;
-    let failing = lines_of(rt.alloc(), &[3u64])?;
-    let mut listener = MemListener::new(rt.alloc(), peers, failing)?;
-    assert!(rt; listens(&mut listener, 8080));
+fn a_listener_in_memory_hands_its_peers_out_in_order(rt: HostRuntime) {
+    let Ok(mut listener) = failing_listener(rt.alloc()) else {
+        panic!(rt; "no memory")
+    };
+    assert!(rt; listens(&mut listener));
     for read in [Ok((3, b'a')), Err(Failed), Ok((1, b'd')), Err(Failed)] {
-        assert_eq!(rt; next_peer(&mut listener), read);
+        assert!(rt; next_peer(&mut listener) == read);
     }
-    assert_eq!(rt; (listener.hung_up().len(), listener.faults()), (2, 2));
-    Ok(())
+    assert!(rt; counts(&listener) == (2, 2));
 }

@@ -1,43 +1,61 @@
 //! Texts are read as the requests that they are, or their first fault is told.
 use std::alloc::Global;
-use std::test::Fail;
 use stock_model::queries::Query;
 use stock_model::read_faults::ReadFault;
 use stock_model::requests::Request;
-use stock_model::vouchers::{IssueLine, ReceiptLine, ReturnLine, TransferLine, What};
+use stock_model::vouchers::{
+    Basis, IssueLine, Purpose, ReceiptLine, ReturnLine, TransferLine, What,
+};
 use stock_nums::cause::Target;
+use stock_nums::memory::NoMemory;
+use stock_nums::moment::Moment;
+use stock_nums::numbers::Minor;
 use voucher_json::field_names::field_text;
 use voucher_json::reading::read_request;
 use voucher_json::usual_requests::read_usual;
 
-fn told_receipt(alloc: Global, text: &mut String, lines: &[ReceiptLine]) -> Result<(), Fail> {
+fn told_receipt(alloc: Global, at: Moment, lines: &[ReceiptLine]) -> Result<String, NoMemory> {
+    let mut text = format!(in alloc; "receipt {} {}", at.date, at.second)?;
     for line in lines {
         let (item, store) = (line.item.text(), line.store.text());
         let told = format!(in alloc; ", {item} {store} {} {}", line.qty.0, line.amount.0)?;
         text.push_str(told.as_str())?;
     }
-    Ok(())
+    Ok(text)
 }
 
-fn told_issue(alloc: Global, text: &mut String, lines: &[IssueLine]) -> Result<(), Fail> {
+fn told_issue(
+    alloc: Global,
+    at: Moment,
+    purpose: Purpose,
+    lines: &[IssueLine],
+) -> Result<String, NoMemory> {
+    let mut text = format!(in alloc; "issue {} {} {purpose:?}", at.date, at.second)?;
     for line in lines {
         let (item, store) = (line.item.text(), line.store.text());
         let told = format!(in alloc; ", {item} {store} {}", line.qty.0)?;
         text.push_str(told.as_str())?;
     }
-    Ok(())
+    Ok(text)
 }
 
-fn told_transfer(alloc: Global, text: &mut String, lines: &[TransferLine]) -> Result<(), Fail> {
+fn told_transfer(alloc: Global, at: Moment, lines: &[TransferLine]) -> Result<String, NoMemory> {
+    let mut text = format!(in alloc; "transfer {} {}", at.date, at.second)?;
     for line in lines {
         let (item, from, to) = (line.item.text(), line.from.text(), line.to.text());
         let told = format!(in alloc; ", {item} {from} {to} {}", line.qty.0)?;
         text.push_str(told.as_str())?;
     }
-    Ok(())
+    Ok(text)
 }
 
-fn told_return(alloc: Global, text: &mut String, lines: &[ReturnLine]) -> Result<(), Fail> {
+fn told_return(
+    alloc: Global,
+    kind: &str,
+    at: Moment,
+    lines: &[ReturnLine],
+) -> Result<String, NoMemory> {
+    let mut text = format!(in alloc; "{kind} {} {}", at.date, at.second)?;
     for line in lines {
         let (target, store) = (line.target, line.store.text());
         let told = format!(in alloc;
@@ -46,18 +64,24 @@ fn told_return(alloc: Global, text: &mut String, lines: &[ReturnLine]) -> Result
         )?;
         text.push_str(told.as_str())?;
     }
-    Ok(())
+    Ok(text)
 }
 
-fn told_targets(alloc: Global, text: &mut String, targets: &[Target]) -> Result<(), Fail> {
+fn told_landed(
+    alloc: Global,
+    charge: Minor,
+    basis: Basis,
+    targets: &[Target],
+) -> Result<String, NoMemory> {
+    let mut text = format!(in alloc; "landed {} {basis:?}", charge.0)?;
     for target in targets {
         let told = format!(in alloc; ", {} {}", target.voucher.0, target.line)?;
         text.push_str(told.as_str())?;
     }
-    Ok(())
+    Ok(text)
 }
 
-fn told_query(alloc: Global, query: &Query) -> Result<String, Fail> {
+fn told_query(alloc: Global, query: &Query) -> Result<String, NoMemory> {
     let (sheet, format) = (query.sheet, query.format);
     let mut text = format!(in alloc; "report {sheet:?} {format:?} {}", query.need.0)?;
     if let Some(until) = &query.until {
@@ -73,51 +97,31 @@ fn told_query(alloc: Global, query: &Query) -> Result<String, Fail> {
 }
 
 /// The fields of a record, in words.
-fn told_what(alloc: Global, what: &What) -> Result<String, Fail> {
+fn told_what(alloc: Global, what: &What) -> Result<String, NoMemory> {
     match what {
         What::Item { code, method } => Ok(format!(in alloc; "item {} {method:?}", code.text())?),
         What::Store { code, account } => {
             Ok(format!(in alloc; "store {} {}", code.text(), account.0)?)
         }
-        What::Receipt { at, lines } => {
-            let mut text = format!(in alloc; "receipt {} {}", at.date, at.second)?;
-            told_receipt(alloc, &mut text, lines.as_slice())?;
-            Ok(text)
-        }
-        What::Issue { at, purpose, lines } => {
-            let mut text = format!(in alloc; "issue {} {} {purpose:?}", at.date, at.second)?;
-            told_issue(alloc, &mut text, lines.as_slice())?;
-            Ok(text)
-        }
-        What::Transfer { at, lines } => {
-            let mut text = format!(in alloc; "transfer {} {}", at.date, at.second)?;
-            told_transfer(alloc, &mut text, lines.as_slice())?;
-            Ok(text)
-        }
+        What::Receipt { at, lines } => told_receipt(alloc, *at, lines.as_slice()),
+        What::Issue { at, purpose, lines } => told_issue(alloc, *at, *purpose, lines.as_slice()),
+        What::Transfer { at, lines } => told_transfer(alloc, *at, lines.as_slice()),
         What::CustomerReturn { at, lines } => {
-            let mut text = format!(in alloc; "customer return {} {}", at.date, at.second)?;
-            told_return(alloc, &mut text, lines.as_slice())?;
-            Ok(text)
+            told_return(alloc, "customer return", *at, lines.as_slice())
         }
         What::SupplierReturn { at, lines } => {
-            let mut text = format!(in alloc; "return to a supplier {} {}", at.date, at.second)?;
-            told_return(alloc, &mut text, lines.as_slice())?;
-            Ok(text)
+            told_return(alloc, "return to a supplier", *at, lines.as_slice())
         }
         What::Landed {
             charge,
             basis,
             targets,
-        } => {
-            let mut text = format!(in alloc; "landed {} {basis:?}", charge.0)?;
-            told_targets(alloc, &mut text, targets.as_slice())?;
-            Ok(text)
-        }
+        } => told_landed(alloc, *charge, *basis, targets.as_slice()),
     }
 }
 
 /// The fields of a request, in words.
-fn told(alloc: Global, request: &Request) -> Result<String, Fail> {
+fn told(alloc: Global, request: &Request) -> Result<String, NoMemory> {
     match request {
         Request::Post(what) => told_what(alloc, what),
         Request::Work(turns) => Ok(format!(in alloc; "work {turns}")?),
@@ -127,7 +131,7 @@ fn told(alloc: Global, request: &Request) -> Result<String, Fail> {
 }
 
 /// What a text is read as, in words.
-fn read(alloc: Global, text: &[u8], at_desk: bool) -> Result<String, Fail> {
+fn read(alloc: Global, text: &[u8], at_desk: bool) -> Result<String, NoMemory> {
     match read_request(alloc, text, at_desk) {
         Ok(request) => told(alloc, &request),
         Err(ReadFault::BadJson) => Ok(String::from_str(alloc, "no json")?),
@@ -141,8 +145,16 @@ fn read(alloc: Global, text: &[u8], at_desk: bool) -> Result<String, Fail> {
     }
 }
 
+/// Whether the text is read as what these words say.
+fn is_read_as(alloc: Global, text: &[u8], at_desk: bool, want: &str) -> bool {
+    match read(alloc, text, at_desk) {
+        Ok(found) => found.as_str() == want,
+        Err(_) => false,
+    }
+}
+
 #[test]
-fn reads_each_kind(rt: HostRuntime) -> Result<(), Fail> {
+fn reads_each_kind(rt: HostRuntime) {
     let table = [
         (
             r#"{"do":"item","code":"a b","method":"average"}"#,
@@ -188,14 +200,15 @@ fn reads_each_kind(rt: HostRuntime) -> Result<(), Fail> {
         ),
     ];
     for (text, want) in table {
-        let found = read(rt.alloc(), text.as_bytes(), false)?;
-        assert_eq!(rt; found.as_str(), want, "{text}");
+        assert!(rt;
+            is_read_as(rt.alloc(), text.as_bytes(), false, want),
+            "{text}"
+        );
     }
-    Ok(())
 }
 
 #[test]
-fn reads_unusual_spellings(rt: HostRuntime) -> Result<(), Fail> {
+fn reads_unusual_spellings(rt: HostRuntime) {
     let table = [
         (
             r#"{"do":"receipt","lines":[{"item":"B","store":"W1","qty":1,"amount":2}],"at":"2026-01-03T07:08:09"}"#,
@@ -231,14 +244,23 @@ fn reads_unusual_spellings(rt: HostRuntime) -> Result<(), Fail> {
         ),
     ];
     for (text, want) in table {
-        let found = read(rt.alloc(), text.as_bytes(), false)?;
-        assert_eq!(rt; found.as_str(), want, "{text}");
+        assert!(rt;
+            is_read_as(rt.alloc(), text.as_bytes(), false, want),
+            "{text}"
+        );
     }
-    Ok(())
+}
+
+/// Whether the text has the usual form; none where memory is wanting.
+fn is_usual(alloc: Global, text: &str) -> Option<bool> {
+    match read_usual(alloc, text.as_bytes()) {
+        Ok(found) => Some(found.is_some()),
+        Err(_) => None,
+    }
 }
 
 #[test]
-fn knows_the_usual_form(rt: HostRuntime) -> Result<(), Fail> {
+fn knows_the_usual_form(rt: HostRuntime) {
     let table = [
         (
             r#"{"do":"receipt","at":"2026-01-03T07:08:09","lines":[{"item":"B","store":"W1","qty":10,"amount":0},{"item":"C","store":"W2","qty":1,"amount":20}]}"#,
@@ -263,14 +285,12 @@ fn knows_the_usual_form(rt: HostRuntime) -> Result<(), Fail> {
         (r#"{"do":"settle"}"#, false),
     ];
     for (text, want) in table {
-        let found = read_usual(rt.alloc(), text.as_bytes())?;
-        assert_eq!(rt; found.is_some(), want, "{text}");
+        assert!(rt; is_usual(rt.alloc(), text) == Some(want), "{text}");
     }
-    Ok(())
 }
 
 #[test]
-fn tells_the_first_fault(rt: HostRuntime) -> Result<(), Fail> {
+fn tells_the_first_fault(rt: HostRuntime) {
     let table = [
         ("{", "no json"),
         ("[]", "bad request 0"),
@@ -321,18 +341,21 @@ fn tells_the_first_fault(rt: HostRuntime) -> Result<(), Fail> {
         ),
     ];
     for (text, want) in table {
-        let found = read(rt.alloc(), text.as_bytes(), false)?;
-        assert_eq!(rt; found.as_str(), want, "{text}");
+        assert!(rt;
+            is_read_as(rt.alloc(), text.as_bytes(), false, want),
+            "{text}"
+        );
     }
     for text in [r#"{"do":"settle"}"#, r#"{"do":"work","turns":1}"#] {
-        let at_desk = read(rt.alloc(), text.as_bytes(), true)?;
-        assert_eq!(rt; at_desk.as_str(), "bad do 0", "{text}");
+        assert!(rt;
+            is_read_as(rt.alloc(), text.as_bytes(), true, "bad do 0"),
+            "{text}"
+        );
     }
-    Ok(())
 }
 
 #[test]
-fn reads_reports(rt: HostRuntime) -> Result<(), Fail> {
+fn reads_reports(rt: HostRuntime) {
     let table = [
         (r#"{"of":"balance","do":"report"}"#, "report Balance Json 0"),
         (
@@ -369,14 +392,15 @@ fn reads_reports(rt: HostRuntime) -> Result<(), Fail> {
         ),
     ];
     for (text, want) in table {
-        let found = read(rt.alloc(), text.as_bytes(), true)?;
-        assert_eq!(rt; found.as_str(), want, "{text}");
+        assert!(rt;
+            is_read_as(rt.alloc(), text.as_bytes(), true, want),
+            "{text}"
+        );
     }
-    Ok(())
 }
 
 #[test]
-fn refuses_what_is_no_json(rt: HostRuntime) -> Result<(), Fail> {
+fn refuses_what_is_no_json(rt: HostRuntime) {
     let table: [(&[u8], &str); 7] = [
         (b"", "no json"),
         (b"\xef\xbb\xbf{\"do\":\"settle\"}", "no json"),
@@ -387,13 +411,12 @@ fn refuses_what_is_no_json(rt: HostRuntime) -> Result<(), Fail> {
         (b"{\"do\":\"settle\",\"x\":\"\\ud800\"}", "no json"),
     ];
     for (text, want) in table {
-        assert_eq!(rt; read(rt.alloc(), text, false)?.as_str(), want);
+        assert!(rt; is_read_as(rt.alloc(), text, false, want), "{want}");
     }
-    Ok(())
 }
 
 /// A request whose unknown field has so many arrays in one another.
-fn nested(alloc: Global, arrays: usize) -> Result<Vec<u8>, Fail> {
+fn nested(alloc: Global, arrays: usize) -> Result<Vec<u8>, NoMemory> {
     let mut text = Vec::new(alloc);
     text.extend_from_slice(b"{\"do\":\"settle\",\"x\":")?;
     for _ in 0..arrays {
@@ -407,7 +430,7 @@ fn nested(alloc: Global, arrays: usize) -> Result<Vec<u8>, Fail> {
 }
 
 /// An issue of so many lines, of which the last is this.
-fn issue_of(alloc: Global, before: usize, last: &str) -> Result<String, Fail> {
+fn issue_of(alloc: Global, before: usize, last: &str) -> Result<String, NoMemory> {
     let mut text = String::from_str(
         alloc,
         "{\"do\":\"issue\",\"at\":\"2026-01-01T00:00:00\",\"use\":\"sold\",\"lines\":[",
@@ -420,23 +443,51 @@ fn issue_of(alloc: Global, before: usize, last: &str) -> Result<String, Fail> {
     Ok(text)
 }
 
+/// Whether a request of so many arrays in one another is read so.
+fn is_nested_read_as(alloc: Global, arrays: usize, want: &str) -> bool {
+    match nested(alloc, arrays) {
+        Ok(text) => is_read_as(alloc, text.as_slice(), false, want),
+        Err(_) => false,
+    }
+}
+
+/// Whether an issue of so many lines, of which one more has no quantity, is read so.
+fn is_issue_read_as(alloc: Global, before: usize, want: &str) -> bool {
+    match issue_of(alloc, before, "{\"item\":\"B\",\"store\":\"W1\",\"qty\":0}") {
+        Ok(text) => is_read_as(alloc, text.as_bytes(), false, want),
+        Err(_) => false,
+    }
+}
+
 #[test]
-fn knows_the_deepest_and_the_longest(rt: HostRuntime) -> Result<(), Fail> {
-    let alloc = rt.alloc();
+fn knows_the_deepest_and_the_longest(rt: HostRuntime) {
     for (arrays, want) in [(126, "bad other 0"), (127, "no json")] {
-        let text = nested(alloc, arrays)?;
-        assert_eq!(rt; read(alloc, text.as_slice(), false)?.as_str(), want);
+        assert!(rt; is_nested_read_as(rt.alloc(), arrays, want), "{want}");
     }
     for (before, want) in [(99, "limit qty 100"), (100, "limit lines 0")] {
-        let text = issue_of(alloc, before, "{\"item\":\"B\",\"store\":\"W1\",\"qty\":0}")?;
-        assert_eq!(rt; read(alloc, text.as_bytes(), false)?.as_str(), want);
+        assert!(rt; is_issue_read_as(rt.alloc(), before, want), "{want}");
     }
-    // The most lines that a voucher has, in the most bytes that a line of input has.
-    let mut most = issue_of(alloc, 99, "{\"item\":\"B\",\"store\":\"W1\",\"qty\":1}")?;
-    for _ in most.len()..65_536 {
-        most.push(' ')?;
+}
+
+/// An issue of the most lines that a voucher has, in the most bytes that a line of input has.
+fn largest(alloc: Global) -> Result<String, NoMemory> {
+    let mut text = issue_of(alloc, 99, "{\"item\":\"B\",\"store\":\"W1\",\"qty\":1}")?;
+    for _ in text.len()..65_536 {
+        text.push(' ')?;
     }
-    let found = read(alloc, most.as_bytes(), false)?;
-    assert!(rt; found.as_str().starts_with("issue 20260101"));
-    Ok(())
+    Ok(text)
+}
+
+/// The largest issue in words.
+fn told_largest(alloc: Global) -> Result<String, NoMemory> {
+    let text = largest(alloc)?;
+    read(alloc, text.as_bytes(), false)
+}
+
+#[test]
+fn reads_the_largest_voucher(rt: HostRuntime) {
+    let Ok(told) = told_largest(rt.alloc()) else {
+        panic!(rt; "no memory")
+    };
+    assert!(rt; told.as_str().starts_with("issue 20260101"));
 }

@@ -1,9 +1,9 @@
 //! A keeper over SQLite loads what was written, and refuses what it cannot read, a disk that fails, and the databases of others.
-ghost use Rattle.std.specs.Prelude.{◌≡◌, false};
+ghost use Rattle.std.specs.Prelude.{◌≡◌, false, IfSome};
 
 use crate::lists::lines_of;
 use keeper_sqlite::sqlite_keeper::SqliteKeeper;
-use sqlite::{Alter, Connection, Error, ErrorCode, Files, MemStore, Options};
+use sqlite::{Alter, Connection, Error, ErrorCode, Files, Options};
 use sqlite_disk::{Fuse, Memory};
 use std::alloc::Global;
 use stock_keeper::changes::{Changes, SpotWorth};
@@ -13,50 +13,83 @@ use stock_nums::entry::Worth;
 use stock_nums::numbers::{Minor, RecordNo};
 use stock_nums::place::{Side, Spot};
 
-const NOT_OURS: Error = Error::SqliteFailure(ErrorCode::NotADatabase);
+// The helpers have no clauses but those of an open database, and take any store, so that a test carries none of a keeper's clauses
+// from call to call.
 
-// The helpers have no clauses, so that a test carries none of a keeper's from call to call.
+// What record 1 takes out is worth.
+const LEAVES: SpotWorth = SpotWorth {
+    spot: Spot {
+        voucher: RecordNo(1),
+        line: 1,
+        side: Side::Leaves,
+    },
+    worth: Worth {
+        value: Minor(-9_000_000_000),
+        share: Minor(0),
+    },
+};
 
-fn row(voucher: u32, side: Side, value: i64, share: i64) -> SpotWorth {
-    SpotWorth {
-        spot: Spot {
-            voucher: RecordNo(voucher),
-            line: 1,
-            side,
-        },
-        worth: Worth {
-            value: Minor(value),
-            share: Minor(share),
-        },
-    }
-}
+// What it brings.
+const ENTERS: SpotWorth = SpotWorth {
+    spot: Spot {
+        voucher: RecordNo(1),
+        line: 1,
+        side: Side::Enters,
+    },
+    worth: Worth {
+        value: Minor(30),
+        share: Minor(7),
+    },
+};
 
-fn in_memory(alloc: Global) -> Option<SqliteKeeper<MemStore>> {
-    let conn = Connection::open_in_memory(alloc).ok()?;
-    SqliteKeeper::over(alloc, conn).ok()
-}
+// The same, once it has changed.
+const CHANGED: SpotWorth = SpotWorth {
+    spot: Spot {
+        voucher: RecordNo(1),
+        line: 1,
+        side: Side::Enters,
+    },
+    worth: Worth {
+        value: Minor(31),
+        share: Minor(8),
+    },
+};
 
-// Opens the database of a keeper again, as the next run would.
-fn again(alloc: Global, keeper: SqliteKeeper<MemStore>) -> Option<SqliteKeeper<MemStore>> {
-    SqliteKeeper::over(alloc, keeper.into_connection()).ok()
-}
+// What the last possible record brings.
+const LATER: SpotWorth = SpotWorth {
+    spot: Spot {
+        voucher: RecordNo(4_294_967_295),
+        line: 1,
+        side: Side::Enters,
+    },
+    worth: Worth {
+        value: Minor(5),
+        share: Minor(-5),
+    },
+};
 
 fn adds<S: Alter>(keeper: &mut SqliteKeeper<S>, number: u32, body: &[u8]) -> bool {
     keeper.append(RecordNo(number), body).is_ok()
 }
 
-fn publishes(
+fn changes(alloc: Global, rows: &[SpotWorth], gone: &[Spot]) -> Option<Changes> {
+    Some(Changes {
+        rows: lines_of(alloc, rows).ok()?,
+        gone: lines_of(alloc, gone).ok()?,
+    })
+}
+
+fn publishes<S: Alter>(
     alloc: Global,
-    keeper: &mut SqliteKeeper<MemStore>,
+    keeper: &mut SqliteKeeper<S>,
     covered: u32,
     rows: &[SpotWorth],
     gone: &[Spot],
-) -> Option<()> {
-    let changes = Changes {
-        rows: lines_of(alloc, rows).ok()?,
-        gone: lines_of(alloc, gone).ok()?,
-    };
-    keeper.publish(RecordNo(covered), &changes).ok()
+) -> bool {
+    match changes(alloc, rows, gone) {
+        Some(changes) => keeper.publish(RecordNo(covered), &changes).is_ok(),
+        None => false,
+    }
 }
 
 fn has_last(tables: &Tables, number: i64, body: &[u8]) -> bool {
@@ -64,10 +97,6 @@ fn has_last(tables: &Tables, number: i64, body: &[u8]) -> bool {
         Some(record) => record.number == number && record.body.as_slice() == body,
         None => false,
     }
-}
-
-fn loaded(keeper: &mut SqliteKeeper<MemStore>) -> Option<Tables> {
-    keeper.load().ok()
 }
 
 // Whether there are so many records, of which the last is this one, and these worths.
@@ -80,92 +109,149 @@ fn are(tables: &Tables, number: i64, body: &[u8], covered: i64, worths: &[SpotWo
 }
 
 // The same of the tables that are loaded.
-fn loads(
-    keeper: &mut SqliteKeeper<MemStore>,
+fn loads<S: Alter>(
+    keeper: &mut SqliteKeeper<S>,
     number: i64,
     body: &[u8],
     covered: i64,
     worths: &[SpotWorth],
 ) -> bool {
-    match loaded(keeper) {
-        Some(tables) => are(&tables, number, body, covered, worths),
-        None => false,
+    match keeper.load() {
+        Ok(tables) => are(&tables, number, body, covered, worths),
+        Err(_) => false,
+    }
+}
+
+// Whether two records and their worths are kept.
+fn keeps_two<S: Alter>(alloc: Global, keeper: &mut SqliteKeeper<S>) -> bool {
+    adds(keeper, 1, b"one")
+        && publishes(alloc, keeper, 1, &[LATER, ENTERS, LEAVES], &[])
+        && loads(keeper, 1, b"one", 1, &[LEAVES, ENTERS, LATER])
+        && adds(keeper, 2, b"two")
+        && publishes(alloc, keeper, 2, &[CHANGED], &[LATER.spot])
+}
+
+// Whether they are there where the database is opened again, as the next run would.
+fn are_kept<S: Alter + Drop>(alloc: Global, conn: Connection<S>) -> bool
+    requires { conn.in_transaction ≡ false }
+{
+    match SqliteKeeper::over(alloc, conn) {
+        Ok(mut keeper) => loads(&mut keeper, 2, b"two", 2, &[LEAVES, CHANGED]),
+        Err(_) => false,
+    }
+}
+
+fn keeps_for_good<S: Alter + Drop>(alloc: Global, conn: Connection<S>) -> bool
+    requires { conn.in_transaction ≡ false }
+{
+    match SqliteKeeper::over(alloc, conn) {
+        Ok(mut keeper) => {
+            keeps_two(alloc, &mut keeper) && are_kept(alloc, keeper.into_connection())
+        }
+        Err(_) => false,
     }
 }
 
 #[test]
 fn what_was_written_is_loaded_after_opening_again(rt: HostRuntime) {
-    let alloc = rt.alloc();
-    let mut keeper = in_memory(alloc).expect(&rt, "opened");
-    let leaves = row(1, Side::Leaves, -9_000_000_000, 0);
-    let enters = row(1, Side::Enters, 30, 7);
-    let later = row(4_294_967_295, Side::Enters, 5, -5);
-    assert!(rt; adds(&mut keeper, 1, b"one"));
-    assert!(rt; publishes(alloc, &mut keeper, 1, &[later, enters, leaves], &[]).is_some());
-    assert!(rt; loads(&mut keeper, 1, b"one", 1, &[leaves, enters, later]));
+    let Ok(conn) = Connection::open_in_memory(rt.alloc()) else {
+        panic!(rt; "not opened")
+    };
+    assert!(rt; keeps_for_good(rt.alloc(), conn));
+}
 
-    let changed = row(1, Side::Enters, 31, 8);
-    assert!(rt; adds(&mut keeper, 2, b"two"));
-    assert!(rt; publishes(alloc, &mut keeper, 2, &[changed], &[later.spot]).is_some());
-    let mut opened = again(alloc, keeper).expect(&rt, "opened again");
-    assert!(rt; loads(&mut opened, 2, b"two", 2, &[leaves, changed]));
+// Whether a record is refused that was added, and counted as a fault, and the tables stay.
+fn refuses_a_second<S: Alter + Drop>(alloc: Global, conn: Connection<S>) -> bool
+    requires { conn.in_transaction ≡ false }
+{
+    match SqliteKeeper::over(alloc, conn) {
+        Ok(mut keeper) => {
+            adds(&mut keeper, 1, b"one")
+                && !adds(&mut keeper, 1, b"two")
+                && keeper.faults() == 1
+                && loads(&mut keeper, 1, b"one", 0, &[])
+        }
+        Err(_) => false,
+    }
 }
 
 #[test]
 fn a_refusal_is_counted_and_changes_nothing(rt: HostRuntime) {
-    let mut keeper = in_memory(rt.alloc()).expect(&rt, "opened");
-    assert!(rt; adds(&mut keeper, 1, b"one"));
-    assert!(rt; !adds(&mut keeper, 1, b"two"));
-    assert_eq!(rt; keeper.faults(), 1);
-    assert!(rt; loads(&mut keeper, 1, b"one", 0, &[]));
+    let Ok(conn) = Connection::open_in_memory(rt.alloc()) else {
+        panic!(rt; "not opened")
+    };
+    assert!(rt; refuses_a_second(rt.alloc(), conn));
 }
 
-fn after(keeper: SqliteKeeper<MemStore>, sql: &str) -> Option<Connection<MemStore>> {
-    let mut conn = keeper.into_connection();
-    conn.execute(sql, &[]).ok()?;
-    Some(conn)
-}
-
-// Whether a ledger is loaded after this statement has changed its tables.
-fn loads_after(alloc: Global, sql: &str) -> Option<bool> {
-    let conn = after(in_memory(alloc)?, sql)?;
-    if !conn.is_autocommit() {
-        return None;
+// The database after this statement, where it has no transaction open.
+fn after<S: Alter + Drop>(mut conn: Connection<S>, sql: &str) -> Option<Connection<S>>
+    ensures { IfSome result (λ conn. conn.in_transaction ≡ false) }
+{
+    match conn.execute(sql, &[]) {
+        Ok(_) if conn.is_autocommit() => Some(conn),
+        _ => None,
     }
-    let mut keeper = SqliteKeeper::over(alloc, conn).ok()?;
-    Some(keeper.load().is_ok())
+}
+
+// Whether tables are loaded from this database.
+fn is_loaded<S: Alter + Drop>(alloc: Global, conn: Connection<S>) -> bool
+    requires { conn.in_transaction ≡ false }
+{
+    match SqliteKeeper::over(alloc, conn) {
+        Ok(mut keeper) => keeper.load().is_ok(),
+        Err(_) => false,
+    }
+}
+
+// The database of a keeper in which nothing is kept.
+fn made_ready<S: Alter + Drop>(alloc: Global, conn: Connection<S>) -> Option<Connection<S>>
+    requires { conn.in_transaction ≡ false }
+{
+    match SqliteKeeper::over(alloc, conn) {
+        Ok(keeper) => Some(keeper.into_connection()),
+        Err(_) => None,
+    }
+}
+
+// Whether tables are loaded after this statement has changed them.
+fn loads_after(alloc: Global, sql: &str) -> Option<bool> {
+    let conn = made_ready(alloc, Connection::open_in_memory(alloc).ok()?)?;
+    Some(is_loaded(alloc, after(conn, sql)?))
 }
 
 #[test]
 fn rows_that_cannot_be_read_are_refused(rt: HostRuntime) {
-    let changes = [
+    for (sql, is_loaded) in [
         ("INSERT INTO worths VALUES(1, 1, 1, 0, 0)", true),
         ("INSERT INTO worths VALUES(1, 1, 2, 0, 0)", false),
         ("INSERT INTO worths VALUES(1, -1, 1, 0, 0)", false),
         ("INSERT INTO records VALUES(-7, x'00')", true),
         ("DELETE FROM head", false),
-    ];
-    for (sql, is_loaded) in changes {
-        assert_eq!(rt; loads_after(rt.alloc(), sql), Some(is_loaded), "{sql}");
+    ] {
+        assert!(rt; loads_after(rt.alloc(), sql) == Some(is_loaded), "{sql}");
     }
 }
 
-// Why a database that this statement made is refused, and how much is in it then.
-fn refusal(alloc: Global, sql: &str) -> Option<(Error, usize)> {
-    let mut conn = Connection::open_in_memory(alloc).ok()?;
-    conn.execute(sql, &[]).ok()?;
-    if !conn.is_autocommit() {
-        return None;
-    }
+// Whether the database is refused as none of ours.
+fn is_foreign<S: Alter + Drop>(alloc: Global, conn: Connection<S>) -> Option<Connection<S>>
+    requires { conn.in_transaction ≡ false }
+{
     match SqliteKeeper::over(alloc, conn) {
-        Ok(_) => None,
-        Err((error, conn)) => Some((error, names_in(conn)?)),
+        Err((Error::SqliteFailure(ErrorCode::NotADatabase), conn)) => Some(conn),
+        _ => None,
     }
 }
 
-fn names_in(mut conn: Connection<MemStore>) -> Option<usize> {
+// How many tables and views it has.
+fn names_in<S: Alter + Drop>(mut conn: Connection<S>) -> Option<usize> {
     let names = conn.query_all("SELECT name FROM sqlite_schema", &[]).ok()?;
     Some(names.len())
+}
+
+// How many a database has that was refused, which this statement made.
+fn names_in_foreign(alloc: Global, sql: &str) -> Option<usize> {
+    let conn = after(Connection::open_in_memory(alloc).ok()?, sql)?;
+    names_in(is_foreign(alloc, conn)?)
 }
 
 #[test]
@@ -175,7 +261,7 @@ fn a_foreign_database_is_refused_and_keeps_its_tables(rt: HostRuntime) {
         "CREATE TABLE head(id INTEGER PRIMARY KEY)",
         "CREATE VIEW one AS SELECT 1",
     ] {
-        assert_eq!(rt; refusal(rt.alloc(), sql), Some((NOT_OURS, 1)), "{sql}");
+        assert!(rt; names_in_foreign(rt.alloc(), sql) == Some(1), "{sql}");
     }
 }
 
@@ -183,9 +269,13 @@ fn a_foreign_database_is_refused_and_keeps_its_tables(rt: HostRuntime) {
 fn added_to<S: Alter + Drop>(alloc: Global, conn: Connection<S>) -> Option<(bool, u64)>
     requires { conn.in_transaction ≡ false }
 {
-    let mut keeper = SqliteKeeper::over(alloc, conn).ok()?;
-    let is_added = adds(&mut keeper, 1, b"one");
-    Some((is_added, keeper.faults()))
+    match SqliteKeeper::over(alloc, conn) {
+        Ok(mut keeper) => {
+            let is_added = adds(&mut keeper, 1, b"one");
+            Some((is_added, keeper.faults()))
+        }
+        Err(_) => None,
+    }
 }
 
 // The same over files in memory, of which the log fails after so many calls.
@@ -205,9 +295,9 @@ fn a_disk_that_fails_is_counted(rt: HostRuntime) {
     let mut has_failed = false;
     for calls in 24..29 {
         match added_over_fuses(rt.alloc(), calls) {
-            Some((true, faults)) => assert_eq!(rt; faults, 0),
+            Some((true, faults)) => assert!(rt; faults == 0),
             Some((false, faults)) => {
-                assert_eq!(rt; faults, 1);
+                assert!(rt; faults == 1);
                 has_failed = true;
             }
             None => {}

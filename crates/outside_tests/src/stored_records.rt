@@ -1,14 +1,14 @@
 //! Stored records are read as they were written, each in its one spelling.
 use std::alloc::Global;
-use std::test::Fail;
 use stock_model::read_faults::ReadFault;
+use stock_nums::memory::NoMemory;
 use voucher_json::field_names::field_text;
 use voucher_json::record_reading::read_record;
 use voucher_json::record_texts::{is_text_of, record_text};
 use voucher_json::usual_records::usual_record;
 
 /// The stored text of the record that a text is read as, or why it is none.
-fn read(alloc: Global, text: &[u8]) -> Result<String, Fail> {
+fn read(alloc: Global, text: &[u8]) -> Result<String, NoMemory> {
     match read_record(alloc, text) {
         Ok(found) => {
             let text = record_text(alloc, &found)?;
@@ -25,8 +25,16 @@ fn read(alloc: Global, text: &[u8]) -> Result<String, Fail> {
     }
 }
 
+/// Whether the text is read as the record with this stored text, or so refused.
+fn is_read_as(alloc: Global, text: &str, want: &str) -> bool {
+    match read(alloc, text.as_bytes()) {
+        Ok(found) => found.as_str() == want,
+        Err(_) => false,
+    }
+}
+
 #[test]
-fn reads_what_it_writes(rt: HostRuntime) -> Result<(), Fail> {
+fn reads_what_it_writes(rt: HostRuntime) {
     let table = [
         r#"{"code":"A","desk":0,"do":"item","method":"fifo"}"#,
         r#"{"code":"a \"b\"\\\u0001ü","desk":16,"do":"item","method":"average"}"#,
@@ -41,14 +49,12 @@ fn reads_what_it_writes(rt: HostRuntime) -> Result<(), Fail> {
         r#"{"basis":"amount","charge":1000000000000,"desk":0,"do":"landed","targets":[{"line":1,"record":5},{"line":2,"record":5}]}"#,
     ];
     for text in table {
-        let found = read(rt.alloc(), text.as_bytes())?;
-        assert_eq!(rt; found.as_str(), text);
+        assert!(rt; is_read_as(rt.alloc(), text, text), "{text}");
     }
-    Ok(())
 }
 
 #[test]
-fn tells_the_first_fault(rt: HostRuntime) -> Result<(), Fail> {
+fn tells_the_first_fault(rt: HostRuntime) {
     let table = [
         ("{", "no json"),
         ("[]", "bad request 0"),
@@ -69,14 +75,20 @@ fn tells_the_first_fault(rt: HostRuntime) -> Result<(), Fail> {
         ),
     ];
     for (text, want) in table {
-        let found = read(rt.alloc(), text.as_bytes())?;
-        assert_eq!(rt; found.as_str(), want, "{text}");
+        assert!(rt; is_read_as(rt.alloc(), text, want), "{text}");
     }
-    Ok(())
+}
+
+/// Whether the text is read as a record, and is the one that is stored of it; none where it is not read, or memory is wanting.
+fn is_stored_so(alloc: Global, text: &str) -> Option<bool> {
+    let Ok(found) = read_record(alloc, text.as_bytes()) else {
+        return None;
+    };
+    is_text_of(alloc, &found, text.as_bytes()).ok()
 }
 
 #[test]
-fn knows_the_one_stored_spelling(rt: HostRuntime) -> Result<(), Fail> {
+fn knows_the_one_stored_spelling(rt: HostRuntime) {
     let table = [
         (r#"{"code":"A","desk":0,"do":"item","method":"fifo"}"#, true),
         (
@@ -101,19 +113,12 @@ fn knows_the_one_stored_spelling(rt: HostRuntime) -> Result<(), Fail> {
         ),
     ];
     for (text, want) in table {
-        match read_record(rt.alloc(), text.as_bytes()) {
-            Ok(found) => {
-                let stored = is_text_of(rt.alloc(), &found, text.as_bytes())?;
-                assert_eq!(rt; stored, want, "{text}");
-            }
-            Err(_) => assert!(rt; false, "{text}"),
-        }
+        assert!(rt; is_stored_so(rt.alloc(), text) == Some(want), "{text}");
     }
-    Ok(())
 }
 
 /// The stored text of the record that a text is read as in one pass, or `none`.
-fn read_at_once(alloc: Global, text: &str) -> Result<String, Fail> {
+fn read_at_once(alloc: Global, text: &str) -> Result<String, NoMemory> {
     match usual_record(alloc, text.as_bytes())? {
         Some(found) => {
             let text = record_text(alloc, &found)?;
@@ -123,8 +128,16 @@ fn read_at_once(alloc: Global, text: &str) -> Result<String, Fail> {
     }
 }
 
+/// Whether that is this text.
+fn is_read_at_once_as(alloc: Global, text: &str, want: &str) -> bool {
+    match read_at_once(alloc, text) {
+        Ok(found) => found.as_str() == want,
+        Err(_) => false,
+    }
+}
+
 #[test]
-fn reads_usual_records_at_once(rt: HostRuntime) -> Result<(), Fail> {
+fn reads_usual_records_at_once(rt: HostRuntime) {
     let table = [
         r#"{"at":"2026-01-02T09:00:00","desk":0,"do":"receipt","lines":[{"amount":0,"item":"B","qty":1000000000,"store":"W1"}]}"#,
         r#"{"at":"2026-01-02T09:00:00","desk":16,"do":"receipt","lines":[{"amount":10,"item":"Tür","qty":1,"store":"W1"},{"amount":1000000000000,"item":"","qty":10,"store":"a longer code than twenty-four bytes"}]}"#,
@@ -132,14 +145,12 @@ fn reads_usual_records_at_once(rt: HostRuntime) -> Result<(), Fail> {
         r#"{"at":"2026-01-02T09:00:00","desk":3,"do":"issue","lines":[{"item":"B","qty":1,"store":"W1"}],"use":"used"}"#,
     ];
     for text in table {
-        let found = read_at_once(rt.alloc(), text)?;
-        assert_eq!(rt; found.as_str(), text);
+        assert!(rt; is_read_at_once_as(rt.alloc(), text, text), "{text}");
     }
-    Ok(())
 }
 
 #[test]
-fn leaves_other_texts(rt: HostRuntime) -> Result<(), Fail> {
+fn leaves_other_texts(rt: HostRuntime) {
     let table = [
         // An item, and a transfer.
         r#"{"code":"A","desk":0,"do":"item","method":"fifo"}"#,
@@ -173,16 +184,25 @@ fn leaves_other_texts(rt: HostRuntime) -> Result<(), Fail> {
         r#"{"at":"2026-01-02T09:00:00","desk":0,"do":"receipt","lines":[{"amount":1,"item":"B","qty":1,"store":"W1"}]"#,
     ];
     for text in table {
-        let found = read_at_once(rt.alloc(), text)?;
-        assert_eq!(rt; found.as_str(), "none", "{text}");
+        assert!(rt; is_read_at_once_as(rt.alloc(), text, "none"), "{text}");
     }
-    let no_text = usual_record(rt.alloc(), b"{\"at\":\"\xff")?;
-    assert!(rt; no_text.is_none());
-    Ok(())
+}
+
+/// Whether bytes that are no text are left too.
+fn leaves_bytes(alloc: Global, bytes: &[u8]) -> bool {
+    match usual_record(alloc, bytes) {
+        Ok(found) => found.is_none(),
+        Err(_) => false,
+    }
+}
+
+#[test]
+fn leaves_what_is_no_text(rt: HostRuntime) {
+    assert!(rt; leaves_bytes(rt.alloc(), b"{\"at\":\"\xff"));
 }
 
 /// The stored text of an issue of so many lines.
-fn issue_of(alloc: Global, count: u32) -> Result<String, Fail> {
+fn issue_of(alloc: Global, count: u32) -> Result<String, NoMemory> {
     let head = r#"{"at":"2026-01-02T09:00:00","desk":0,"do":"issue","lines":["#;
     let mut text = String::from_str(alloc, head)?;
     for place in 0..count {
@@ -195,13 +215,24 @@ fn issue_of(alloc: Global, count: u32) -> Result<String, Fail> {
     Ok(text)
 }
 
+/// Whether an issue of so many lines is read at once as itself.
+fn is_issue_read_at_once(alloc: Global, count: u32) -> bool {
+    match issue_of(alloc, count) {
+        Ok(text) => is_read_at_once_as(alloc, text.as_str(), text.as_str()),
+        Err(_) => false,
+    }
+}
+
+/// Whether an issue of so many lines is left.
+fn is_issue_left(alloc: Global, count: u32) -> bool {
+    match issue_of(alloc, count) {
+        Ok(text) => is_read_at_once_as(alloc, text.as_str(), "none"),
+        Err(_) => false,
+    }
+}
+
 #[test]
-fn reads_a_hundred_lines_at_once(rt: HostRuntime) -> Result<(), Fail> {
-    let most = issue_of(rt.alloc(), 100)?;
-    let found = read_at_once(rt.alloc(), most.as_str())?;
-    assert_eq!(rt; found.as_str(), most.as_str());
-    let too_many = issue_of(rt.alloc(), 101)?;
-    let none = read_at_once(rt.alloc(), too_many.as_str())?;
-    assert_eq!(rt; none.as_str(), "none");
-    Ok(())
+fn reads_a_hundred_lines_at_once(rt: HostRuntime) {
+    assert!(rt; is_issue_read_at_once(rt.alloc(), 100));
+    assert!(rt; is_issue_left(rt.alloc(), 101));
 }

@@ -1,5 +1,6 @@
 //! Requests are heard however they are cut, each buffer is answered by the first rule of the wire, and responses have exact texts.
 ghost use Rattle.std.specs.Prelude.{◌<◌};
+ghost use Rattle.desk_wire.specs.Responses.{IsDeskStatus};
 
 use crate::lists::lines_of;
 use desk_wire::framing::frame;
@@ -9,22 +10,12 @@ use desk_wire::response::response_text;
 use desk_wire::wire::{Wire, next_request};
 use itoa::Buffer;
 use std::alloc::Global;
-use std::test::Fail;
-use stock_io::failed::Failed;
 use stock_io::sure::SureSource;
 use stock_nums::memory::NoMemory;
 
 // The first request to a desk.
 const ASKED: &[u8] =
     b"POST /desk HTTP/1.1\r\nHost: x\r\nContent-Length: 40\r\n\r\n{\"do\":\"item\",\"code\":\"A\",\"method\":\"fifo\"}";
-
-fn whole(head: usize, body: usize, close: bool) -> Wire {
-    Wire::Whole { head, body, close }
-}
-
-fn bad(status: u16) -> Wire {
-    Wire::Bad { status }
-}
 
 // Buffers with their answers, rule by rule.
 const ANSWERS: &[(&[u8], Wire)] = &[
@@ -211,20 +202,19 @@ const ANSWERS: &[(&[u8], Wire)] = &[
 ];
 
 #[test]
-fn buffers_are_answered_by_the_first_rule(rt: HostRuntime) -> Result<(), Fail> {
+fn buffers_are_answered_by_the_first_rule(rt: HostRuntime) {
     for (buffer, answer) in ANSWERS {
-        assert_eq!(rt; next_request(buffer), *answer);
+        assert!(rt; next_request(buffer) == *answer);
     }
-    Ok(())
 }
 
-// So many fields with names of one letter and no value, before the end of a head.
-fn with_fields(alloc: Global, count: usize, end: &[u8]) -> Result<Vec<u8>, NoMemory> {
+// So many fields with names of one letter and no value, and then a length.
+fn with_fields(alloc: Global, count: usize) -> Result<Vec<u8>, NoMemory> {
     let mut bytes = Vec::from_slice(alloc, b"POST /desk HTTP/1.0\r\n")?;
     for _ in 0..count {
         bytes.extend_from_slice(b"a:\r\n")?;
     }
-    bytes.extend_from_slice(end)?;
+    bytes.extend_from_slice(b"content-length: 0\r\n\r\n")?;
     Ok(bytes)
 }
 
@@ -235,23 +225,36 @@ fn without_end(alloc: Global, count: usize) -> Result<Vec<u8>, NoMemory> {
     Ok(bytes)
 }
 
+// Whether the bytes are answered so.
+fn are_answered(bytes: Result<Vec<u8>, NoMemory>, answer: Wire) -> bool {
+    match bytes {
+        Ok(bytes) => next_request(bytes.as_slice()) == answer,
+        Err(NoMemory) => false,
+    }
+}
+
 #[test]
-fn heads_have_limits(rt: HostRuntime) -> Result<(), Fail> {
+fn heads_have_limits(rt: HostRuntime) {
+    let bad = Wire::Bad { status: 400 };
+    let whole = Wire::Whole {
+        head: 294,
+        body: 0,
+        close: true,
+    };
     // 64 fields and 65.
-    let most = with_fields(rt.alloc(), 63, b"content-length: 0\r\n\r\n")?;
-    assert_eq!(rt; next_request(most.as_slice()), whole(294, 0, true));
-    let more = with_fields(rt.alloc(), 64, b"content-length: 0\r\n\r\n")?;
-    assert_eq!(rt; next_request(more.as_slice()), bad(400));
+    for (count, answer) in [(63, whole), (64, bad)] {
+        assert!(rt;
+            are_answered(with_fields(rt.alloc(), count), answer),
+            "{count}"
+        );
+    }
     // 65,536 bytes without an end, and 65,535.
-    assert_eq!(rt;
-        next_request(without_end(rt.alloc(), 65_536)?.as_slice()),
-        bad(400)
-    );
-    assert_eq!(rt;
-        next_request(without_end(rt.alloc(), 65_535)?.as_slice()),
-        Wire::More
-    );
-    Ok(())
+    for (count, answer) in [(65_536, bad), (65_535, Wire::More)] {
+        assert!(rt;
+            are_answered(without_end(rt.alloc(), count), answer),
+            "{count}"
+        );
+    }
 }
 
 fn source_of(alloc: Global, bytes: &[u8], piece: usize) -> Result<SureSource, NoMemory>
@@ -260,31 +263,50 @@ fn source_of(alloc: Global, bytes: &[u8], piece: usize) -> Result<SureSource, No
     Ok(SureSource::new(lines_of(alloc, bytes)?, piece))
 }
 
-// What is heard of some bytes and then of others.
-fn heard_in_two(alloc: Global, first: &[u8], second: &[u8]) -> Result<(Heard, Heard), Fail> {
-    let mut inbox = Inbox::new(alloc, 1 << 32)?;
-    let before = inbox.hear(&mut source_of(alloc, first, 100)?)?;
-    let after = inbox.hear(&mut source_of(alloc, second, 100)?)?;
-    Ok((before, after))
+// What the inbox hears of these bytes.
+fn heard(alloc: Global, inbox: &mut Inbox, bytes: &[u8], piece: usize) -> Option<Heard> {
+    if piece == 0 {
+        return None;
+    }
+    let mut source = source_of(alloc, bytes, piece).ok()?;
+    inbox.hear(&mut source).ok()
 }
 
+// What is heard of some bytes and then of others.
+fn heard_in_two(alloc: Global, first: &[u8], second: &[u8]) -> Option<(Heard, Heard)> {
+    let mut inbox = Inbox::new(alloc, 1 << 32).ok()?;
+    let before = heard(alloc, &mut inbox, first, 100)?;
+    let after = heard(alloc, &mut inbox, second, 100)?;
+    Some((before, after))
+}
+
+// What is heard of bytes in pieces of so many.
+fn heard_in_pieces(alloc: Global, bytes: &[u8], piece: usize) -> Option<Heard> {
+    let mut inbox = Inbox::new(alloc, 1 << 32).ok()?;
+    heard(alloc, &mut inbox, bytes, piece)
+}
+
+const ASKED_IS_HEARD: Heard = Heard::Next(Request {
+    head: 52,
+    body: 40,
+    close: false,
+});
+
 #[test]
-fn a_request_is_heard_however_it_is_cut(rt: HostRuntime) -> Result<(), Fail> {
-    let asked = Heard::Next(Request {
-        head: 52,
-        body: 40,
-        close: false,
-    });
+fn a_request_is_heard_however_it_is_cut(rt: HostRuntime) {
+    let told = Some((Heard::Last(Stop::Ended), ASKED_IS_HEARD));
     for cut in 0..ASKED.len() {
-        let heard = heard_in_two(rt.alloc(), &ASKED[..cut], &ASKED[cut..])?;
-        assert_eq!(rt; heard, (Heard::Last(Stop::Ended), asked));
+        assert!(rt;
+            heard_in_two(rt.alloc(), &ASKED[..cut], &ASKED[cut..]) == told,
+            "{cut}"
+        );
     }
     for piece in [1, 100] {
-        let mut inbox = Inbox::new(rt.alloc(), 1 << 32)?;
-        let mut source = source_of(rt.alloc(), ASKED, piece)?;
-        assert_eq!(rt; inbox.hear(&mut source), Ok(asked));
+        assert!(rt;
+            heard_in_pieces(rt.alloc(), ASKED, piece) == Some(ASKED_IS_HEARD),
+            "{piece}"
+        );
     }
-    Ok(())
 }
 
 // A request whose head and body have so many bytes.
@@ -298,66 +320,85 @@ fn request_of(alloc: Global, head: usize, body: usize) -> Result<Vec<u8>, NoMemo
     Ok(bytes)
 }
 
+// Whether such a request is heard.
+fn is_heard(alloc: Global, head: usize, body: usize) -> bool {
+    let Ok(bytes) = request_of(alloc, head, body) else {
+        return false;
+    };
+    let asked = Heard::Next(Request {
+        head,
+        body,
+        close: true,
+    });
+    heard_in_pieces(alloc, bytes.as_slice(), 10_000) == Some(asked)
+}
+
 #[test]
-fn a_request_of_the_largest_size_is_heard(rt: HostRuntime) -> Result<(), Fail> {
+fn a_request_of_the_largest_size_is_heard(rt: HostRuntime) {
     for (head, body) in [(65_536, 0), (100, 65_536), (65_536, 65_536)] {
-        let bytes = request_of(rt.alloc(), head, body)?;
-        let mut inbox = Inbox::new(rt.alloc(), 1 << 32)?;
-        let mut source = source_of(rt.alloc(), bytes.as_slice(), 10_000)?;
-        let asked = Heard::Next(Request {
-            head,
-            body,
-            close: true,
-        });
-        assert_eq!(rt; inbox.hear(&mut source), Ok(asked));
+        assert!(rt; is_heard(rt.alloc(), head, body), "{head} {body}");
     }
-    Ok(())
+}
+
+const STREAM: &[u8] =
+    b"POST /desk HTTP/1.0\r\nContent-Length: 3\r\n\r\n123POST /desk HTTP/1.0\r\ncontent-length: 1\r\n\r\n4GET / HTTP/1.0\r\n\r\n";
+
+// How many requests are framed of the stream by an inbox that takes so many bytes, and why no more.
+fn framed(alloc: Global, most: u64) -> Option<(usize, Stop)> {
+    let mut inbox = Inbox::new(alloc, most).ok()?;
+    let mut source = source_of(alloc, STREAM, 7).ok()?;
+    let framing = frame(alloc, &mut inbox, &mut source).ok()?;
+    Some((framing.requests.len(), framing.stop))
 }
 
 #[test]
-fn a_stream_is_framed(rt: HostRuntime) -> Result<(), Fail> {
-    let stream =
-        b"POST /desk HTTP/1.0\r\nContent-Length: 3\r\n\r\n123POST /desk HTTP/1.0\r\ncontent-length: 1\r\n\r\n4GET / HTTP/1.0\r\n\r\n";
-    let mut inbox = Inbox::new(rt.alloc(), 1 << 32)?;
-    let framing = frame(
-        rt.alloc(),
-        &mut inbox,
-        &mut source_of(rt.alloc(), stream, 7)?,
-    )?;
-    assert_eq!(rt; framing.stop, Stop::Refused { status: 405 });
-    assert_eq!(rt; framing.requests.len(), 2);
-    let mut few = Inbox::new(rt.alloc(), 20)?;
-    let framing = frame(rt.alloc(), &mut few, &mut source_of(rt.alloc(), stream, 7)?)?;
-    assert_eq!(rt; (framing.requests.len(), framing.stop), (0, Stop::TooMuch));
-    Ok(())
+fn a_stream_is_framed(rt: HostRuntime) {
+    let refused = Stop::Refused { status: 405 };
+    for (most, told) in [(1 << 32, (2, refused)), (20, (0, Stop::TooMuch))] {
+        assert!(rt; framed(rt.alloc(), most) == Some(told), "{most}");
+    }
+}
+
+// A status that a desk has, a body, whether the connection is closed, and the response.
+#[derive(Clone, Copy)]
+struct Response {
+    status: u16,
+    body: &'static [u8],
+    close: bool,
+    text: &'static [u8],
+    ghost of_desk: { IsDeskStatus status },
+}
+
+// Whether the response has its text.
+fn is_written_so(alloc: Global, response: &Response) -> bool {
+    match response_text(alloc, response.status, response.body, response.close) {
+        Ok(text) => text.as_slice() == response.text,
+        Err(_) => false,
+    }
 }
 
 #[test]
-fn responses_have_exact_texts(rt: HostRuntime) -> Result<(), Fail> {
-    let text = response_text(
-        rt.alloc(),
-        200,
-        b"{\"record\":1,\"status\":\"accepted\"}",
-        false,
-    )?;
-    assert_eq!(rt;
-        text.as_slice(),
-        b"HTTP/1.1 200 OK\r\nContent-Type: application/json\r\nContent-Length: 32\r\n\r\n{\"record\":1,\"status\":\"accepted\"}".as_slice()
-    );
-    let text = response_text(
-        rt.alloc(),
-        413,
-        b"{\"fault\":\"http\",\"status\":\"bad\"}",
-        true,
-    )?;
-    assert_eq!(rt;
-        text.as_slice(),
-        b"HTTP/1.1 413 Payload Too Large\r\nContent-Type: application/json\r\nContent-Length: 31\r\nConnection: close\r\n\r\n{\"fault\":\"http\",\"status\":\"bad\"}".as_slice()
-    );
-    let text = response_text(rt.alloc(), 405, b"", true)?;
-    assert_eq!(rt;
-        text.as_slice(),
-        b"HTTP/1.1 405 Method Not Allowed\r\nContent-Type: application/json\r\nContent-Length: 0\r\nAllow: POST\r\nConnection: close\r\n\r\n".as_slice()
-    );
-    Ok(())
+fn responses_have_exact_texts(rt: HostRuntime) {
+    for response in [
+        Response {
+            status: 200,
+            body: b"{\"record\":1,\"status\":\"accepted\"}",
+            close: false,
+            text: b"HTTP/1.1 200 OK\r\nContent-Type: application/json\r\nContent-Length: 32\r\n\r\n{\"record\":1,\"status\":\"accepted\"}",
+        },
+        Response {
+            status: 413,
+            body: b"{\"fault\":\"http\",\"status\":\"bad\"}",
+            close: true,
+            text: b"HTTP/1.1 413 Payload Too Large\r\nContent-Type: application/json\r\nContent-Length: 31\r\nConnection: close\r\n\r\n{\"fault\":\"http\",\"status\":\"bad\"}",
+        },
+        Response {
+            status: 405,
+            body: b"",
+            close: true,
+            text: b"HTTP/1.1 405 Method Not Allowed\r\nContent-Type: application/json\r\nContent-Length: 0\r\nAllow: POST\r\nConnection: close\r\n\r\n",
+        },
+    ] {
+        assert!(rt; is_written_so(rt.alloc(), &response), "{}", response.status);
+    }
 }
