@@ -1,12 +1,12 @@
 -- Each command does what the words ask for, which is nothing else, and no end has the status of other words.
-use Rattle.std.proofs.Common.{◌≡◌, ℕ, map, inl, inr, refl, subst, sym, ap, ◌∙◌, string_bytes, arith}
+use Rattle.std.proofs.Common.{◌≡◌, ℕ, map, inl, inr, refl, subst, sym, ◌∙◌, string_bytes, arith}
 use Rattle.stock_io.specs.Listeners.{IsFresh}
 use Rattle.repost_worker.specs.Paces.{first_pace}
 use Rattle.desk_service.specs.Listening.{heard}
 use Rattle.desk_service.specs.Service.{IsPeerServed}
 use Rattle.stock_words.specs.Words.{Spells, IsFaultOf}
 use Rattle.stock_words.proofs.ServeWords.{one_service}
-use Rattle.stock_words.proofs.Forms.{batch_begins, over_begins, load_begins, serve_begins, batch_is_not_over, load_once}
+use Rattle.stock_words.proofs.Forms.{batch_begins, over_begins, load_begins, serve_begins, load_once}
 use Rattle.stock_ends.specs.Statuses.{status_of}
 use Rattle.stock_ends.specs.declared.end.End.{End}
 use Rattle.stock_ends.specs.declared.end.End.TheVariants.{NoMemory}
