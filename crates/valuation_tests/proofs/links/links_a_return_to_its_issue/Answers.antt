@@ -1,10 +1,9 @@
 -- Two movements return few units.
-use Rattle.std.proofs.Common.{◌≡◌, ◌∷◌, [], ◌++◌, length, filter, ap, ◌∙◌, arith, List}
+use Rattle.std.proofs.Common.{◌∷◌, [], ◌++◌, length, filter, ap, ◌∙◌, arith, List}
 use Rattle.stock_nums.specs.declared.entry.Entry.{Entry}
 use Rattle.stock_model.specs.Returns.{returns_of}
-use Rattle.cost_links.specs.Linked.{returns_to}
 use Rattle.cost_links.proofs.ReturnSteps.{back-small, filter-short}
-use Rattle.cost_links_tests.proofs.link_tests.links_a_return_to_its_issue.Goals as goal
+use Rattle.valuation_tests.proofs.links.links_a_return_to_its_issue.Goals as goal
 
 pub returned_before-requires : goal.returned_before-requires
 returned_before-requires g c =

@@ -1,3 +1,4 @@
+//! A receipt is worth its amount and its charges.
 ghost use Rattle.std.specs.Prelude.{◌≡◌, ◌<◌};
 
 use cost_formulas::average::Average;

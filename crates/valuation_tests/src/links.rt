@@ -1,3 +1,5 @@
+//! Returns are linked to the line of their issue, and charges to that of their receipt.
+
 use cost_links::charges::Charge;
 use cost_links::links::Links;
 use std::test::Fail;
