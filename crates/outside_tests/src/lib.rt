@@ -3,6 +3,8 @@
 #![tactic(auto)]
 
 #[cfg(test)]
+mod faults;
+#[cfg(test)]
 mod keepers;
 #[cfg(test)]
 mod listeners;
@@ -14,8 +16,6 @@ mod replies;
 mod requests;
 #[cfg(test)]
 mod sockets;
-#[cfg(test)]
-mod sqlite_keepers;
 #[cfg(test)]
 mod stored_records;
 #[cfg(test)]

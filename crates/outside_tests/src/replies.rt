@@ -1,5 +1,5 @@
 //! Replies have exact texts.
-ghost use Rattle.voucher_json.specs.ReplyText.{IsPrinted};
+ghost use Rattle.voucher_json.specs.ReplyText.{IsPrinted, IsTold};
 
 use std::alloc::Global;
 use stock_model::faults::PostFault;
@@ -14,135 +14,121 @@ use stock_nums::numbers::{ItemNo, Qty, RecordNo, StoreNo};
 use stock_nums::place::{Place, Side};
 use voucher_json::replying::reply_text;
 
-// A reply that is printed, and its text.
-#[derive(Clone, Copy)]
-struct Case {
-    reply: Reply,
-    text: &'static str,
-    ghost printed: { IsPrinted reply },
+// Whether the reply has this text over these heads.
+fn is_told_over(alloc: Global, reply: &Reply, heads: &[Head], text: &str) -> bool
+    requires { IsPrinted reply.now }
+{
+    match reply_text(alloc, reply, heads) {
+        Ok(found) => found.as_slice() == text.as_bytes(),
+        Err(NoMemory) => false,
+    }
 }
 
-// Whether the reply has this text over these heads.
-fn is_printed_so(alloc: Global, case: &Case, heads: &[Head]) -> Result<bool, NoMemory> {
-    let text = reply_text(alloc, &case.reply, heads)?;
-    Ok(text.as_slice() == case.text.as_bytes())
+// The same of a reply that names no item and no warehouse.
+fn is_told(alloc: Global, reply: Reply, text: &str) -> bool
+    requires { IsPrinted reply }
+{
+    is_told_over(alloc, &reply, &[], text)
 }
 
 #[test]
 fn prints_outcomes(rt: HostRuntime) {
+    let alloc = rt.alloc();
     let (covered, wanted) = (RecordNo(4), RecordNo(5));
-    for case in [
-        Case {
-            reply: Reply::Accepted(RecordNo(7)),
-            text: r#"{"record":7,"status":"accepted"}"#,
-        },
-        Case {
-            reply: Reply::Worked(RecordNo(7)),
-            text: r#"{"covered":7,"status":"worked"}"#,
-        },
-        Case {
-            reply: Reply::Settled(RecordNo(7)),
-            text: r#"{"covered":7,"status":"settled"}"#,
-        },
-        Case {
-            reply: Reply::Pending { covered, wanted },
-            text: r#"{"covered":4,"need":5,"status":"pending"}"#,
-        },
-        Case {
-            reply: Reply::NoSuchRecord {
-                accepted: covered,
-                wanted,
-            },
-            text: r#"{"accepted":4,"need":5,"status":"no-such-record"}"#,
-        },
-    ] {
-        assert!(rt;
-            is_printed_so(rt.alloc(), &case, &[]) == Ok(true),
-            "{}",
-            case.text
-        );
-    }
+    let accepted = covered;
+    assert!(rt;
+        is_told(
+            alloc,
+            Reply::Accepted(RecordNo(7)),
+            r#"{"record":7,"status":"accepted"}"#
+        )
+    );
+    assert!(rt;
+        is_told(
+            alloc,
+            Reply::Worked(RecordNo(7)),
+            r#"{"covered":7,"status":"worked"}"#
+        )
+    );
+    assert!(rt;
+        is_told(
+            alloc,
+            Reply::Settled(RecordNo(7)),
+            r#"{"covered":7,"status":"settled"}"#
+        )
+    );
+    let pending = r#"{"covered":4,"need":5,"status":"pending"}"#;
+    assert!(rt; is_told(alloc, Reply::Pending { covered, wanted }, pending));
+    let missing = r#"{"accepted":4,"need":5,"status":"no-such-record"}"#;
+    assert!(rt; is_told(alloc, Reply::NoSuchRecord { accepted, wanted }, missing));
 }
 
 #[test]
 fn prints_faults(rt: HostRuntime) {
-    for case in [
-        Case {
-            reply: Reply::Long,
-            text: r#"{"fault":"long","status":"bad"}"#,
-        },
-        Case {
-            reply: Reply::StoreFailed,
-            text: r#"{"fault":"store","status":"failed"}"#,
-        },
-        Case {
-            reply: Reply::MemoryFailed,
-            text: r#"{"fault":"memory","status":"failed"}"#,
-        },
-        Case {
-            reply: Reply::Http,
-            text: r#"{"fault":"http","status":"bad"}"#,
-        },
-        Case {
-            reply: Reply::Bad(ReadFault::BadJson),
-            text: r#"{"fault":"bad-json","status":"bad"}"#,
-        },
-        Case {
-            reply: Reply::Bad(ReadFault::BadField {
-                name: FieldName::Qty,
-                line: 2,
-            }),
-            text: r#"{"fault":"bad-field","field":"qty","line":2,"status":"bad"}"#,
-        },
-        Case {
-            reply: Reply::Bad(ReadFault::Limit {
-                name: FieldName::Lines,
-                line: 0,
-            }),
-            text: r#"{"fault":"limit","field":"lines","line":0,"status":"bad"}"#,
-        },
-    ] {
-        assert!(rt;
-            is_printed_so(rt.alloc(), &case, &[]) == Ok(true),
-            "{}",
-            case.text
-        );
-    }
+    let alloc = rt.alloc();
+    assert!(rt; is_told(alloc, Reply::Long, r#"{"fault":"long","status":"bad"}"#));
+    assert!(rt;
+        is_told(
+            alloc,
+            Reply::StoreFailed,
+            r#"{"fault":"store","status":"failed"}"#
+        )
+    );
+    assert!(rt;
+        is_told(
+            alloc,
+            Reply::MemoryFailed,
+            r#"{"fault":"memory","status":"failed"}"#
+        )
+    );
+    assert!(rt; is_told(alloc, Reply::Http, r#"{"fault":"http","status":"bad"}"#));
+}
+
+#[test]
+fn prints_faults_of_reading(rt: HostRuntime) {
+    let alloc = rt.alloc();
+    let json = Reply::Bad(ReadFault::BadJson);
+    assert!(rt; is_told(alloc, json, r#"{"fault":"bad-json","status":"bad"}"#));
+    let field = Reply::Bad(ReadFault::BadField {
+        name: FieldName::Qty,
+        line: 2,
+    });
+    let text = r#"{"fault":"bad-field","field":"qty","line":2,"status":"bad"}"#;
+    assert!(rt; is_told(alloc, field, text));
+    let limit = Reply::Bad(ReadFault::Limit {
+        name: FieldName::Lines,
+        line: 0,
+    });
+    let text = r#"{"fault":"limit","field":"lines","line":0,"status":"bad"}"#;
+    assert!(rt; is_told(alloc, limit, text));
+}
+
+fn is_refused(alloc: Global, fault: PostFault, text: &str) -> bool
+    requires { IsTold fault }
+{
+    is_told(alloc, Reply::Refused(fault), text)
 }
 
 #[test]
 fn prints_refusals(rt: HostRuntime) {
-    for case in [
-        Case {
-            reply: Reply::Refused(PostFault::NoBasis),
-            text: r#"{"fault":"no-basis","status":"refused"}"#,
-        },
-        Case {
-            reply: Reply::Refused(PostFault::UnknownItem { line: 1 }),
-            text: r#"{"fault":"unknown-item","line":1,"status":"refused"}"#,
-        },
-        Case {
-            reply: Reply::Refused(PostFault::OverReturn {
-                line: 1,
-                asked: Qty(1),
-                left: Qty(0),
-            }),
-            text: r#"{"asked":1,"fault":"over-return","left":0,"line":1,"status":"refused"}"#,
-        },
-        Case {
-            reply: Reply::Refused(PostFault::Full {
-                records: 44,
-                entries: 200_000,
-            }),
-            text: r#"{"entries":200000,"fault":"full","records":44,"status":"refused"}"#,
-        },
-    ] {
-        assert!(rt;
-            is_printed_so(rt.alloc(), &case, &[]) == Ok(true),
-            "{}",
-            case.text
-        );
-    }
+    let alloc = rt.alloc();
+    let text = r#"{"fault":"no-basis","status":"refused"}"#;
+    assert!(rt; is_refused(alloc, PostFault::NoBasis, text));
+    let text = r#"{"fault":"unknown-item","line":1,"status":"refused"}"#;
+    assert!(rt; is_refused(alloc, PostFault::UnknownItem { line: 1 }, text));
+    let over = PostFault::OverReturn {
+        line: 1,
+        asked: Qty(1),
+        left: Qty(0),
+    };
+    let text = r#"{"asked":1,"fault":"over-return","left":0,"line":1,"status":"refused"}"#;
+    assert!(rt; is_refused(alloc, over, text));
+    let full = PostFault::Full {
+        records: 44,
+        entries: 200_000,
+    };
+    let text = r#"{"entries":200000,"fault":"full","records":44,"status":"refused"}"#;
+    assert!(rt; is_refused(alloc, full, text));
 }
 
 // The item B as record 2, the item A as record 3, and the warehouse W1 as record 5.
@@ -160,6 +146,9 @@ fn heads(alloc: Global) -> Result<Lines<Head>, NoMemory> {
 
 #[test]
 fn prints_a_shortage(rt: HostRuntime) {
+    let Ok(heads) = heads(rt.alloc()) else {
+        panic!(rt; "no memory")
+    };
     let place = Place {
         moment: Moment {
             date: 20_260_105,
@@ -169,17 +158,13 @@ fn prints_a_shortage(rt: HostRuntime) {
         line: 1,
         side: Side::Leaves,
     };
-    let short = Case {
-        reply: Reply::Refused(PostFault::Short {
-            place,
-            item: ItemNo(3),
-            store: StoreNo(5),
-            lacking: Qty(1),
-        }),
-        text: r#"{"at":"2026-01-05T09:00:00","fault":"short","item":"A","lacking":1,"line":1,"record":6,"status":"refused","store":"W1"}"#,
-    };
-    let Ok(heads) = heads(rt.alloc()) else {
-        panic!(rt; "no memory")
-    };
-    assert!(rt; is_printed_so(rt.alloc(), &short, heads.as_slice()) == Ok(true));
+    let short = Reply::Refused(PostFault::Short {
+        place,
+        item: ItemNo(3),
+        store: StoreNo(5),
+        lacking: Qty(1),
+    });
+    let text =
+        r#"{"at":"2026-01-05T09:00:00","fault":"short","item":"A","lacking":1,"line":1,"record":6,"status":"refused","store":"W1"}"#;
+    assert!(rt; is_told_over(rt.alloc(), &short, heads.as_slice(), text));
 }

@@ -1,15 +1,16 @@
 //! A keeper over SQLite loads what was written, and refuses what it cannot read, a disk that fails, and the databases of others.
-ghost use Rattle.std.specs.Prelude.{◌≡◌, false, IfSome};
+ghost use Rattle.std.specs.Prelude.{◌≡◌, false, IfSome, IsTrue};
 
-use crate::lists::lines_of;
 use keeper_sqlite::sqlite_keeper::SqliteKeeper;
 use sqlite::{Alter, Connection, Error, ErrorCode, Files, Options};
-use sqlite_disk::{Fuse, Memory};
+use sqlite_disk::{Disk, Fuse, Memory};
 use std::alloc::Global;
 use stock_keeper::changes::{Changes, SpotWorth};
 use stock_keeper::keeper::Keeper;
 use stock_keeper::tables::Tables;
 use stock_nums::entry::Worth;
+use stock_nums::lines::Lines;
+use stock_nums::memory::NoMemory;
 use stock_nums::numbers::{Minor, RecordNo};
 use stock_nums::place::{Side, Spot};
 
@@ -67,6 +68,10 @@ const LATER: SpotWorth = SpotWorth {
         share: Minor(-5),
     },
 };
+
+fn lines_of<T: Copy>(alloc: Global, items: &[T]) -> Result<Lines<T>, NoMemory> {
+    Ok(Lines::from_vec(items.to_vec(alloc)?))
+}
 
 fn adds<S: Alter>(keeper: &mut SqliteKeeper<S>, number: u32, body: &[u8]) -> bool {
     keeper.append(RecordNo(number), body).is_ok()
@@ -278,16 +283,24 @@ fn added_to<S: Alter + Drop>(alloc: Global, conn: Connection<S>) -> Option<(bool
     }
 }
 
-// The same over files in memory, of which the log fails after so many calls.
+// The same of the database in these files.
+fn added_to_files<D: Disk + Drop>(alloc: Global, files: Files<D>) -> Option<(bool, u64)>
+    requires log { IsTrue (D.Disk.is_usable files.log) }
+    requires db { IsTrue (D.Disk.is_usable files.db) }
+{
+    match Connection::open_files(alloc, files, Options::new(7)) {
+        Ok(conn) => added_to(alloc, conn),
+        Err(_) => None,
+    }
+}
+
+// The same of files in memory, of which the log fails after so many calls.
 fn added_over_fuses(alloc: Global, calls: u64) -> Option<(bool, u64)> {
     let files = Files {
         log: Fuse::new(Memory::new(alloc), calls),
         db: Fuse::new(Memory::new(alloc), 1000),
     };
-    match Connection::open_files(alloc, files, Options::new(7)) {
-        Ok(conn) => added_to(alloc, conn),
-        Err(_) => None,
-    }
+    added_to_files(alloc, files)
 }
 
 #[test]
