@@ -3,10 +3,11 @@
 use crate::records::{ITEM, RECEIPT, SALE, STORE, record};
 use generation_book::book::Book;
 use std::alloc::Global;
-use std::test::Fail;
 use stock_keeper::fault::KeepFault;
+use stock_keeper::keeper::Keeper;
 use stock_keeper::nowhere::Nowhere;
-use stock_model::queries::{Format, Need, Query, SelectFault, Selected, Sheet};
+use stock_model::queries::{Format, Need, Query, Selected, Sheet};
+use stock_model::read_faults::ReadFault;
 use stock_nums::code::Code;
 use stock_nums::entry::Row;
 use stock_nums::memory::NoMemory;
@@ -16,8 +17,12 @@ use stock_nums::numbers::RecordNo;
 const LATE: &str =
     r#"{"do":"receipt","at":"2026-01-01T00:00:00","lines":[{"item":"B","store":"W1","qty":5,"amount":500}]}"#;
 
-// The number that the line's record gets, or none.
-fn post(alloc: Global, book: &mut Book<Nowhere>, line: &str) -> Result<Option<u32>, Fail> {
+// The number that the line's record gets; none where it is refused.
+fn post<K: Keeper>(
+    alloc: Global,
+    book: &mut Book<K>,
+    line: &str,
+) -> Result<Option<u32>, ReadFault> {
     match book.post(alloc, record(alloc, line)?) {
         Ok(number) => Ok(Some(number.0)),
         Err(_) => Ok(None),
@@ -36,7 +41,7 @@ fn publish_all(alloc: Global, book: &mut Book<Nowhere>) -> Result<RecordNo, Keep
 }
 
 // How many movements the records after the first ones bring, and how many records there are with them.
-fn fetched(alloc: Global, book: &Book<Nowhere>, after: u32) -> Option<(usize, RecordNo)> {
+fn fetched<K: Keeper>(alloc: Global, book: &Book<K>, after: u32) -> Option<(usize, RecordNo)> {
     if after > book.accepted().0 {
         return None;
     }
@@ -56,12 +61,60 @@ fn balances(alloc: Global, need: u32) -> Result<Query, NoMemory> {
     })
 }
 
-fn need(alloc: Global, book: &Book<Nowhere>, wanted: u32) -> Result<Need, NoMemory> {
+fn need<K: Keeper>(alloc: Global, book: &Book<K>, wanted: u32) -> Result<Need, NoMemory> {
     Ok(book.test(&balances(alloc, wanted)?))
 }
 
-fn select(book: &Book<Nowhere>, query: &Query) -> Result<Selected, SelectFault> {
-    book.select(query)
+fn selected<K: Keeper>(alloc: Global, book: &Book<K>, wanted: u32) -> Option<Selected> {
+    let query = balances(alloc, wanted).ok()?;
+    book.select(&query).ok()
+}
+
+// Lines, and the numbers that their records get. The second item has the code of the first.
+const POSTED: &[(&str, Option<u32>)] = &[
+    (ITEM, Some(1)),
+    (ITEM, None),
+    (STORE, Some(2)),
+    (RECEIPT, Some(3)),
+    (SALE, Some(4)),
+];
+
+// Whether the records of the lines get these numbers.
+fn are_posted<K: Keeper>(alloc: Global, book: &mut Book<K>) -> bool {
+    for (line, number) in POSTED {
+        if post(alloc, book, line) != Ok(*number) {
+            return false;
+        }
+    }
+    true
+}
+
+// Whether a book has then published the four records, and has a fifth, which is the receipt of the day before.
+fn has_late(alloc: Global, book: &mut Book<Nowhere>) -> bool {
+    are_posted(alloc, book)
+        && publish_all(alloc, book) == Ok(RecordNo(4))
+        && post(alloc, book, LATE) == Ok(Some(5))
+}
+
+// Whether a report that needs so many records is told so.
+fn is_needed<K: Keeper>(alloc: Global, book: &Book<K>, wanted: u32, told: Need) -> bool {
+    need(alloc, book, wanted) == Ok(told)
+}
+
+// Whether the fifth record waits, and is fetched.
+fn waits<K: Keeper>(alloc: Global, book: &Book<K>) -> bool {
+    let pending = Need::Pending {
+        covered: RecordNo(4),
+        wanted: RecordNo(5),
+    };
+    let none = Need::NoSuchRecord {
+        accepted: RecordNo(5),
+        wanted: RecordNo(6),
+    };
+    is_needed(alloc, book, 4, Need::Ready)
+        && is_needed(alloc, book, 5, pending)
+        && is_needed(alloc, book, 6, none)
+        && fetched(alloc, book, 4) == Some((1, RecordNo(5)))
 }
 
 // How many records a report covers, and of how many movements, items and warehouses it is made.
@@ -79,57 +132,62 @@ fn told(rows: &[Row]) -> Option<[(u32, i64); 3]> {
     }
 }
 
-#[derive(Clone, Copy)]
-struct Reports {
-    before: Sizes,
-    after: Sizes,
-    told: Option<[(u32, i64); 3]>,
+// What a report is made from once all is published.
+fn published_and_selected(alloc: Global, book: &mut Book<Nowhere>) -> Option<Selected> {
+    publish_all(alloc, book).ok()?;
+    selected(alloc, book, 5)
 }
 
 // What reports are made from before all is published and after it, where the first is held meanwhile.
-fn report_twice(alloc: Global, book: &mut Book<Nowhere>) -> Result<Reports, Fail> {
-    let before = select(book, &balances(alloc, 4)?)?;
-    publish_all(alloc, book)?;
-    let after = select(book, &balances(alloc, 5)?)?;
-    Ok(Reports {
-        before: sizes(&before),
-        after: sizes(&after),
-        told: told(after.rows.as_slice()),
-    })
+fn report_twice(
+    alloc: Global,
+    book: &mut Book<Nowhere>,
+) -> Option<(Sizes, Sizes, Option<[(u32, i64); 3]>)> {
+    let before = selected(alloc, book, 4)?;
+    let after = published_and_selected(alloc, book)?;
+    Some((sizes(&before), sizes(&after), told(after.rows.as_slice())))
+}
+
+// Whether the receipt of the day before is in the next report.
+fn is_in_next_report(alloc: Global, book: &mut Book<Nowhere>) -> bool {
+    let reports = (
+        (RecordNo(4), 2, 2),
+        (RecordNo(5), 3, 2),
+        Some([(5, 500), (3, 1000), (4, 100)]),
+    );
+    report_twice(alloc, book) == Some(reports)
+}
+
+// What is seen of a new book.
+#[derive(Clone, Copy)]
+enum Scene {
+    HasLate,
+    Waits,
+    Reports,
+}
+
+// Whether it is so. Here alone a book is owned: a function that drops one takes long to prove.
+fn is_seen(alloc: Global, scene: Scene) -> bool {
+    let mut book = Book::start(alloc);
+    let has_late = has_late(alloc, &mut book);
+    match scene {
+        Scene::HasLate => has_late,
+        Scene::Waits => has_late && waits(alloc, &book),
+        Scene::Reports => has_late && is_in_next_report(alloc, &mut book),
+    }
 }
 
 #[test]
-fn a_receipt_of_the_day_before(rt: HostRuntime) -> Result<(), Fail> {
-    let alloc = rt.alloc();
-    let mut book = Book::start(alloc);
-    // the second item has the code of the first
-    for (line, number) in [
-        (ITEM, Some(1)),
-        (ITEM, None),
-        (STORE, Some(2)),
-        (RECEIPT, Some(3)),
-        (SALE, Some(4)),
-    ] {
-        assert_eq!(rt; post(alloc, &mut book, line)?, number, "{line}");
-    }
-    assert_eq!(rt; publish_all(alloc, &mut book)?, RecordNo(4));
-    assert_eq!(rt; post(alloc, &mut book, LATE)?, Some(5));
-    let (covered, accepted, none) = (RecordNo(4), RecordNo(5), RecordNo(6));
-    let pending = Need::Pending {
-        covered,
-        wanted: accepted,
-    };
-    let missing = Need::NoSuchRecord {
-        accepted,
-        wanted: none,
-    };
-    for (wanted, told) in [(4, Need::Ready), (5, pending), (6, missing)] {
-        assert_eq!(rt; need(alloc, &book, wanted)?, told);
-    }
-    assert_eq!(rt; fetched(alloc, &book, 4), Some((1, accepted)));
-    let reports = report_twice(alloc, &mut book)?;
-    assert_eq!(rt; reports.before, (covered, 2, 2));
-    assert_eq!(rt; reports.after, (accepted, 3, 2));
-    assert_eq!(rt; reports.told, Some([(5, 500), (3, 1000), (4, 100)]));
-    Ok(())
+fn records_are_posted_and_published(rt: HostRuntime) {
+    assert!(rt; is_seen(rt.alloc(), Scene::HasLate));
+}
+
+#[test]
+fn a_late_receipt_waits(rt: HostRuntime) {
+    assert!(rt; is_seen(rt.alloc(), Scene::Waits));
+}
+
+#[test]
+fn a_receipt_of_the_day_before_is_in_the_next_report(rt: HostRuntime) {
+    assert!(rt; is_seen(rt.alloc(), Scene::Reports));
 }

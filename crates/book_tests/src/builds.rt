@@ -5,10 +5,8 @@ use crate::records::record;
 use generation_book::book::Book;
 use repost_worker::revalued_book::RevaluedBook;
 use std::alloc::Global;
-use std::test::Fail;
-use stock_keeper::nowhere::Nowhere;
-use stock_nums::entry::Row;
-use stock_nums::lines::Lines;
+use stock_keeper::keeper::Keeper;
+use stock_model::faults::PostFault;
 use stock_nums::numbers::RecordNo;
 
 /// What each journal begins with: an item of each method, three warehouses, and in records 6 to 9 what later lines name.
@@ -94,90 +92,140 @@ const NOTHING: Counts = Counts {
     wrong: 0,
 };
 
-/// A book that is revalued turn by turn, and one that is replayed.
-#[derive(Drop)]
-struct Books {
-    revalued: RevaluedBook<Nowhere>,
-    plain: Book<Nowhere>,
-    counts: Counts,
-}
+/// What a book says to a record.
+type Answer = Result<RecordNo, PostFault>;
 
 /// One number more where this is so.
 fn counted(number: u64, so: bool) -> u64 {
     if so { number.saturating_add(1) } else { number }
 }
 
-/// Whether both books answer the line alike.
-fn are_alike(alloc: Global, books: &mut Books, line: &str) -> Result<bool, Fail> {
-    let answer = books.revalued.post(alloc, record(alloc, line)?);
-    Ok(answer == books.plain.post(alloc, record(alloc, line)?))
+/// The answer of a book to the line.
+fn answer<K: Keeper>(alloc: Global, book: &mut Book<K>, line: &str) -> Option<Answer> {
+    let record = record(alloc, line).ok()?;
+    Some(book.post(alloc, record))
 }
 
-fn post(alloc: Global, books: &mut Books, line: &str) -> Result<(), Fail> {
-    let alike = are_alike(alloc, books, line)?;
-    books.counts.wrong = counted(books.counts.wrong, !alike);
-    books.counts.last = 0;
-    Ok(())
+/// The same of a book that is revalued.
+fn answer_of_revalued<K: Keeper>(
+    alloc: Global,
+    book: &mut RevaluedBook<K>,
+    line: &str,
+) -> Option<Answer> {
+    let record = record(alloc, line).ok()?;
+    Some(book.post(alloc, record))
 }
 
-/// The plain replay of the first records.
-fn replayed(alloc: Global, book: &Book<Nowhere>, count: RecordNo) -> Result<Lines<Row>, Fail> {
-    let mut plain = Book::start(alloc);
-    for index in 0..count.0 {
-        if let Some(record) = book.at(RecordNo(index + 1)) {
-            plain.post(alloc, record.copy(alloc)?)?;
+/// Posts the line to both books, and compares their answers.
+fn post<K: Keeper, P: Keeper>(
+    alloc: Global,
+    revalued: &mut RevaluedBook<K>,
+    plain: &mut Book<P>,
+    counts: &mut Counts,
+    line: &str,
+) {
+    let one = answer_of_revalued(alloc, revalued, line);
+    let other = answer(alloc, plain, line);
+    let are_alike = one.is_some() && one == other;
+    counts.wrong = counted(counts.wrong, !are_alike);
+    counts.last = 0;
+}
+
+/// Posts a copy of the record with this number, where there is one. Says whether it is accepted.
+fn is_posted<K: Keeper, P: Keeper>(
+    alloc: Global,
+    plain: &mut Book<P>,
+    book: &Book<K>,
+    number: RecordNo,
+) -> bool {
+    let Some(record) = book.at(number) else {
+        return false;
+    };
+    match record.copy(alloc) {
+        Ok(copy) => plain.post(alloc, copy).is_ok(),
+        Err(_) => false,
+    }
+}
+
+/// Posts copies of the covered records of one book to another. Says whether all are accepted.
+fn are_posted<K: Keeper, P: Keeper>(alloc: Global, plain: &mut Book<P>, book: &Book<K>) -> bool {
+    for index in 0..book.covered().0 {
+        if !is_posted(alloc, plain, book, RecordNo(index + 1)) {
+            return false;
         }
     }
-    Ok(plain.replayed(alloc)?)
+    true
 }
 
 /// Whether the generation is the plain replay of the records that it covers.
-fn is_replay(alloc: Global, book: &Book<Nowhere>) -> Result<bool, Fail> {
-    let replay = replayed(alloc, book, book.covered())?;
-    Ok(book.rows() == replay.as_slice())
+fn is_replay<K: Keeper>(alloc: Global, book: &Book<K>) -> bool {
+    let mut plain = Book::start(alloc);
+    are_posted(alloc, &mut plain, book) && are_rows_of(alloc, book, &plain)
+}
+
+/// Whether the generation of the one book is the plain replay of the other one.
+fn are_rows_of<K: Keeper, P: Keeper>(alloc: Global, book: &Book<K>, plain: &Book<P>) -> bool {
+    match plain.replayed(alloc) {
+        Ok(replay) => book.rows() == replay.as_slice(),
+        Err(_) => false,
+    }
+}
+
+/// How many movements the book has; 0 where memory is wanting.
+fn movements<K: Keeper>(alloc: Global, book: &Book<K>) -> u64 {
+    match book.replayed(alloc) {
+        Ok(replay) => replay.len() as u64,
+        Err(_) => 0,
+    }
+}
+
+/// Makes a turn, and says whether it published.
+fn publishes<K: Keeper>(alloc: Global, book: &mut RevaluedBook<K>) -> bool {
+    let before = book.book().covered();
+    book.work(alloc, Some(1)).covered != before
 }
 
 /// Makes a turn, and compares what it publishes.
-fn turn(alloc: Global, books: &mut Books) -> Result<(), Fail> {
-    let before = books.revalued.book().covered();
-    let after = books.revalued.work(alloc, Some(1)).covered;
-    books.counts.turns = counted(books.counts.turns, true);
-    books.counts.last = counted(books.counts.last, true);
-    if before != after {
-        let replay = is_replay(alloc, books.revalued.book())?;
-        books.counts.wrong = counted(books.counts.wrong, !replay);
-        books.counts.published = counted(books.counts.published, true);
+fn turn<K: Keeper>(alloc: Global, revalued: &mut RevaluedBook<K>, counts: &mut Counts) {
+    counts.turns = counted(counts.turns, true);
+    counts.last = counted(counts.last, true);
+    if publishes(alloc, revalued) {
+        let is_replay = is_replay(alloc, revalued.book());
+        counts.wrong = counted(counts.wrong, !is_replay);
+        counts.published = counted(counts.published, true);
     }
-    Ok(())
 }
 
-fn is_behind(book: &Book<Nowhere>) -> bool {
+fn is_behind<K: Keeper>(book: &Book<K>) -> bool {
     book.covered() < book.accepted()
 }
 
 /// At most so many turns, until all is covered.
-fn turns(alloc: Global, books: &mut Books, most: u64) -> Result<(), Fail> {
+fn turns<K: Keeper>(alloc: Global, revalued: &mut RevaluedBook<K>, counts: &mut Counts, most: u64) {
     for _ in 0..most {
-        if is_behind(books.revalued.book()) {
-            turn(alloc, books)?;
+        if is_behind(revalued.book()) {
+            turn(alloc, revalued, counts);
         }
     }
-    Ok(())
 }
 
 /// Makes the turns that are left, as many as are enough, and compares with the plain book.
-fn finish(alloc: Global, books: &mut Books) -> Result<(), Fail> {
-    let accepted = u64::from(books.plain.accepted().0);
-    let replay = books.plain.replayed(alloc)?;
-    let movements = replay.len() as u64;
-    books.counts.accepted = books.counts.accepted.saturating_add(accepted);
-    books.counts.movements = books.counts.movements.saturating_add(movements);
-    books.counts.bound = movements.saturating_mul(2).saturating_add(4);
-    turns(alloc, books, books.counts.bound)?;
-    let same = books.revalued.book().rows() == replay.as_slice();
-    let wrong = !same || is_behind(books.revalued.book());
-    books.counts.wrong = counted(books.counts.wrong, wrong);
-    Ok(())
+fn finish<K: Keeper, P: Keeper>(
+    alloc: Global,
+    revalued: &mut RevaluedBook<K>,
+    plain: &Book<P>,
+    counts: &mut Counts,
+) {
+    let movements = movements(alloc, plain);
+    counts.accepted = counts
+        .accepted
+        .saturating_add(u64::from(plain.accepted().0));
+    counts.movements = counts.movements.saturating_add(movements);
+    counts.bound = movements.saturating_mul(2).saturating_add(4);
+    turns(alloc, revalued, counts, counts.bound);
+    let book = revalued.book();
+    let is_done = are_rows_of(alloc, book, plain) && !is_behind(book);
+    counts.wrong = counted(counts.wrong, !is_done);
 }
 
 /// The next of numbers in no order.
@@ -185,38 +233,54 @@ fn next(number: u32) -> u32 {
     number.wrapping_mul(1_664_525).wrapping_add(1_013_904_223)
 }
 
-/// Posts what every journal begins with, and then random lines with turns between them. Counts on.
-fn run(alloc: Global, seed: u32, counts: Counts) -> Result<Counts, Fail> {
-    let mut books = Books {
-        revalued: RevaluedBook::start(alloc),
-        plain: Book::start(alloc),
-        counts,
-    };
+/// Posts what every journal begins with.
+fn begin<K: Keeper, P: Keeper>(
+    alloc: Global,
+    revalued: &mut RevaluedBook<K>,
+    plain: &mut Book<P>,
+    counts: &mut Counts,
+) {
     for line in FIRST {
-        post(alloc, &mut books, line)?;
+        post(alloc, revalued, plain, counts, line);
     }
+}
+
+/// Posts 25 random lines, with turns between them.
+fn go_on<K: Keeper, P: Keeper>(
+    alloc: Global,
+    revalued: &mut RevaluedBook<K>,
+    plain: &mut Book<P>,
+    counts: &mut Counts,
+    seed: u32,
+) {
     let mut number = seed;
     for _ in 0..25 {
         number = next(number);
-        post(alloc, &mut books, LINES[(number >> 16) as usize % 42])?;
+        let line = LINES[(number >> 16) as usize % 42];
+        post(alloc, revalued, plain, counts, line);
         number = next(number);
-        turns(alloc, &mut books, u64::from(number >> 16) % 6)?;
+        turns(alloc, revalued, counts, u64::from(number >> 16) % 6);
     }
-    finish(alloc, &mut books)?;
-    Ok(books.counts)
+}
+
+/// Posts to two new books, and counts on.
+fn run(alloc: Global, seed: u32, counts: &mut Counts) {
+    let mut revalued = RevaluedBook::start(alloc);
+    let mut plain = Book::start(alloc);
+    begin(alloc, &mut revalued, &mut plain, counts);
+    go_on(alloc, &mut revalued, &mut plain, counts, seed);
+    finish(alloc, &mut revalued, &plain, counts);
 }
 
 #[test]
-fn builds_publish_the_plain_replay(rt: HostRuntime) -> Result<(), Fail> {
+fn builds_publish_the_plain_replay(rt: HostRuntime) {
     let mut counts = NOTHING;
     for seed in 0..200 {
-        counts = run(rt.alloc(), seed, counts)?;
-        assert_eq!(rt; counts.wrong, 0, "at seed {seed}");
+        run(rt.alloc(), seed, &mut counts);
+        assert!(rt; counts.wrong == 0, "at seed {seed}");
         assert!(rt; counts.last <= counts.bound, "at seed {seed}");
     }
-    assert_eq!(rt; counts.accepted, 5_396);
-    assert!(rt; counts.movements > 1_400);
-    assert!(rt; counts.turns > counts.movements);
+    assert!(rt; counts.accepted == 5_396);
+    assert!(rt; counts.movements > 1_400 && counts.turns > counts.movements);
     assert!(rt; counts.published >= 200);
-    Ok(())
 }

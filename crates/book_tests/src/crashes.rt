@@ -4,9 +4,6 @@ use crate::records::{ITEM, RECEIPT, SALE, STORE, record};
 use repost_worker::opening::NotOpened;
 use repost_worker::revalued_book::RevaluedBook;
 use std::alloc::Global;
-use std::process::Abort;
-use std::test::Fail;
-use stock_keeper::fault::KeepFault;
 use stock_keeper::keeper::Keeper;
 use stock_keeper::memory_keeper::MemKeeper;
 use stock_keeper::memory_shelf::MemShelf;
@@ -43,18 +40,26 @@ fn work<K: Keeper>(alloc: Global, book: &mut RevaluedBook<K>) {
     let _ = book.work(alloc, None);
 }
 
-fn take_steps<K: Keeper>(
-    alloc: Global,
-    book: &mut RevaluedBook<K>,
-    steps: usize,
-) -> Result<(), Fail> {
-    for step in STEPS.iter().take(steps) {
-        match step {
-            Some(line) => post(alloc, book, record(alloc, line)?),
+// Takes a step, and says whether it could be read.
+fn step<K: Keeper>(alloc: Global, book: &mut RevaluedBook<K>, line: &str) -> bool {
+    match record(alloc, line) {
+        Ok(record) => {
+            post(alloc, book, record);
+            true
+        }
+        Err(_) => false,
+    }
+}
+
+fn take_steps<K: Keeper>(alloc: Global, book: &mut RevaluedBook<K>, steps: usize) -> bool {
+    let mut are_read = true;
+    for taken in STEPS.iter().take(steps) {
+        match taken {
+            Some(line) => are_read = step(alloc, book, line) && are_read,
             None => work(alloc, book),
         }
     }
-    Ok(())
+    are_read
 }
 
 fn shape<K: Keeper>(book: &RevaluedBook<K>) -> Shape {
@@ -68,19 +73,18 @@ fn into_keeper<K: Keeper>(book: RevaluedBook<K>) -> K {
 
 // Opens the ledger of the shelf, takes the first steps over it, and puts its keeper back. Answers what it has then, or none where
 // it was not opened.
-fn run<H: Shelf>(alloc: Global, shelf: &mut H, steps: usize) -> Result<Option<Shape>, Fail> {
-    let keeper = shelf.open_keeper("ledger")?;
+fn run<H: Shelf>(alloc: Global, shelf: &mut H, steps: usize) -> Option<Shape> {
+    let keeper = shelf.open_keeper("ledger").ok()?;
     match RevaluedBook::begin(alloc, keeper) {
         Ok(mut book) => {
-            let taken = take_steps(alloc, &mut book, steps);
+            let are_read = take_steps(alloc, &mut book, steps);
             let shape = shape(&book);
             shelf.put_back(into_keeper(book));
-            taken?;
-            Ok(Some(shape))
+            if are_read { Some(shape) } else { None }
         }
         Err(NotOpened { fault: _, keeper }) => {
             shelf.put_back(keeper);
-            Ok(None)
+            None
         }
     }
 }
@@ -98,66 +102,71 @@ fn new_keeper(alloc: Global, failing: &[u64]) -> Result<MemKeeper, NoMemory> {
 }
 
 // The keeper of a new ledger after so many steps, of whose calls these fail.
-fn kept_after(alloc: Global, failing: &[u64], steps: usize) -> Result<Option<MemKeeper>, Fail> {
-    let mut shelf = MemShelf::new(new_keeper(alloc, failing)?, Lines::new(alloc));
-    run(alloc, &mut shelf, steps)?;
-    Ok(shelf.into_kept())
+fn kept_after(alloc: Global, failing: &[u64], steps: usize) -> Option<MemKeeper> {
+    let keeper = new_keeper(alloc, failing).ok()?;
+    let mut shelf = MemShelf::new(keeper, Lines::new(alloc));
+    let _ = run(alloc, &mut shelf, steps);
+    shelf.into_kept()
 }
 
 // What a ledger has that is opened from the tables which a crash leaves.
-fn opened_after_crash(
-    alloc: Global,
-    keeper: MemKeeper,
-    pick: usize,
-) -> Result<Option<Shape>, Fail> {
-    let mut shelf = MemShelf::new(keeper.crash(pick)?, Lines::new(alloc));
+fn opened_after_crash(alloc: Global, keeper: MemKeeper, pick: usize) -> Option<Shape> {
+    let left = keeper.crash(pick).ok()?;
+    let mut shelf = MemShelf::new(left, Lines::new(alloc));
     run(alloc, &mut shelf, 0)
 }
 
-// Opens a ledger from each of the tables that a crash may leave after so many steps, of whose calls these fail: from those which the
-// refused calls would have made, in order, and from those which are kept.
-fn check(
-    rt: &impl Abort,
-    alloc: Global,
-    failing: &[u64],
-    steps: usize,
-    tried: &[Shape],
-    kept: Shape,
-) -> Result<(), Fail> {
-    for pick in 0..=tried.len() {
-        let Some(keeper) = kept_after(alloc, failing, steps)? else {
-            panic!(rt; "the keeper is out")
-        };
-        assert_eq!(rt; keeper.faults(), failing.len() as u64);
-        assert_eq!(rt; keeper.images(), tried.len());
-        let wanted = tried.get(pick).copied().unwrap_or(kept);
-        assert_eq!(rt; opened_after_crash(alloc, keeper, pick)?, Some(wanted));
-    }
-    Ok(())
+// Which calls of a new ledger's keeper fail, and how many steps are taken; what the ledgers have that the refused calls would have
+// made, in order, and what the one has that is kept.
+type Crash = (&'static [u64], usize, &'static [Shape], Shape);
+
+// Whether a ledger opens from the tables with this index that the crash may leave.
+fn opens_from(alloc: Global, crash: Crash, pick: usize) -> bool {
+    let (failing, steps, tried, kept) = crash;
+    let Some(keeper) = kept_after(alloc, failing, steps) else {
+        return false;
+    };
+    let is_as_planned = keeper.faults() == failing.len() as u64 && keeper.images() == tried.len();
+    let wanted = tried.get(pick).copied().unwrap_or(kept);
+    is_as_planned && opened_after_crash(alloc, keeper, pick) == Some(wanted)
 }
 
-#[test]
-fn a_ledger_opens_from_all_that_a_crash_leaves(rt: HostRuntime) -> Result<(), Fail> {
-    let cases: [(&[u64], usize, &[Shape], Shape); 13] = [
-        (&[], 7, &[], (5, 5)),
-        // the load, each post and each publication
-        (&[1], 0, &[], (0, 0)),
-        (&[2], 1, &[(1, 0)], (0, 0)),
-        (&[3], 2, &[(2, 0)], (1, 0)),
-        (&[4], 3, &[(3, 0)], (2, 0)),
-        (&[5], 4, &[(4, 0)], (3, 0)),
-        (&[6], 5, &[(4, 4)], (4, 0)),
-        (&[7], 6, &[(5, 4)], (4, 4)),
-        (&[8], 7, &[(5, 5)], (5, 4)),
-        // a publication and the post after it, and then a publication that is done
-        (&[6, 7], 6, &[(4, 4), (5, 0)], (4, 0)),
-        (&[6, 7], 7, &[], (4, 4)),
-        // a post, and then a publication that is done, or nothing to publish
-        (&[5], 5, &[], (3, 3)),
-        (&[7], 7, &[(5, 4)], (4, 4)),
-    ];
-    for (failing, steps, tried, kept) in cases {
-        check(&rt, rt.alloc(), failing, steps, tried, kept)?;
+// Whether a ledger opens from each of the tables that it may leave.
+fn opens_from_all(alloc: Global, crash: Crash) -> bool {
+    for pick in 0..=crash.2.len() {
+        if !opens_from(alloc, crash, pick) {
+            return false;
+        }
     }
-    Ok(())
+    true
+}
+
+const CRASHES: &[Crash] = &[
+    (&[], 7, &[], (5, 5)),
+    // the load, each post and each publication
+    (&[1], 0, &[], (0, 0)),
+    (&[2], 1, &[(1, 0)], (0, 0)),
+    (&[3], 2, &[(2, 0)], (1, 0)),
+    (&[4], 3, &[(3, 0)], (2, 0)),
+    (&[5], 4, &[(4, 0)], (3, 0)),
+    (&[6], 5, &[(4, 4)], (4, 0)),
+    (&[7], 6, &[(5, 4)], (4, 4)),
+    (&[8], 7, &[(5, 5)], (5, 4)),
+    // a publication and the post after it, and then a publication that is done
+    (&[6, 7], 6, &[(4, 4), (5, 0)], (4, 0)),
+    (&[6, 7], 7, &[], (4, 4)),
+    // a post, and then a publication that is done, or nothing to publish
+    (&[5], 5, &[], (3, 3)),
+    (&[7], 7, &[(5, 4)], (4, 4)),
+];
+
+#[test]
+fn a_ledger_opens_from_all_that_a_crash_leaves(rt: HostRuntime) {
+    for crash in CRASHES {
+        assert!(rt;
+            opens_from_all(rt.alloc(), *crash),
+            "after {} steps",
+            crash.1
+        );
+    }
 }

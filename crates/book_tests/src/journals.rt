@@ -2,12 +2,13 @@
 
 use crate::records::{ITEM, STORE, record};
 use std::alloc::Global;
-use std::test::Fail;
 use stock_model::faults::PostFault;
+use stock_model::read_faults::ReadFault;
 use stock_model::records::Record;
 use stock_nums::cause::{Cause, Method};
 use stock_nums::entry::Entry;
 use stock_nums::limits::MAX_RECORDS;
+use stock_nums::lines::Lines;
 use stock_nums::moment::Moment;
 use stock_nums::numbers::{ItemNo, Minor, Qty, RecordNo, StoreNo};
 use stock_nums::place::{Place, Side};
@@ -44,25 +45,31 @@ fn accept(alloc: Global, journal: &mut Journal, record: Record) -> Result<Record
     journal.push(record).map_err(|_| PostFault::NoMemory)
 }
 
-// Keeps the records of these lines, and says whether they have the numbers from 1 on.
-fn keeps(alloc: Global, journal: &mut Journal, lines: &[&str]) -> Result<bool, Fail> {
+fn kept(alloc: Global, journal: &mut Journal, line: &str) -> Option<RecordNo> {
+    let record = record(alloc, line).ok()?;
+    accept(alloc, journal, record).ok()
+}
+
+// Whether the records of these lines are kept, with the numbers from 1 on.
+fn keeps(alloc: Global, journal: &mut Journal, lines: &[&str]) -> bool {
     let mut number = 0u32;
     for line in lines {
         number = number.saturating_add(1);
-        if accept(alloc, journal, record(alloc, line)?)? != RecordNo(number) {
-            return Ok(false);
+        if kept(alloc, journal, line) != Some(RecordNo(number)) {
+            return false;
         }
     }
-    Ok(true)
+    true
 }
 
 // What `check` says of a line's record as the next one.
-fn checked(alloc: Global, journal: &Journal, line: &str) -> Result<Option<PostFault>, Fail> {
-    Ok(journal.check(alloc, &record(alloc, line)?).err())
+fn checked(alloc: Global, journal: &Journal, line: &str) -> Result<Option<PostFault>, ReadFault> {
+    let record = record(alloc, line)?;
+    Ok(journal.check(alloc, &record).err())
 }
 
 // What `fault` says of it.
-fn fault(alloc: Global, journal: &Journal, line: &str) -> Result<Option<PostFault>, Fail> {
+fn fault(alloc: Global, journal: &Journal, line: &str) -> Result<Option<PostFault>, ReadFault> {
     Ok(journal.fault(&record(alloc, line)?))
 }
 
@@ -110,33 +117,72 @@ fn ten_entered(line: u32) -> Entry {
 }
 
 #[test]
-fn keeps_records_without_a_fault(rt: HostRuntime) -> Result<(), Fail> {
-    let alloc = rt.alloc();
-    let mut journal = Journal::new(alloc);
-    assert!(rt; keeps(alloc, &mut journal, &FOUR[..3])?);
-    for (line, told) in [
-        (ITEM, PostFault::CodeTaken),
-        (UNKNOWN_ITEM, PostFault::UnknownItem { line: 1 }),
-        (UNKNOWN_STORE, PostFault::UnknownStore { line: 2 }),
-    ] {
-        assert_eq!(rt; checked(alloc, &journal, line)?, Some(told), "{line}");
-    }
-    assert_eq!(rt; held(&journal), [false, true, true, true, false]);
-    assert_eq!(rt; counts(&journal), (3, 3));
-    let entered = [ten_entered(1), ten_entered(2)];
-    assert_eq!(rt; entries_of_third(alloc, &journal), Some(entered));
-    Ok(())
+fn keeps_records_without_a_fault(rt: HostRuntime) {
+    let mut journal = Journal::new(rt.alloc());
+    assert!(rt; keeps(rt.alloc(), &mut journal, &[ITEM, STORE, RECEIPT]));
+    let taken = Ok(Some(PostFault::CodeTaken));
+    assert!(rt; checked(rt.alloc(), &journal, ITEM) == taken);
+    let no_item = Ok(Some(PostFault::UnknownItem { line: 1 }));
+    assert!(rt; checked(rt.alloc(), &journal, UNKNOWN_ITEM) == no_item);
+    let no_store = Ok(Some(PostFault::UnknownStore { line: 2 }));
+    assert!(rt; checked(rt.alloc(), &journal, UNKNOWN_STORE) == no_store);
 }
 
-// What is said of each of the four as the next record.
-fn faults(alloc: Global, journal: &Journal) -> Result<[Option<PostFault>; 4], Fail> {
-    let [item, store, receipt, sent_back] = FOUR;
-    Ok([
-        fault(alloc, journal, item)?,
-        fault(alloc, journal, store)?,
-        fault(alloc, journal, receipt)?,
-        fault(alloc, journal, sent_back)?,
-    ])
+#[test]
+fn tells_the_records_that_it_keeps(rt: HostRuntime) {
+    let mut journal = Journal::new(rt.alloc());
+    assert!(rt; keeps(rt.alloc(), &mut journal, &[ITEM, STORE, RECEIPT]));
+    assert!(rt; held(&journal) == [false, true, true, true, false]);
+    assert!(rt; counts(&journal) == (3, 3));
+    let entered = [ten_entered(1), ten_entered(2)];
+    assert!(rt; entries_of_third(rt.alloc(), &journal) == Some(entered));
+}
+
+// What is said of a record as the next one.
+#[derive(Clone, Copy)]
+enum Said {
+    Nothing,
+    CodeTaken,
+    NothingLeft,
+    NoTarget,
+    NoStore,
+    NoItem,
+}
+
+fn is_said(fault: Option<PostFault>, said: Said) -> bool {
+    match said {
+        Said::Nothing => fault == None,
+        Said::CodeTaken => fault == Some(PostFault::CodeTaken),
+        Said::NothingLeft => {
+            fault
+                == Some(PostFault::OverReturn {
+                    line: 1,
+                    asked: Qty(10),
+                    left: Qty(0),
+                })
+        }
+        Said::NoTarget => fault == Some(PostFault::UnknownTarget { line: 1 }),
+        Said::NoStore => fault == Some(PostFault::UnknownStore { line: 1 }),
+        Said::NoItem => fault == Some(PostFault::UnknownItem { line: 1 }),
+    }
+}
+
+// Whether this is said of the line's record as the next one.
+fn says(alloc: Global, journal: &Journal, line: &str, said: Said) -> bool {
+    match fault(alloc, journal, line) {
+        Ok(fault) => is_said(fault, said),
+        Err(_) => false,
+    }
+}
+
+// Whether this is said of each of the four.
+fn says_of_each(alloc: Global, journal: &Journal, said: &[Said; 4]) -> bool {
+    for index in 0..4 {
+        if !says(alloc, journal, FOUR[index], said[index]) {
+            return false;
+        }
+    }
+    true
 }
 
 fn pop(journal: &mut Journal) {
@@ -145,52 +191,64 @@ fn pop(journal: &mut Journal) {
     }
 }
 
-const TAKEN: Option<PostFault> = Some(PostFault::CodeTaken);
-
-const NOTHING_LEFT: Option<PostFault> = Some(PostFault::OverReturn {
-    line: 1,
-    asked: Qty(10),
-    left: Qty(0),
-});
-
-const NO_TARGET: Option<PostFault> = Some(PostFault::UnknownTarget { line: 1 });
-
-const NO_STORE: Option<PostFault> = Some(PostFault::UnknownStore { line: 1 });
-
-const NO_ITEM: Option<PostFault> = Some(PostFault::UnknownItem { line: 1 });
-
-// What is said with four records, and with each of them taken away from the last on.
-const ON_THE_WAY_BACK: [[Option<PostFault>; 4]; 5] = [
-    [TAKEN, TAKEN, None, NOTHING_LEFT],
-    [TAKEN, TAKEN, None, None],
-    [TAKEN, TAKEN, None, NO_TARGET],
-    [TAKEN, None, NO_STORE, NO_STORE],
-    [None, None, NO_ITEM, NO_STORE],
+// What is said of the four with four records, and with each of them taken away from the last on.
+const ON_THE_WAY_BACK: &[[Said; 4]] = &[
+    [
+        Said::CodeTaken,
+        Said::CodeTaken,
+        Said::Nothing,
+        Said::NothingLeft,
+    ],
+    [
+        Said::CodeTaken,
+        Said::CodeTaken,
+        Said::Nothing,
+        Said::Nothing,
+    ],
+    [
+        Said::CodeTaken,
+        Said::CodeTaken,
+        Said::Nothing,
+        Said::NoTarget,
+    ],
+    [Said::CodeTaken, Said::Nothing, Said::NoStore, Said::NoStore],
+    [Said::Nothing, Said::Nothing, Said::NoItem, Said::NoStore],
 ];
 
 #[test]
-fn takes_records_away_again(rt: HostRuntime) -> Result<(), Fail> {
-    let alloc = rt.alloc();
-    let mut journal = Journal::new(alloc);
-    assert!(rt; keeps(alloc, &mut journal, &FOUR)?);
+fn takes_records_away_again(rt: HostRuntime) {
+    let mut journal = Journal::new(rt.alloc());
+    assert!(rt; keeps(rt.alloc(), &mut journal, &FOUR));
     for said in ON_THE_WAY_BACK {
-        assert_eq!(rt; faults(alloc, &journal)?, said);
+        assert!(rt;
+            says_of_each(rt.alloc(), &journal, said),
+            "of {}",
+            journal.count()
+        );
         pop(&mut journal);
     }
-    assert_eq!(rt; counts(&journal), (0, 0));
-    assert!(rt; keeps(alloc, &mut journal, &FOUR)?);
-    Ok(())
+    assert!(rt; counts(&journal) == (0, 0));
+    assert!(rt; keeps(rt.alloc(), &mut journal, &FOUR));
 }
 
-// The stored text of a copy of the line's record.
-fn copied(alloc: Global, line: &str) -> Result<String, Fail> {
-    let copy = record(alloc, line)?.copy(alloc)?;
-    let text = record_text(alloc, &copy)?;
-    Ok(String::from_utf8_lossy(alloc, text.as_slice())?)
+fn copy(alloc: Global, record: &Record) -> Option<Lines<u8>> {
+    let copy = record.copy(alloc).ok()?;
+    record_text(alloc, &copy).ok()
+}
+
+// Whether this is the stored text of a copy of the line's record.
+fn is_copied_so(alloc: Global, line: &str, text: &str) -> bool {
+    let Ok(record) = record(alloc, line) else {
+        return false;
+    };
+    match copy(alloc, &record) {
+        Some(copied) => copied.as_slice() == text.as_bytes(),
+        None => false,
+    }
 }
 
 #[test]
-fn copies_a_record(rt: HostRuntime) -> Result<(), Fail> {
+fn copies_a_record(rt: HostRuntime) {
     for (line, text) in [
         (
             ITEM,
@@ -205,7 +263,6 @@ fn copies_a_record(rt: HostRuntime) -> Result<(), Fail> {
             r#"{"at":"2026-01-02T09:00:00","desk":1,"do":"receipt","lines":[{"amount":1000,"item":"B","qty":10,"store":"W1"},{"amount":1000,"item":"C","qty":10,"store":"W2"}]}"#,
         ),
     ] {
-        assert_eq!(rt; copied(rt.alloc(), line)?.as_str(), text);
+        assert!(rt; is_copied_so(rt.alloc(), line, text), "{text}");
     }
-    Ok(())
 }

@@ -9,7 +9,6 @@ use kept_tables::differing::{Difference, first_difference};
 use kept_tables::open_fault::OpenFault;
 use kept_tables::publishing::changes_of;
 use std::alloc::Global;
-use std::test::Fail;
 use stock_keeper::changes::SpotWorth;
 use stock_keeper::tables::{StoredRecord, Tables};
 use stock_nums::cause::{Cause, Method};
@@ -124,52 +123,73 @@ fn stored(first: SpotWorth, second: SpotWorth, third: SpotWorth) -> [SpotWorth; 
     [first, second, third]
 }
 
+// What is stored where it is what the rows are worth.
+fn same() -> [SpotWorth; 3]
+    ensures { AreInOrder result }
+{
+    stored(
+        at(LEAVES_THREE, 300),
+        at(ENTERS_THREE, 310),
+        at(ENTERS_FOUR, 400),
+    )
+}
+
+// What is stored where the last two are worth something else.
+fn other() -> [SpotWorth; 3]
+    ensures { AreInOrder result }
+{
+    stored(
+        at(LEAVES_THREE, 300),
+        at(ENTERS_THREE, 311),
+        at(ENTERS_FOUR, 401),
+    )
+}
+
+// Whether the changes of the rows are these.
+fn are_changes(alloc: Global, rows: &[SpotWorth]) -> bool {
+    match changes_of(alloc, &self::rows()) {
+        Ok(changes) => changes.rows.as_slice() == rows && changes.gone.is_empty(),
+        Err(NoMemory) => false,
+    }
+}
+
 #[test]
-fn rows_are_changes_by_their_spots(rt: HostRuntime) -> Result<(), Fail> {
-    let changes = changes_of(rt.alloc(), &rows())?;
+fn rows_are_changes_by_their_spots(rt: HostRuntime) {
     let all = [
         at(ENTERS_FOUR, 400),
         at(LEAVES_THREE, 300),
         at(ENTERS_THREE, 310),
     ];
-    assert_eq!(rt; changes.rows.as_slice(), all.as_slice());
-    assert!(rt; changes.gone.is_empty());
-    Ok(())
+    assert!(rt; are_changes(rt.alloc(), &all));
+}
+
+fn difference(
+    alloc: Global,
+    stored: [SpotWorth; 3],
+    rows: &[Row],
+) -> Result<Option<Difference>, NoMemory>
+    requires { AreInOrder stored }
+{
+    first_difference(alloc, &stored, rows)
+}
+
+// A spot of record 3 at which 311 are stored, and this is replayed.
+fn stored_otherwise(replayed: Option<Worth>) -> Difference {
+    Difference {
+        spot: ENTERS_THREE,
+        stored: Some(worth(311)),
+        replayed,
+    }
 }
 
 #[test]
-fn the_first_difference_is_told(rt: HostRuntime) -> Result<(), Fail> {
-    let same = stored(
-        at(LEAVES_THREE, 300),
-        at(ENTERS_THREE, 310),
-        at(ENTERS_FOUR, 400),
-    );
-    assert_eq!(rt; first_difference(rt.alloc(), &same, &rows())?, None);
-
-    let other = stored(
-        at(LEAVES_THREE, 300),
-        at(ENTERS_THREE, 311),
-        at(ENTERS_FOUR, 401),
-    );
-    let changed = Difference {
-        spot: ENTERS_THREE,
-        stored: Some(worth(311)),
-        replayed: Some(worth(310)),
-    };
-    assert_eq!(rt;
-        first_difference(rt.alloc(), &other, &rows())?,
-        Some(changed)
-    );
-
-    let missing = Difference {
-        replayed: None,
-        ..changed
-    };
-    assert_eq!(rt;
-        first_difference(rt.alloc(), &other, &rows()[..2])?,
-        Some(missing)
-    );
-    Ok(())
+fn the_first_difference_is_told(rt: HostRuntime) {
+    let rows = rows();
+    let changed = stored_otherwise(Some(worth(310)));
+    let missing = stored_otherwise(None);
+    assert!(rt; difference(rt.alloc(), same(), &rows) == Ok(None));
+    assert!(rt; difference(rt.alloc(), other(), &rows) == Ok(Some(changed)));
+    assert!(rt; difference(rt.alloc(), other(), &rows[..2]) == Ok(Some(missing)));
 }
 
 const ITEM: &str = r#"{"code":"A","desk":0,"do":"item","method":"fifo"}"#;
@@ -218,33 +238,45 @@ fn record_fault(alloc: Global, number: i64, text: &str) -> Result<Option<OpenFau
 }
 
 #[test]
-fn bad_heads_are_told(rt: HostRuntime) -> Result<(), Fail> {
-    let table = [
+fn bad_heads_are_told(rt: HostRuntime) {
+    for (version, covered, told) in [
         (1, 0, Ok(0)),
         (1, 1, Ok(1)),
         (1, 2, Err(bad_head(1, 2))),
         (1, -1, Err(bad_head(1, -1))),
         (2, 0, Err(bad_head(2, 0))),
-    ];
-    for (version, covered, told) in table {
-        assert_eq!(rt; head(rt.alloc(), version, covered), told);
+    ] {
+        assert!(rt;
+            head(rt.alloc(), version, covered) == told,
+            "{version} {covered}"
+        );
     }
-    Ok(())
 }
 
 #[test]
-fn bad_records_and_worths_are_told(rt: HostRuntime) -> Result<(), Fail> {
+fn bad_records_are_told(rt: HostRuntime) {
     let bad = Some(OpenFault::BadStored { number: 1 });
-    let table = [
+    for (number, text, told) in [
         (1, ITEM, None),
         (2, ITEM, bad),
         (1, SPELLED_OTHERWISE, bad),
         (1, "{", bad),
-    ];
-    for (number, text, told) in table {
-        assert_eq!(rt; record_fault(rt.alloc(), number, text)?, told);
+    ] {
+        assert!(rt;
+            record_fault(rt.alloc(), number, text) == Ok(told),
+            "{number} {text}"
+        );
     }
+}
 
+fn worths_fault(alloc: Global, stored: [SpotWorth; 3]) -> Result<(), OpenFault>
+    requires { AreInOrder stored }
+{
+    check_worths(alloc, &stored, &rows())
+}
+
+#[test]
+fn bad_worths_are_told(rt: HostRuntime) {
     let worths = stored(
         at(LEAVES_THREE, 300),
         at(ENTERS_THREE, 310),
@@ -255,9 +287,5 @@ fn bad_records_and_worths_are_told(rt: HostRuntime) -> Result<(), Fail> {
         stored: Some(worth(401)),
         replayed: Some(worth(400)),
     };
-    assert_eq!(rt;
-        check_worths(rt.alloc(), &worths, &rows()),
-        Err(OpenFault::StoredDiffers(changed))
-    );
-    Ok(())
+    assert!(rt; worths_fault(rt.alloc(), worths) == Err(OpenFault::StoredDiffers(changed)));
 }
