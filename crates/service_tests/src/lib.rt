@@ -1,6 +1,6 @@
-//! The tests of a service and of what stands below it: the lock that hands out turns, sessions of a desk, desks and a worker in
-//! threads, and whole runs of the program over doubles in memory. They stand alone, so that they don't have the functions of those
-//! crates proved once more.
+//! The tests of a service and of what stands below it: the lock that hands out turns, sessions of a desk, and whole
+//! runs of the program over doubles in memory. They stand alone, so that they don't have the functions of those crates proved once
+//! more.
 #![tactic(auto)]
 
 #[cfg(test)]
@@ -16,14 +16,6 @@ mod running;
 #[cfg(test)]
 mod served_runs;
 #[cfg(test)]
-mod services;
-#[cfg(test)]
 mod sessions;
 #[cfg(test)]
-mod signals;
-#[cfg(test)]
 mod turns;
-#[cfg(test)]
-mod waiting_gate;
-#[cfg(test)]
-mod waiting_peers;
