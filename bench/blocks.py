@@ -5,7 +5,7 @@ import time
 
 import measuring
 
-BENCH = f"{measuring.ROOT}/crates/blocks_bench/out/blocks_bench"
+BENCH = [measuring.PARTS, "blocks"]
 PLAIN = f"{measuring.ROOT}/bench/blocks.rs"
 LENGTHS = (50_000, 200_000)
 INSERTIONS = 50_000
@@ -18,10 +18,10 @@ def seconds_of(program, length, insertions):
     seconds, printed = [], set()
     for _ in range(measuring.RUNS):
         begin = time.perf_counter()
-        run = subprocess.run([program, str(length), str(insertions)], stdout=subprocess.PIPE, check=True)
+        run = subprocess.run([*program, str(length), str(insertions)], stdout=subprocess.PIPE, check=True)
         seconds.append(time.perf_counter() - begin)
         printed.add(run.stdout.decode())
-    measuring.require(len(printed) == 1, f"{program} printed {sorted(printed)}")
+    measuring.require(len(printed) == 1, f"{program[0]} printed {sorted(printed)}")
     return min(seconds), printed.pop()
 
 
@@ -46,7 +46,7 @@ def measure(room):
         return {**figures, "plain": "there is no rustc"}
     plain = f"{room}/blocks"
     subprocess.run([rustc, "-O", "-o", plain, PLAIN], check=True)
-    theirs, same = microseconds(plain)
+    theirs, same = microseconds([plain])
     measuring.require(printed == same, f"the lists printed {printed} and {same}")
     times = {length: round(ours[length] / theirs[length], 2) for length in ours}
     return {**figures, "plain_microseconds": theirs, "times_plain": times, "times_plain_wanted_at_most": TIMES_PLAIN_WANTED}

@@ -1,4 +1,4 @@
-//! The same items as those of `blocks_bench`, in a plain list in blocks that promises nothing: at most 127 items a block, a full
+//! The same items as those of `parts_bench blocks`, in a plain list in blocks that promises nothing: at most 127 items a block, a full
 //! one parted in the middle, or before its last item at the end of all.
 
 const MOST: usize = 128;

@@ -5,7 +5,7 @@ import subprocess
 
 import measuring
 
-BENCH = f"{measuring.ROOT}/crates/late_bench/out/late_bench"
+BENCH = [measuring.PARTS, "late"]
 PLAIN = f"{measuring.ROOT}/bench/late.rs"
 METHODS = ("fifo", "average")
 COUNTS = (12_500, 50_000)
@@ -21,19 +21,19 @@ def build(method, count, then):
     together, and how many movements were valued at first and then, each with a number that their values make in order."""
     best, seen = None, set()
     for _ in range(measuring.RUNS):
-        run = subprocess.run([BENCH, method, str(count), then, "timed"], stdout=subprocess.PIPE, check=True)
+        run = subprocess.run([*BENCH, method, str(count), then, "timed"], stdout=subprocess.PIPE, check=True)
         first, _, last, spent = run.stdout.decode().splitlines()
         seen.add((*first.split()[:2], *last.split()[:2]))
         parts = [int(part) / 1e6 for part in spent.split()]
         if best is None or sum(parts) < sum(best):
             best = parts
-    measuring.require(len(seen) == 1, f"{BENCH} printed {sorted(seen)}")
+    measuring.require(len(seen) == 1, f"a late receipt printed {sorted(seen)}")
     return best, seen.pop()
 
 
 def bytes_of_movement(method):
     """Returns how many bytes of peak memory a movement takes in a build, beside the book that holds it."""
-    held, built = (measuring.run_once([BENCH, method, str(MOST_MOVEMENTS), *words], os.devnull, os.devnull)[1] for words in (["held"], []))
+    held, built = (measuring.run_once([*BENCH, method, str(MOST_MOVEMENTS), *words], os.devnull, os.devnull)[1] for words in (["held"], []))
     return round((built - held) * 1024 / MOST_MOVEMENTS, 1)
 
 

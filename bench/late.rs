@@ -1,4 +1,4 @@
-//! The movements of `late_bench` in plain Rust that promises nothing: those of one item in one warehouse stand in a list in posting
+//! The movements of `parts_bench late` in plain Rust that promises nothing: those of one item in one warehouse stand in a list in posting
 //! order. A receipt comes late, before all of them, and one pass values them again.
 //!
 //! `late fifo 50000` prints how many movements were valued at first and a number that their values make in order, the same of those

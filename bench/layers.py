@@ -4,7 +4,7 @@ import time
 
 import measuring
 
-BENCH = f"{measuring.ROOT}/crates/layers_bench/out/layers_bench"
+BENCH = [measuring.PARTS, "layers"]
 LAYERS = 100_000
 
 
@@ -13,7 +13,7 @@ def seconds_of(kind, layers):
     seconds, printed = [], set()
     for _ in range(measuring.RUNS):
         begin = time.perf_counter()
-        run = subprocess.run([BENCH, kind, str(layers)], stdout=subprocess.PIPE, check=True)
+        run = subprocess.run([*BENCH, kind, str(layers)], stdout=subprocess.PIPE, check=True)
         seconds.append(time.perf_counter() - begin)
         printed.add(run.stdout.decode())
     measuring.require(len(printed) == 1, f"{kind} of {layers} layers printed {sorted(printed)}")

@@ -7,6 +7,7 @@ import time
 
 ROOT = os.path.dirname(os.path.dirname(os.path.realpath(__file__)))
 PROGRAM = [f"{ROOT}/crates/stockd/out/stockd", "batch"]
+PARTS = f"{ROOT}/crates/parts_bench/out/parts_bench"
 PYTHON_LOOP = """
 import json, sys
 for line in sys.stdin:

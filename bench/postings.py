@@ -12,7 +12,7 @@ import time
 
 import measuring
 
-BENCH = f"{measuring.ROOT}/crates/postings_bench/out/postings_bench"
+BENCH = [measuring.PARTS, "postings"]
 LENGTHS = (50_000, 100_000)
 TRIES = 100_000
 # More than of other measures, since a run takes as long to hold the movements as to try others among them.
@@ -122,7 +122,7 @@ def run_of(*words):
     seconds, printed = [], set()
     for _ in range(RUNS):
         begin = time.perf_counter()
-        run = subprocess.run([BENCH, *map(str, words)], stdout=subprocess.PIPE, check=True)
+        run = subprocess.run([*BENCH, *map(str, words)], stdout=subprocess.PIPE, check=True)
         seconds.append(time.perf_counter() - begin)
         printed.add(run.stdout.decode())
     measuring.require(len(printed) == 1, f"runs of {words} printed different lines")
@@ -180,7 +180,7 @@ def peak_bytes(held, room):
     """Returns the largest peak memory of the runs that hold so many movements."""
     peaks = []
     for _ in range(measuring.RUNS):
-        _, kib = measuring.run_once([BENCH, "held", str(held)], "/dev/null", f"{room}/held")
+        _, kib = measuring.run_once([*BENCH, "held", str(held)], "/dev/null", f"{room}/held")
         with open(f"{room}/held", encoding="ascii") as it:
             count = int(it.read())
         measuring.require(count == held, f"{count} movements are held, and not {held}")
@@ -193,7 +193,7 @@ def is_room_in(space, count):
     def limit():
         resource.setrlimit(resource.RLIMIT_AS, (space, space))
 
-    words = [BENCH, "room", str(count)]
+    words = [*BENCH, "room", str(count)]
     try:
         run = subprocess.run(words, preexec_fn=limit, stdout=subprocess.DEVNULL, stderr=subprocess.DEVNULL, check=False)
     except OSError:

@@ -41,7 +41,7 @@ def figures(room, lines_of_each):
     with open(given, "w", encoding="ascii") as it:
         it.writelines(f"{line}\n" for line in lines)
     bytes_of_each = os.path.getsize(given) / len(lines)
-    of_program = rounds.per_second([rounds.BENCH, "reading"], given, ROUNDS, len(lines))
+    of_program = rounds.per_second([*rounds.BENCH, "reading"], given, ROUNDS, len(lines))
     of_python = rounds.per_second([sys.executable, "-c", PYTHON_READING], given, PYTHON_ROUNDS, len(lines))
     ratio = of_program / of_python
     if ratio < WANTED:

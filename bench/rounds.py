@@ -4,7 +4,7 @@ import time
 
 import measuring
 
-BENCH = f"{measuring.ROOT}/crates/rounds_bench/out/rounds_bench"
+BENCH = [measuring.PARTS, "rounds"]
 
 
 def seconds_of(words, given, rounds, count):
