@@ -1,4 +1,5 @@
 //! Batches over streams in memory: the texts of whole runs, streams that fail, and what is at a limit.
+ghost use Rattle.std.specs.Prelude.{◌<◌};
 
 use crate::running::{Failing, NEVER, run, shelf};
 use std::alloc::Global;
@@ -134,9 +135,31 @@ const SHEETS_REPLIES: &str = r#"{"record":1,"status":"accepted"}
 {"covered":3,"csv":"item,store,qty,value\nB,W1,10,1000\n","report":"balance","status":"ok"}
 "#;
 
+// The first turns fetch the records and value the receipt, and those after them publish.
+const WORKS: &str = r#"{"do":"item","code":"A","method":"fifo"}
+{"do":"item","code":"B","method":"average"}
+{"do":"store","code":"W1","account":100}
+{"do":"store","code":"W2","account":101}
+{"do":"receipt","at":"2026-01-01T09:00:00","lines":[{"item":"A","store":"W1","qty":1,"amount":10}]}
+{"do":"work","turns":2}
+{"do":"work","turns":5}
+"#;
+
+const WORKS_REPLIES: &str = r#"{"record":1,"status":"accepted"}
+{"record":2,"status":"accepted"}
+{"record":3,"status":"accepted"}
+{"record":4,"status":"accepted"}
+{"record":5,"status":"accepted"}
+{"covered":0,"status":"worked"}
+{"covered":5,"status":"worked"}
+"#;
+
 const SETTLE: &str = r#"{"do":"settle"}"#;
 
 const SETTLED: &str = "{\"covered\":0,\"status\":\"settled\"}\n";
+
+// How many bytes a read takes at most, where no other number is tried.
+const PIECE: usize = 50_000;
 
 const LONG: &str = "{\"fault\":\"long\",\"status\":\"bad\"}\n";
 
@@ -159,17 +182,20 @@ const LIMITED: &str = r#"{"record":1,"status":"accepted"}
 {"fault":"limit","field":"lines","line":0,"status":"bad"}
 "#;
 
-/// Runs a batch with ample memory, over streams that never fail. That it is done no clause says, since want
+/// Runs a batch with ample memory over an input in pieces of so many bytes, and streams that never fail. That it is done no clause says, since want
 /// of memory is free.
 fn check(
     rt: &(impl Abort + Threads + Wait + Sync),
     alloc: Global,
     input: &[u8],
+    piece: usize,
     want: &str,
-) -> Result<(), Fail> {
+) -> Result<(), Fail>
+    requires { 0 < piece }
+{
     let mut shelf = shelf(alloc, None)?;
     let input = Vec::from_slice(alloc, input)?;
-    let ended = run(rt, alloc, &["batch"], &mut shelf, input, 50_000, NEVER)?;
+    let ended = run(rt, alloc, &["batch"], &mut shelf, input, piece, NEVER)?;
     assert_eq!(rt; ended.status, 0);
     assert!(rt; ended.output.bytes() == want.as_bytes());
     Ok(())
@@ -187,10 +213,12 @@ fn a_batch_is_answered(rt: HostRuntime) -> Result<(), Fail> {
         (FIRST_OUT, FIRST_OUT_REPLIES),
         (KINDS, KINDS_REPLIES),
         (SHEETS, SHEETS_REPLIES),
+        (WORKS, WORKS_REPLIES),
     ] {
-        check(&rt, alloc, input.as_bytes(), want)?;
+        check(&rt, alloc, input.as_bytes(), PIECE, want)?;
     }
-    Ok(())
+    // However it comes.
+    check(&rt, alloc, SALES.as_bytes(), 1, SALES_REPLIES)
 }
 
 /// The status of two settles of which the first read holds one whole and the front of the next.
@@ -218,6 +246,10 @@ fn ends(
 #[test]
 fn a_failure_is_told(rt: HostRuntime) -> Result<(), Fail> {
     let alloc = rt.alloc();
+    let first_read = Failing {
+        read: Some(1),
+        ..NEVER
+    };
     let read = Failing {
         read: Some(2),
         ..NEVER
@@ -231,6 +263,7 @@ fn a_failure_is_told(rt: HostRuntime) -> Result<(), Fail> {
         ..read
     };
     for (failing, status, output, notes) in [
+        (first_read, 4, "", "stockd: read failed\n"),
         (read, 4, SETTLED, "stockd: read failed\n"),
         (write, 5, "", "stockd: write failed\n"),
         // Notes that fail change no status.
@@ -264,7 +297,7 @@ fn a_line_has_at_most_65_536_bytes(rt: HostRuntime) -> Result<(), Fail> {
         ("", 70_000, "", ""),
     ] {
         let input = padded(alloc, text, blanks, end)?;
-        check(&rt, alloc, input.as_slice(), want)?;
+        check(&rt, alloc, input.as_slice(), PIECE, want)?;
     }
     Ok(())
 }
@@ -287,7 +320,7 @@ fn a_voucher_has_at_most_100_lines(rt: HostRuntime) -> Result<(), Fail> {
     let alloc = rt.alloc();
     for (lines, want) in [(100, ACCEPTED), (101, LIMITED)] {
         let input = receipt(alloc, lines)?;
-        check(&rt, alloc, input.as_slice(), want)?;
+        check(&rt, alloc, input.as_slice(), PIECE, want)?;
     }
     Ok(())
 }

@@ -105,6 +105,15 @@ pub const CASES: &[Case] = &[
         accepted: 0,
     },
     Case {
+        name: "a body of which five bytes come",
+        sends: b"POST /desk HTTP/1.1\r\nHost: x\r\nContent-Length: 40\r\n\r\n{\"do\"",
+        piece: 1_000,
+        flaws: SOUND,
+        end: End::Cut { left: 57 },
+        written: b"",
+        accepted: 0,
+    },
+    Case {
         name: "a body that is refused by its length alone",
         sends: b"POST /desk HTTP/1.1\r\nHost: x\r\nContent-Length: 65537\r\n\r\n",
         piece: 1_000,
