@@ -10,8 +10,11 @@ use Rattle.turn_lock.specs.Passes.{PassView}
 use Rattle.turn_lock.specs.Views.{opened}
 use Rattle.turn_lock.specs.declared.view.View.{View}
 use Rattle.turn_lock.proofs.Lists.{begins_self, past_self}
+use Rattle.stock_model.specs.History.{IsLegal}
 use Rattle.stock_model.specs.Run.{ArePublications}
 use Rattle.stock_model.specs.declared.deeds.Deed.{Deed}
+use Rattle.session_laws.specs.Exchanges.{Exchange}
+use Rattle.session_laws.specs.Sessions.{Session, Served}
 use Rattle.session_laws.specs.Makers.{with_makers, without_makers, deeds_by}
 use Rattle.session_laws.proofs.MakersOf.{without_makers-with_makers, without_makers-begins, past-with_makers, made_by-with_makers}
 use Rattle.session_laws.proofs.Serving.{Served-by_session}
@@ -25,6 +28,7 @@ use Rattle.desk_service.specs.Passes.{fresh, passes_from}
 use Rattle.desk_service.specs.Service.{IsPeerServed, AreServed, IsService}
 use Rattle.desk_service.specs.Teams.{IsTeamwork}
 use Rattle.desk_service.proofs.Gathering.{made_in, numbers, IsDown, passes_from-down, found, joined_all-faults, made_in-unused, made_through-zero, made_through-other, All-both}
+use Rattle.desk_service.proofs.KeptReports.{KeepsSelected, exchanges-keep}
 use Rattle.desk_service.proofs.Revaluing.{Owns, own-turns, work-final}
 use Rattle.desk_service.proofs.SplitOff.{All-last, All-front, passes_from-length}
 
@@ -107,7 +111,8 @@ module _ {P : Type 0} (left : P → Option (List ℕ)) (taken : P → ℕ) (writ
 
   -- each desk's deeds are what its pass made, and the final history begins with what its pass had seen
   module _ (lock : TableId) (first final : List Deed) (all : List (PassView Deed))
-      (made : (k : ℕ) → 0 < k → made_by k (past (with_makers first) (with_makers final)) ≡ made_in k all) where
+      (made : (k : ℕ) → 0 < k → made_by k (past (with_makers first) (with_makers final)) ≡ made_in k all)
+      (legal : IsLegal final) (law : KeepsSelected) where
     peer_served : (number : ℕ) (work : Work P) → 0 < number → attends number work.pass work.pass_then work.peer work.peer_then
         → IsNew lock (with_makers first) work.pass → BeginsWith (with_makers final) work.pass_then.view.seen
         → made_in work.pass_then.view.number all ≡ work.pass_then.view.made
@@ -116,15 +121,19 @@ module _ {P : Type 0} (left : P → Option (List ℕ)) (taken : P → ℕ) (writ
         let own : work.pass_then.view.number ≡ number = ap (λ (v : View Deed). v.number) did.rest ∙ did.number in
         let deeds = made_by number (past (with_makers first) (with_makers final)) in
         let made_is : deeds ≡ work.pass_then.view.made = made number some ∙ ap (λ (k : ℕ). made_in k all) (sym own) ∙ is in
+        let shared : (exchanges : List Exchange) → Session number work.pass.view work.pass_then.view exchanges → Served number first final exchanges =
+        λ exchanges session. Served-by_session number first final work.pass.view work.pass_then.view exchanges session
+        (subst (λ (z : List (ℕ × Deed)). BeginsWith z (with_makers first)) (sym new.saw) (begins_self (with_makers first))) ends
+        (sym (ap (λ (z : List (ℕ × Deed)). z ++ deeds) new.nothing ∙ made_is))
+        in
         record {
           old = work.pass.view;
           new = work.pass_then.view;
           end = did.end;
           serves = did.serves;
           over = did.over;
-          shared = λ exchanges session. Served-by_session number first final work.pass.view work.pass_then.view exchanges session
-              (subst (λ (z : List (ℕ × Deed)). BeginsWith z (with_makers first)) (sym new.saw) (begins_self (with_makers first))) ends
-              (sym (ap (λ (z : List (ℕ × Deed)). z ++ deeds) new.nothing ∙ made_is));
+          shared = shared;
+          keeps = λ exchanges session. exchanges-keep law number final legal first exchanges (shared exchanges session);
           failed = λ exchanges session below_end. let told = session.failed below_end in omega (arith, told);
         }
 
@@ -282,9 +291,9 @@ module _ {P : Type 0} (left : P → Option (List ℕ)) (taken : P → ℕ) (writ
             sum-last_first (λ (w : Work P). w.pass_then) own s.unused s.works,
           )
 
-      pub service_is : (accepted : ℕ) → accepted ≡ length peers
+      pub service_is : IsLegal final → KeepsSelected → (accepted : ℕ) → accepted ≡ length peers
           → IsService (IsPeerServed left taken written faults ended) is_fresh count accepted first final count_of_faults faults' old new
-      service_is accepted count_is =
+      service_is legal law accepted count_is =
           let s = team.serving in
           let then = λ (w : Work P). w.pass_then in
           let ends = each_work then (λ (p : PassView Deed). BeginsWith (with_makers final) p.view.seen) s.unused s.works
@@ -304,9 +313,10 @@ module _ {P : Type 0} (left : P → Option (List ℕ)) (taken : P → ℕ) (writ
             counts = map (λ w. w.pass_then.view.faults) s.works;
             count = count_is ∙ peers-length ∙ sym (length-map s.works (λ (w : Work P). w.peer));
             came = subst (λ (n : ℕ). Accepts is_fresh n old mid (map (λ (w : Work P). w.peer) s.works)) wanted s.accepted;
-            served = peers_served lock first final passes' made 1 s.works (omega arith) s.attended new_ones.1 ends.1 is.1;
+            served = peers_served lock first final passes' made legal law 1 s.works (omega arith) s.attended new_ones.1 ends.1 is.1;
             hung_up = subst (HangsUp mid new) back up;
             grows = grows;
+            legal = legal;
             published = published;
             among = counted;
             no_others = λ k more. no_others k (omega (arith, count_is));

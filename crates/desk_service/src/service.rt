@@ -2,6 +2,7 @@
 ghost use Rattle.std.specs.Prelude.{◌≡◌, ◌+◌, ◌<◌, ◌≤◌, [], All, reverse, length, vec_len, vec_capacity, IfOk, IfErr};
 ghost use Rattle.stock_nums.specs.declared.limits.TheConstants.{MAX_DESK};
 ghost use Rattle.stock_io.specs.Listeners.{IsFresh};
+ghost use Rattle.stock_model.specs.History.{IsLegal};
 ghost use Rattle.repost_worker.specs.Turns.{IsWorkOf};
 ghost use Rattle.session_laws.specs.Makers.{without_makers};
 ghost use Rattle.desk_service.specs.Endings.{IsClosed};
@@ -27,6 +28,7 @@ use std::thread::{Scope, Threads};
 use stock_io::link::Link;
 use stock_io::listener::Listener;
 use stock_keeper::keeper::Keeper;
+use stock_laws::selected_laws::the_ledger_keeps_the_stock;
 use stock_nums::numbers::DeskNo;
 use turn_lock::lock::{NotMade, TurnLock};
 
@@ -115,6 +117,7 @@ pub fn serve<K: Keeper + Send, P: Link, L: Listener<Peer = P> + Drop, R: Threads
         },
     };
     let team = in_threads::<K, P, L, Brand, R>(rt, alloc, &lock, team, Blank::new(1));
+    the_ledger_keeps_the_stock();
     Ok(ended(lock, team))
 }
 
@@ -226,6 +229,7 @@ fn ended<K: Keeper, L: Listener>(lock: TurnLock<Book<K>>, team: Team<K, L>) -> S
     requires split { team.worker.pass.view.split ≡ length team.desks.passes.items }
     requires outstanding { L.hang_ups team.desks.listener + length team.desks.peers.items ≤ L.accepts team.desks.listener }
     ensures closed { IsClosed team.worker.pass.view team.desks.passes.items result.book.history result.book.keeper.faults }
+    ensures legal { IsLegal result.book.history }
     ensures hung_up { HangsUp (heard L.waiting L.hung_up L.accepts L.hang_ups L.faults team.desks.listener)
         (heard L.waiting L.hung_up L.accepts L.hang_ups L.faults result.listener) (reverse team.desks.peers.items) }
     ensures build { result.build ≡ team.worker.build }
@@ -241,8 +245,11 @@ fn ended<K: Keeper, L: Listener>(lock: TurnLock<Book<K>>, team: Team<K, L>) -> S
     let pass = join_all(&lock, pass, passes);
     let accepted = peers.len();
     let listener = hang_up_all(listener, peers);
+    let book = lock.close(pass);
+    // Whatever threads did to the book, its history is legal: its own counts tell so.
+    let _records = book.accepted();
     Served {
-        book: lock.close(pass),
+        book,
         build,
         listener,
         accepted,

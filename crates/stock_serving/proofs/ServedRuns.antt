@@ -2,6 +2,7 @@
 use Rattle.std.proofs.Common.{◌≡◌, ◌⊎◌, ℕ, List, Option, Some, IfSome, OnSome, Result, Ok, Err, IfOk, IfErr, OnErr, inl, inr, refl, sym, ◌∙◌, subst, arith}
 use Rattle.std.specs.Prelude.{String, string_bytes}
 use Rattle.std.specs.declared.alloc.Global.{Global}
+use Rattle.stock_model.specs.History.{IsLegal}
 use Rattle.stock_model.specs.declared.deeds.Deed.{Deed}
 use Rattle.stock_io.specs.Counts.{Rose}
 use Rattle.stock_keeper.specs.Keeping.{Within, TellSame}
@@ -54,6 +55,25 @@ module _ {P O : Type 0} (written : O → Option (List ℕ)) (write_faults : O �
   told-by (Ok text) end leaves wrote is same = told-written end (string_bytes text) leaves.1 wrote leaves.0
   told-by (Err e) end leaves wrote is same = subst IsToldBy (sym is) (told-stopped e leaves same)
 
+-- a service over a legal history leaves one
+module _ {P : Type 0} (serves : ℕ → ℕ → List Deed → List Deed → P → P → Type 0) (is_fresh : P → Type 0) (desks : ℕ) (first last : Pace)
+    (old new : Heard P) (legal : IsLegal first.history) where
+  stopped-legal : (end : End) → Stops serves is_fresh desks end first last old new → IsLegal last.history
+  stopped-legal ListenFailed (inl unheard) = subst (λ (p : Pace). IsLegal p.history) (sym unheard.nothing_kept) legal
+  stopped-legal ListenFailed (inr short) = short.service.legal
+  stopped-legal StoreFailed served = served.legal
+  stopped-legal NoMemory (inl unserved) = subst (λ (p : Pace). IsLegal p.history) (sym unserved.nothing_kept) legal
+  stopped-legal NoMemory (inr served) = served.legal
+  stopped-legal Done stops = absurd stops
+  stopped-legal ReadFailed stops = absurd stops
+  stopped-legal WriteFailed stops = absurd stops
+  stopped-legal TooLong stops = absurd stops
+  stopped-legal (Damaged damage) stops = absurd stops
+
+  leaves-legal : (summary : Result (String Global) End) → Leaves serves is_fresh desks summary first last old new → IsLegal last.history
+  leaves-legal (Ok text) leaves = leaves.0.legal
+  leaves-legal (Err end) stops = stopped-legal end stops
+
 module _ {H Kt L P O : Type 0} (kept_tells : Kt → Tables → Type 0) (k_faults : Kt → ℕ) (k_plan : Kt → Option (List ℕ)) (k_calls : Kt → ℕ)
     (tells : H → Tables → Type 0) (plan : H → Option (List ℕ)) (faults kept_faults : H → ℕ) (hears : L → Heard P)
     (written : O → Option (List ℕ)) (write_faults : O → ℕ) (serves : ℕ → ℕ → List Deed → List Deed → P → P → Type 0) (is_fresh : P → Type 0)
@@ -83,6 +103,7 @@ module _ {H Kt L P O : Type 0} (kept_tells : Kt → Tables → Type 0) (k_faults
           faults = counted ∙ begun.faults_are;
         };
         served = told.0;
+        legal = leaves-legal serves is_fresh desks begun.first begun.last (hears listener) (hears listener') begun.legal summary begun.done;
         told = told.1;
       }
 

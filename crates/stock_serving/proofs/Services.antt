@@ -4,6 +4,7 @@ use Rattle.std.specs.Prelude.{String}
 use Rattle.std.specs.declared.alloc.Global.{Global}
 use Rattle.std.proofs.lemmas.Bool.{cases_lt}
 use Rattle.stock_io.specs.Counts.{Rose, NeverFalls}
+use Rattle.stock_model.specs.History.{IsLegal}
 use Rattle.stock_model.specs.declared.deeds.Deed.{Deed}
 use Rattle.stock_keeper.specs.declared.fault.KeepFault.{KeepFault}
 use Rattle.stock_keeper.specs.declared.fault.KeepFault.TheVariants as keep
@@ -57,19 +58,19 @@ module _ {P : Type 0} (serves : ℕ → ℕ → List Deed → List Deed → P �
   -- all came, and what they had left of the ledger was settled, or that was refused
   leaves-settled : (summary : Result (String Global) End) (first served last : Pace) (old new : Heard P)
       → IsService serves is_fresh desks desks first.history served.history first.keeper.faults served.keeper.faults old new → Settles summary served last
-      → Leaves serves is_fresh desks summary first last old new
-  leaves-settled (Ok text) first served last old new service settles =
-      (record { served = served; service = service; then = settles.0 }, settles.1)
-  leaves-settled (Err NoMemory) first served last old new service settles =
-      inr (record { served = served; service = service; then = settles })
-  leaves-settled (Err StoreFailed) first served last old new service settles =
-      record { served = served; service = service; then = settles }
-  leaves-settled (Err Done) first served last old new service settles = absurd settles
-  leaves-settled (Err ReadFailed) first served last old new service settles = absurd settles
-  leaves-settled (Err WriteFailed) first served last old new service settles = absurd settles
-  leaves-settled (Err TooLong) first served last old new service settles = absurd settles
-  leaves-settled (Err ListenFailed) first served last old new service settles = absurd settles
-  leaves-settled (Err (Damaged damage)) first served last old new service settles = absurd settles
+      → IsLegal last.history → Leaves serves is_fresh desks summary first last old new
+  leaves-settled (Ok text) first served last old new service settles legal =
+      (record { served = served; service = service; then = settles.0; legal = legal }, settles.1)
+  leaves-settled (Err NoMemory) first served last old new service settles legal =
+      inr (record { served = served; service = service; then = settles; legal = legal })
+  leaves-settled (Err StoreFailed) first served last old new service settles legal =
+      record { served = served; service = service; then = settles; legal = legal }
+  leaves-settled (Err Done) first served last old new service settles legal = absurd settles
+  leaves-settled (Err ReadFailed) first served last old new service settles legal = absurd settles
+  leaves-settled (Err WriteFailed) first served last old new service settles legal = absurd settles
+  leaves-settled (Err TooLong) first served last old new service settles legal = absurd settles
+  leaves-settled (Err ListenFailed) first served last old new service settles legal = absurd settles
+  leaves-settled (Err (Damaged damage)) first served last old new service settles legal = absurd settles
 
   leaves-few : (summary : Result (String Global) End) (came : ℕ) (first served last : Pace) (old new : Heard P)
       → IsService serves is_fresh desks came first.history served.history first.keeper.faults served.keeper.faults old new → came < desks
@@ -82,22 +83,22 @@ module _ {P : Type 0} (serves : ℕ → ℕ → List Deed → List Deed → P �
   pub leaves : (summary : Result (String Global) End) (came : ℕ) (first served last : Pace) (old new : Heard P)
       → IsService serves is_fresh desks came first.history served.history first.keeper.faults served.keeper.faults old new
       → (came < desks → (summary ≡ Err ListenFailed) × (last ≡ served)) → (desks ≤ came → Settles summary served last)
-      → Leaves serves is_fresh desks summary first last old new
-  leaves summary came first served last old new service few all = elim (cases_lt came desks) [
+      → (IsLegal served.history → IsLegal last.history) → Leaves serves is_fresh desks summary first last old new
+  leaves summary came first served last old new service few all legal = elim (cases_lt came desks) [
     | inl short ↦ leaves-few summary came first served last old new service short (few short)
     | inr enough ↦ leaves-settled summary first served last old new
-        (service-all came first.history served.history first.keeper.faults served.keeper.faults old new service enough) (all enough)
+        (service-all came first.history served.history first.keeper.faults served.keeper.faults old new service enough) (all enough) (legal service.legal)
   ]
 
   -- the same from equal states of the book and what is heard
   pub leaves-of : (summary : Result (String Global) End) (came : ℕ) (before first served last : Pace) (old new heard : Heard P)
       → before ≡ first → heard ≡ new → IsService serves is_fresh desks came before.history served.history before.keeper.faults served.keeper.faults old new
       → (came < desks → (summary ≡ Err ListenFailed) × (last ≡ served)) → (desks ≤ came → Settles summary served last)
-      → Leaves serves is_fresh desks summary first last old heard
-  leaves-of summary came before first served last old new heard same_book same_heard service few all =
+      → (IsLegal served.history → IsLegal last.history) → Leaves serves is_fresh desks summary first last old heard
+  leaves-of summary came before first served last old new heard same_book same_heard service few all legal =
       subst (λ (h : Heard P). Leaves serves is_fresh desks summary first last old h) (sym same_heard)
       (leaves summary came first served last old new
-      (subst (λ (p : Pace). IsService serves is_fresh desks came p.history served.history p.keeper.faults served.keeper.faults old new) same_book service) few all)
+      (subst (λ (p : Pace). IsService serves is_fresh desks came p.history served.history p.keeper.faults served.keeper.faults old new) same_book service) few all legal)
 
   pub leaves-heard : (summary : Result (String Global) End) (first last : Pace) (old mid new : Heard P) → mid ≡ old
       → Leaves serves is_fresh desks summary first last mid new → Leaves serves is_fresh desks summary first last old new

@@ -65,11 +65,13 @@ module _ {P : Type 0} (serves : ℕ → ℕ → List Deed → List Deed → P �
     pub service : IsService serves is_fresh desks came first.history last.history first.keeper.faults last.keeper.faults old new
     pub cause : Rose old.faults new.faults
 
-  -- as many peers came as were wanted. Once all were served this was done with what they had left of the ledger.
+  -- as many peers came as were wanted. Once all were served this was done with what they had left of the ledger, and its history is
+  -- legal still.
   pub record IsServedThen (settles : Pace → Pace → Type 0) (first last : Pace) (old new : Heard P) : Type 0 where
     pub served : Pace
     pub service : IsService serves is_fresh desks desks first.history served.history first.keeper.faults served.keeper.faults old new
     pub then : settles served last
+    pub legal : IsLegal last.history
 
   -- how far a service came that ended so before its summary was told
   abbrev pub Stops : End → Pace → Pace → Heard P → Heard P → Type 0
@@ -139,14 +141,15 @@ module _ {Kt L P : Type 0} (tells : Kt → Tables → Type 0) (faults : Kt → �
 module _ {H Kt L P O : Type 0} (kept_tells : Kt → Tables → Type 0) (tells : H → Tables → Type 0) (plan : H → Option (List ℕ))
     (faults kept_faults : H → ℕ) (hears : L → Heard P) (written : O → Option (List ℕ)) (write_faults : O → ℕ)
     (serves : ℕ → ℕ → List Deed → List Deed → P → P → Type 0) (is_fresh : P → Type 0) (desks : ℕ) where
-  -- the ledger was opened and served, the keeper that is back on the shelf has the tables of the last history, and the summary of
-  -- that was told
+  -- the ledger was opened and served, the keeper that is back on the shelf has the tables of the last history, which is legal, and
+  -- the summary of that was told
   pub record IsServedOver (shelf_before shelf_after : H) (listener_before listener_after : L) (output_before output_after : O) (end : End) : Type 0 where
     pub first : Pace
     pub last : Pace
     pub opened : IsOpenedAs kept_tells (tells shelf_before) (plan shelf_before) first
     pub put_back : IsPutBack (tells shelf_after) (plan shelf_after) (kept_faults shelf_after) last
     pub served : ServesTo serves is_fresh desks end first last (hears listener_before) (hears listener_after)
+    pub legal : IsLegal last.history
     pub told : Tells written write_faults end (summary_text last.history) output_before output_after
 
   -- that, or it was not opened, and neither the listener nor the output was used

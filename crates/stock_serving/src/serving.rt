@@ -3,6 +3,7 @@ ghost use Rattle.std.specs.Prelude.{◌≡◌, ◌<◌, ◌≤◌, Err, IfOk, If
 ghost use Rattle.stock_nums.specs.declared.limits.TheConstants.{MAX_DESK};
 ghost use Rattle.stock_io.specs.Counts.{NeverFalls};
 ghost use Rattle.stock_io.specs.Listeners.{IsFresh};
+ghost use Rattle.stock_model.specs.History.{IsLegal};
 ghost use Rattle.stock_keeper.specs.Keeping.{Within};
 ghost use Rattle.repost_worker.specs.Paces.{pace_of};
 ghost use Rattle.repost_worker.specs.Turns.{IsWorkOf};
@@ -202,6 +203,7 @@ fn settle_served<K: Keeper, L>(alloc: Global, served: Served<K, L>, desks: u32) 
     ensures few { served.accepted < desks
         → (result.summary ≡ Err End.ListenFailed) × (result.book ≡ pace_of served.book served.build) }
     ensures all { desks ≤ served.accepted → Settles result.summary (pace_of served.book served.build) result.book }
+    ensures legal { IsLegal served.book.history → IsLegal result.book.history }
 {
     let Served {
         book,
@@ -224,7 +226,8 @@ fn settle_served<K: Keeper, L>(alloc: Global, served: Served<K, L>, desks: u32) 
 
 // Publishes what was accepted, and makes the summary of that.
 fn settle<K: Keeper>(alloc: Global, book: &mut RevaluedBook<K>) -> Result<String, End>
-    ensures { Settles result book.old book.new }
+    ensures settles { Settles result book.old book.new }
+    ensures legal { IsLegal book.old.history → IsLegal book.new.history }
 {
     match book.work(alloc, None).stopped {
         Some(fault) => Err(end_of_refusal(fault)),

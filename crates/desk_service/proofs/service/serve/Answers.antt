@@ -67,7 +67,7 @@ returns-clause-served g c =
     let split = opened-split history faults c.args.desks _ _ c.in-Ok-new.ensures.pass c.split_all-pass.ensures.pass in
     let team = c.in_threads-team.ensures in
     service_is _ _ _ _ _ _ lock c.args.book.history c.args.book.keeper.faults c.args.desks _ _ _ _ _ _ _ _ _ split are team c.ended.result.book.history c.ended.result.book.keeper.faults c.ended.ensures.closed _
-    c.ended.ensures.hung_up c.ended.result.accepted c.ended.ensures.accepted
+    c.ended.ensures.hung_up c.ended.ensures.legal c.the_ledger_keeps_the_stock.ensures c.ended.result.accepted c.ended.ensures.accepted
 
 pub returns-clause-work : goal.returns-clause-work
 returns-clause-work g c =

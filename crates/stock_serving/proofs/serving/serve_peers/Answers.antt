@@ -17,6 +17,7 @@ returns-in-Ok-clause-serves g c =
     (pace_of served.book served.build) c.settle_served.result.book (hears c.args.listener) (hears served.listener)
     (hears c.settle_served.result.listener) c.into_parts-book.ensures.pace (ap hears c.settle_served.ensures.listener)
     c.in-Ok.ensures.served c.settle_served.ensures.few c.settle_served.ensures.all
+    c.settle_served.ensures.legal
 
 pub returns-in-Ok-clause-never_falls : goal.returns-in-Ok-clause-never_falls
 returns-in-Ok-clause-never_falls g c =

@@ -5,8 +5,8 @@ use Rattle.repost_worker.specs.Published.{Publishes}
 use Rattle.stock_serving.specs.Serving.{summary_text}
 use Rattle.stock_serving.proofs.serving.settle.Goals as goal
 
-pub returns-in-Ok : goal.returns-in-Ok
-returns-in-Ok g c =
+pub returns-in-Ok-clause-settles : goal.returns-in-Ok-clause-settles
+returns-in-Ok-clause-settles g c =
     let old = c.args.book.now in
     let new = c.work.new.self in (
       record {
