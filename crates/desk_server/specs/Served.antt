@@ -1,5 +1,5 @@
 -- What a session did for its peer.
-use Rattle.std.specs.Prelude.{ℕ, ◌≡◌, ◌+◌, ◌^◌, ◌<◌, ◌≤◌, ◌⊎◌, true, false, Option, Some, None, List, [], ◌∷◌, ◌++◌, length, drop, slice_range, IfSome, ⊤}
+use Rattle.std.specs.Prelude.{ℕ, ◌≡◌, ◌+◌, ◌^◌, ◌<◌, ◌≤◌, ◌⊎◌, Bool, true, false, Option, Some, None, List, [], ◌∷◌, ◌++◌, length, drop, slice_range, IfSome, ⊤}
 use Rattle.std.specs.Io.KnownBytes.{Consumes, Appends}
 use Rattle.stock_io.specs.Counts.{Rose}
 use Rattle.stock_io.specs.Streams.{AppendsFront}
@@ -90,3 +90,9 @@ pub record Serves {P : Type 0} (left : P → Option (List ℕ)) (taken : P → �
   pub refused : Option ℕ
   pub wrote : IsWritten end (written link) (written link') (responses bytes.requests answers ++ last_response refused)
   pub cause : HasCause (left link) bytes refused (faults link) (faults link') end
+
+-- the session that serves the peer was over while the link was as open as it was at first
+pub record IsServedOpen {P : Type 0} (ended : P → Bool) (serves : P → P → End → Type 0) (link : P) (end : End) : Type 0 where
+  pub link_then : P
+  pub still_open : ended link_then ≡ ended link
+  pub served : serves link link_then end

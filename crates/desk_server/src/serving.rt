@@ -45,6 +45,7 @@ pub fn serve_requests<K: Keeper, P: Link, R: Wait>(
     requires new { inbox ≡ nothing_waits BYTE_LIMIT }
     ensures same_lock { result.pass.lock ≡ pass.lock }
     ensures rest { LeavesRest pass.view result.pass.view }
+    ensures still_open { P.ended link.new ≡ P.ended link.old }
     ensures serves { Serves P.left P.taken P.written P.Source.faults desk.0 pass.view result.pass.view
         link.old link.new result.end }
 {
@@ -98,6 +99,7 @@ fn answer_next<K: Keeper, P: Link, R: Wait>(
         (body_of inbox.old.bytes request) request.close link.old link.new result.end }
     ensures left_kept { P.left link.new ≡ P.left link.old }
     ensures taken_kept { P.taken link.new ≡ P.taken link.old }
+    ensures ended_kept { P.ended link.new ≡ P.ended link.old }
 {
     let end_of_body = request.head + request.body;
     let body = &inbox.bytes()[request.head..end_of_body];

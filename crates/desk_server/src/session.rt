@@ -2,7 +2,7 @@
 ghost use Rattle.std.specs.Prelude.{◌≡◌, ◌^◌, ◌≤◌, true, length};
 ghost use Rattle.stock_nums.specs.declared.limits.TheConstants.{MAX_DESK};
 ghost use Rattle.desk_server.specs.Exchanging.{LeavesRest};
-ghost use Rattle.desk_server.specs.Served.{Serves};
+ghost use Rattle.desk_server.specs.Served.{Serves, IsServedOpen};
 
 use crate::serving::serve_requests;
 use desk_wire::inbox::Inbox;
@@ -64,6 +64,10 @@ pub fn serve_desk<K: Keeper, P: Link, R: Wait>(
     ensures same_lock { result.pass.lock ≡ pass.lock }
     ensures rest { LeavesRest pass.view result.pass.view }
     ensures ended { P.ended link.new ≡ true }
+
+    // The connection is ended after the session, and not before it too.
+    ensures still_open { IsServedOpen P.ended (Serves P.left P.taken P.written P.Source.faults desk.0 pass.view result.pass.view)
+        link.old result.end }
     ensures serves { Serves P.left P.taken P.written P.Source.faults desk.0 pass.view result.pass.view
         link.old link.new result.end }
 {

@@ -16,6 +16,7 @@ pub fn write_response<P: Link>(link: &mut P, response: &[u8], close: bool) -> Op
     ensures written { Written P.written P.Source.faults link.old link.new response.now close result }
     ensures left_kept { P.left link.new ≡ P.left link.old }
     ensures taken_kept { P.taken link.new ≡ P.taken link.old }
+    ensures ended_kept { P.ended link.new ≡ P.ended link.old }
 {
     match write_all(link, response) {
         Err(_) => Some(End::WriteFault),
@@ -30,6 +31,7 @@ pub fn end_at<P: Link>(link: &mut P, stop: Stop, waiting: usize) -> End
     ensures ended { Ended P.written P.Source.faults link.old link.new stop waiting result }
     ensures left_kept { P.left link.new ≡ P.left link.old }
     ensures taken_kept { P.taken link.new ≡ P.taken link.old }
+    ensures ended_kept { P.ended link.new ≡ P.ended link.old }
 {
     match stop {
         Stop::Refused { status } => match write_all(link, refusal(status).as_bytes()) {

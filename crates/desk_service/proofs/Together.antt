@@ -131,6 +131,7 @@ module _ {P : Type 0} (left : P → Option (List ℕ)) (taken : P → ℕ) (writ
           new = work.pass_then.view;
           end = did.end;
           serves = did.serves;
+          still_open = did.still_open;
           over = did.over;
           shared = shared;
           keeps = λ exchanges session. exchanges-keep law number final legal first exchanges (shared exchanges session);

@@ -3,10 +3,10 @@ use Rattle.std.specs.Prelude.{ℕ, ◌≡◌, ◌+◌, Bool, true, Option, List,
 use Rattle.turn_lock.specs.Passes.{PassView}
 use Rattle.stock_model.specs.declared.deeds.Deed.{Deed}
 use Rattle.desk_server.specs.Exchanging.{LeavesRest}
-use Rattle.desk_server.specs.Served.{Serves}
+use Rattle.desk_server.specs.Served.{Serves, IsServedOpen}
 use Rattle.desk_server.specs.declared.session.End.{End}
 
--- the desk with this number served the peer with its pass, and the connection was ended
+-- the desk with this number served the peer with its pass, and then the connection was ended
 pub record IsAttended {P : Type 0} (left : P → Option (List ℕ)) (taken : P → ℕ) (written : P → Option (List ℕ)) (faults : P → ℕ)
     (ended : P → Bool) (desk : ℕ) (pass pass' : PassView Deed) (peer peer' : P) : Type 0 where
   pub number : pass.view.number ≡ desk
@@ -15,6 +15,7 @@ pub record IsAttended {P : Type 0} (left : P → Option (List ℕ)) (taken : P �
   pub over : ended peer' ≡ true
   pub end : End
   pub serves : Serves left taken written faults desk pass.view pass'.view peer peer' end
+  pub still_open : IsServedOpen ended (Serves left taken written faults desk pass.view pass'.view) peer end
 
 -- a desk's pass and peer, before and after
 pub record Work (P : Type 0) : Type 0 where

@@ -9,11 +9,11 @@ use Rattle.session_laws.specs.Exchanges.{Exchange, failures}
 use Rattle.session_laws.specs.Makers.{deeds_by}
 use Rattle.session_laws.specs.Sessions.{Session, Served}
 use Rattle.book_answers.specs.Answers.{ShowsKeptStock}
-use Rattle.desk_server.specs.Served.{Serves}
+use Rattle.desk_server.specs.Served.{Serves, IsServedOpen}
 use Rattle.desk_server.specs.declared.session.End.{End}
 use Rattle.desk_service.specs.Listening.{Heard, Accepts, HangsUp}
 
--- The desk with this number served the peer and ended the connection. Whatever exchanges make its session, they are answered by
+-- The desk with this number served the peer and then ended the connection. Whatever exchanges make its session, they are answered by
 -- the one history that all desks share, the ledger keeps the stock of each report among them, and no more of them say that the
 -- store failed than its keeper counted faults in its turns, where that count has not come to its end.
 pub record IsPeerServed {P : Type 0} (left : P → Option (List ℕ)) (taken : P → ℕ) (written : P → Option (List ℕ)) (faults : P → ℕ)
@@ -22,6 +22,7 @@ pub record IsPeerServed {P : Type 0} (left : P → Option (List ℕ)) (taken : P
   pub new : View Deed
   pub end : End
   pub serves : Serves left taken written faults desk old new peer peer' end
+  pub still_open : IsServedOpen ended (Serves left taken written faults desk old new) peer end
   pub over : ended peer' ≡ true
   pub shared : (exchanges : List Exchange) → Session desk old new exchanges → Served desk first final exchanges
   pub keeps : (exchanges : List Exchange) → Session desk old new exchanges → All (λ exchange. ShowsKeptStock exchange.answer) exchanges

@@ -14,6 +14,7 @@ loop-init g c = record {
   same_lock = refl;
   served = served-none g.P.Source.left g.P.Source.taken g.P.Sink.written g.P.Source.faults c.args.desk.0 c.args.pass.view c.args.link.now
       c.args.inbox c.requires.new;
+  still_open = refl;
 }
 
 pub loop-preserved : goal.loop-preserved
@@ -34,6 +35,8 @@ loop-preserved g c =
           before.pass.view answered.result.pass.view c.hear.new.source answered.new.link c.hear.new.self _ served
           next.0 next.1 answered.ensures.rest answered.ensures.left_kept answered.ensures.taken_kept answered.result.end
           answered.ensures.answered c.in_default.is);
+      still_open = answered.ensures.ended_kept ∙ (Chained-keeps g.P.Source.read_leaves g.P.Link.ended (λ a b step. ((g.met.P.Link g.world.𝓛 g.world.𝓜 g.world.𝓡 ((λ s x. x), (λ x. x), (λ x. x), (λ x. x))).read_keeps a b step).1) _ _ c.hear.ensures.frame)
+          ∙ before.invariant.still_open;
     }
 
 pub returns-in-Err-clause-serves : goal.returns-in-Err-clause-serves
@@ -81,3 +84,15 @@ returns-in-Some-end-clause-serves g c =
     before.pass.view answered.result.pass.view c.hear.new.source answered.new.link c.hear.new.self _ served
     next.0 next.1 answered.ensures.rest answered.ensures.left_kept answered.ensures.taken_kept answered.result.end
     answered.ensures.answered _ c.in-Some-end.is
+
+pub returns-in-Err-clause-still_open : goal.returns-in-Err-clause-still_open
+returns-in-Err-clause-still_open g c =
+    (Chained-keeps g.P.Source.read_leaves g.P.Link.ended (λ a b step. ((g.met.P.Link g.world.𝓛 g.world.𝓜 g.world.𝓡 ((λ s x. x), (λ x. x), (λ x. x), (λ x. x))).read_keeps a b step).1) _ _ c.hear.ensures.frame) ∙ c.loop.invariant.still_open
+
+pub returns-in-Ok-Last-clause-still_open : goal.returns-in-Ok-Last-clause-still_open
+returns-in-Ok-Last-clause-still_open g c =
+    c.end_at-end.ensures.ended_kept ∙ (Chained-keeps g.P.Source.read_leaves g.P.Link.ended (λ a b step. ((g.met.P.Link g.world.𝓛 g.world.𝓜 g.world.𝓡 ((λ s x. x), (λ x. x), (λ x. x), (λ x. x))).read_keeps a b step).1) _ _ c.hear.ensures.frame) ∙ c.loop.invariant.still_open
+
+pub returns-in-Some-end-clause-still_open : goal.returns-in-Some-end-clause-still_open
+returns-in-Some-end-clause-still_open g c =
+    c.answer_next-answered.ensures.ended_kept ∙ (Chained-keeps g.P.Source.read_leaves g.P.Link.ended (λ a b step. ((g.met.P.Link g.world.𝓛 g.world.𝓜 g.world.𝓡 ((λ s x. x), (λ x. x), (λ x. x), (λ x. x))).read_keeps a b step).1) _ _ c.hear.ensures.frame) ∙ c.loop.invariant.still_open

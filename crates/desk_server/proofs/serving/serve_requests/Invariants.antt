@@ -7,4 +7,5 @@ abbrev pub invariant-loop : goal.invariant-loop
 invariant-loop g l = record {
   same_lock : l.pass.lock ≡ l.initial.pass.lock;
   served : HasServed g.P.Source.left g.P.Source.taken g.P.Sink.written g.P.Source.faults l.initial.desk.0 l.initial.pass.view l.pass.view l.initial.link l.link l.inbox;
+  still_open : g.P.Link.ended l.link ≡ g.P.Link.ended l.initial.link;
 }

@@ -1,5 +1,5 @@
 -- The session was served, or memory was wanting before it began, and then the link was ended.
-use Rattle.std.proofs.Common.{sym, subst}
+use Rattle.std.proofs.Common.{refl, sym, subst}
 use Rattle.desk_server.specs.Served.{Serves}
 use Rattle.desk_server.specs.declared.session.End.TheVariants.{NoMemory}
 use Rattle.desk_server.proofs.Ending.{serves-none, serves-ended}
@@ -27,3 +27,23 @@ returns-clause-serves g c =
     serves-ended g.P.Source.left g.P.Source.taken g.P.Sink.written g.P.Source.faults c.args.desk.0 c.args.pass.view c.args.link.now
     c.match-new.left.pass.view c.match-new.link c.end.new.self c.match-new.left.end served
     c.end.ensures.left_kept c.end.ensures.taken_kept c.end.ensures.written_kept c.end.ensures.faults_kept
+
+pub returns-clause-still_open : goal.returns-clause-still_open
+returns-clause-still_open g c =
+    elim c.match-new.branch [
+      | in-Ok w ↦ record {
+        link_then = w.serve_requests-left.new.link;
+        still_open = w.serve_requests-left.ensures.still_open;
+        served =
+            subst (λ l. Serves {P = g.row.P.Denot} g.P.Source.left g.P.Source.taken g.P.Sink.written g.P.Source.faults c.args.desk.0 c.args.pass.view
+            l.pass.view c.args.link.now w.serve_requests-left.new.link l.end) (sym w.left-is) w.serve_requests-left.ensures.serves;
+      }
+      | in-Err w ↦ record {
+        link_then = c.args.link.now;
+        still_open = refl;
+        served =
+            subst (λ l. Serves {P = g.row.P.Denot} g.P.Source.left g.P.Source.taken g.P.Sink.written g.P.Source.faults c.args.desk.0 c.args.pass.view
+            l.pass.view c.args.link.now c.args.link.now l.end) (sym w.left-is)
+            (serves-none g.P.Source.left g.P.Source.taken g.P.Sink.written g.P.Source.faults c.args.desk.0 c.args.pass.view c.args.link.now);
+      }
+    ]
