@@ -14,6 +14,7 @@ use Rattle.book_answers.specs.Answers.{HasText}
 use Rattle.book_answers.specs.Posts.{CountsFailure}
 use Rattle.desk_server.specs.Responses.{response_to}
 use Rattle.desk_server.specs.Responding.{bytes_of}
+use Rattle.desk_server.specs.declared.responding.Response.TheVariants.{Text}
 use Rattle.desk_server.specs.declared.answering.Answered.{Answered}
 use Rattle.desk_server.specs.declared.answering.Answered.TheVariants.{Whole, Untold}
 
@@ -51,6 +52,11 @@ TellsOrLacksMemory answer close bytes = (bytes ≡ response_to answer close) ⊎
 abbrev pub ComesTo : Answered → Bool → List ℕ → Type 0
 ComesTo (Whole response) close bytes = bytes ≡ bytes_of response
 ComesTo (Untold answer) close bytes = TellsOrLacksMemory answer close bytes
+
+-- no sheet is written yet: of a report its answer is left, or that memory was wanting
+abbrev pub WritesNoSheet : Request → Answered → Type 0
+WritesNoSheet (Report query) (Whole (Text text)) = ⊥
+WritesNoSheet request answered = ⊤
 
 -- the request is answered over the book, at this point of its history, whatever bytes the response comes to
 abbrev pub AnswersOnceTold : ℕ → Request → Bool → BookState → BookState → Answered → Type 0

@@ -4,11 +4,10 @@ ghost use Rattle.stock_nums.specs.declared.limits.TheConstants.{MAX_DESK};
 ghost use Rattle.stock_model.specs.Limits.{is_within_limits};
 ghost use Rattle.stock_model.specs.declared.requests.Request.TheVariants as request;
 ghost use Rattle.voucher_json.specs.Requests.{IsWithinLimits};
-ghost use Rattle.desk_server.specs.Answering.{IsOfDesk, TellsNumber, AnswersOnceTold, CanBeTold, ComesTo};
+ghost use Rattle.desk_server.specs.Answering.{IsOfDesk, TellsNumber, AnswersOnceTold, CanBeTold, ComesTo, WritesNoSheet};
 ghost use Rattle.desk_server.specs.Responding.{bytes_of};
 
-use crate::responding::{Response, response_to};
-use book_answers::refusing::told;
+use crate::responding::{Response, acceptance, response_to};
 use book_answers::{posting, reporting};
 use generation_book::book::Book;
 use std::alloc::Global;
@@ -20,6 +19,8 @@ use stock_model::requests::Request;
 use stock_model::vouchers::What;
 use stock_nums::memory::NoMemory;
 use stock_nums::numbers::{DeskNo, RecordNo};
+use turn_lock::logged::Logged;
+use turn_lock::pass::Pass;
 
 /// What a turn at the book leaves to be told. A long text is made when the turn is over, so that nobody waits for it.
 #[derive(Drop)]
@@ -31,14 +32,14 @@ pub enum Answered {
 }
 
 impl Answered {
-    /// The response, or the one for want of memory where it is still to be made.
-    pub fn finish(self, alloc: Global, close: bool) -> Response
+    /// The response, or the one for want of memory where it is still to be made. The desk shows its pass, as it is not in a turn.
+    pub fn finish<B: Logged>(self, alloc: Global, at_rest: &Pass<B>, close: bool) -> Response
         requires { CanBeTold self }
         ensures { ComesTo self close (bytes_of result) }
     {
         match self {
             Answered::Whole(response) => response,
-            Answered::Untold(answer) => response_to(alloc, &answer, close),
+            Answered::Untold(answer) => response_to(alloc, at_rest, &answer, close),
         }
     }
 }
@@ -56,6 +57,7 @@ pub fn respond<K: Keeper>(
     requires of_desk { IsOfDesk request }
     ensures answers { AnswersOnceTold desk.0 request close book.old book.new result }
     ensures told { CanBeTold result }
+    ensures no_sheet { WritesNoSheet request result }
 {
     match request {
         Request::Post(what) => post(alloc, book, desk, what, close),
@@ -78,8 +80,7 @@ fn post<K: Keeper>(
     ensures told { CanBeTold result }
 {
     let next = RecordNo(book.accepted().0.saturating_add(1));
-    let accepted = told(alloc, Reply::Accepted(next));
-    let Response::Text(text) = response_to(alloc, &accepted, close) else {
+    let Response::Text(text) = acceptance(alloc, next, close) else {
         return Answered::Whole(Response::NoMemory { close });
     };
     let Ok(answer) = posting::post(alloc, book, desk, what) else {
@@ -107,6 +108,7 @@ fn number_told(answer: &Answer) -> Option<RecordNo>
 fn report<K: Keeper>(alloc: Global, book: &Book<K>, query: Query, close: bool) -> Answered
     ensures answers { (desk : ℕ) → AnswersOnceTold desk (request.Report query) close book.now book.now result }
     ensures told { CanBeTold result }
+    ensures no_sheet { WritesNoSheet (request.Report query) result }
 {
     match reporting::report(alloc, book, query) {
         Ok(answer) => Answered::Untold(answer),

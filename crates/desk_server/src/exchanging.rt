@@ -18,6 +18,7 @@ use stock_model::requests::Request;
 use stock_nums::memory::NoMemory;
 use stock_nums::numbers::DeskNo;
 use turn_lock::lock::TurnLock;
+use turn_lock::logged::Logged;
 use turn_lock::pass::Pass;
 use voucher_json::reading::read_request;
 
@@ -49,8 +50,8 @@ pub fn exchange<K: Keeper, R: Wait>(
     match read_request(alloc, body, true) {
         Ok(request) => take_turn(rt, alloc, lock, pass, desk, request, close),
         Err(fault) => Exchanged {
+            response: bad_response(alloc, &pass, fault, close),
             pass,
-            response: bad_response(alloc, fault, close),
         },
     }
 }
@@ -79,17 +80,22 @@ fn take_turn<K: Keeper, R: Wait>(
     let answered = respond(alloc, held.book(), desk, request, close);
     let pass = lock.give(held);
     Exchanged {
+        response: answered.finish(alloc, &pass, close),
         pass,
-        response: answered.finish(alloc, close),
     }
 }
 
 // The response to a body that is no request.
-fn bad_response(alloc: Global, fault: ReadFault, close: bool) -> Response
+fn bad_response<B: Logged>(
+    alloc: Global,
+    at_rest: &Pass<B>,
+    fault: ReadFault,
+    close: bool,
+) -> Response
     ensures { TellsFault fault close (bytes_of result) }
 {
     match bad(alloc, fault) {
-        Ok(answer) => response_to(alloc, &answer, close),
+        Ok(answer) => response_to(alloc, at_rest, &answer, close),
         Err(NoMemory) => Response::NoMemory { close },
     }
 }
