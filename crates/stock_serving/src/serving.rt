@@ -11,6 +11,7 @@ ghost use Rattle.desk_service.specs.Listening.{heard};
 ghost use Rattle.desk_service.specs.Service.{IsPeerServed};
 ghost use Rattle.stock_serving.specs.Serving.{summary_text, Settles, Leaves, LeavesKept, IsWritten, ServesOverShelf};
 
+use crate::putting_back::{PutBack, put_back};
 use desk_service::service::{NotServed, Served, serve};
 use generation_book::book::Book;
 use repost_worker::opening::NotOpened;
@@ -92,8 +93,8 @@ pub fn serve_over<
         keeper,
         listener,
     } = serve_kept(rt, alloc, keeper, listener, port, desks);
-    shelf.put_back(keeper);
-    let end = write_summary(summary, output);
+    let back = put_back(shelf, keeper);
+    let end = write_summary(back, summary, output);
     ServiceEnd { end, listener }
 }
 
@@ -247,8 +248,8 @@ fn summary_text<K: Keeper>(alloc: Global, book: &Book<K>) -> Result<String, NoMe
     Ok(text)
 }
 
-// Writes the summary. The end is that of the service where there is none.
-fn write_summary<O: Sink>(summary: Result<String, End>, output: &mut O) -> End
+// Writes the summary, once the keeper is back. The end is that of the service where there is none.
+fn write_summary<O: Sink>(_back: PutBack, summary: Result<String, End>, output: &mut O) -> End
     ensures written { IfOk summary (λ text. IsWritten O.written O.faults result (string_bytes text) output.old output.new) }
     ensures end_kept { IfErr summary (λ end. result ≡ end) }
     ensures nothing_written { OnErr summary (output.new ≡ output.old) }

@@ -30,7 +30,7 @@ returns-clause-serves g c =
     g.O.Sink.written g.O.Sink.faults
     (IsPeerServed g.P.Source.left g.P.Source.taken g.P.Sink.written g.P.Source.faults g.P.Link.ended)
     (IsFresh g.P.Source.taken g.P.Sink.written g.P.Source.faults g.P.Link.ended) c.args.desks
-    c.args.shelf.now c.put_back.new.self opened.keeper served.result.keeper c.args.listener served.result.listener c.args.output.now
+    c.args.shelf.now c.put_back-back.new.shelf opened.keeper served.result.keeper c.args.listener served.result.listener c.args.output.now
     c.write_summary-end.new.output served.result.summary c.write_summary-end.result opened.ensures.tables opened.ensures.fresh
-    opened.ensures.plan opened.ensures.uncalled c.put_back.ensures.tables c.put_back.ensures.plan c.put_back.ensures.kept_faults served.ensures.serves
+    opened.ensures.plan opened.ensures.uncalled c.put_back-back.ensures.tables c.put_back-back.ensures.plan c.put_back-back.ensures.kept_faults served.ensures.serves
     c.write_summary-end.ensures.written c.write_summary-end.ensures.end_kept c.write_summary-end.ensures.nothing_written
