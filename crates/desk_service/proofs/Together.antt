@@ -112,12 +112,12 @@ module _ {P : Type 0} (left : P → Option (List ℕ)) (taken : P → ℕ) (writ
   -- each desk's deeds are what its pass made, and the final history begins with what its pass had seen
   module _ (lock : TableId) (first final : List Deed) (all : List (PassView Deed))
       (made : (k : ℕ) → 0 < k → made_by k (past (with_makers first) (with_makers final)) ≡ made_in k all)
-      (legal : IsLegal final) (law : KeepsSelected) where
+      (legal : IsLegal final) (law : KeepsSelected) (faults_then : ℕ) where
     peer_served : (number : ℕ) (work : Work P) → 0 < number → attends number work.pass work.pass_then work.peer work.peer_then
         → IsNew lock (with_makers first) work.pass → BeginsWith (with_makers final) work.pass_then.view.seen
-        → made_in work.pass_then.view.number all ≡ work.pass_then.view.made
-        → IsPeerServed left taken written faults ended number work.pass_then.view.faults first final work.peer work.peer_then
-    peer_served number work some did new ends is =
+        → made_in work.pass_then.view.number all ≡ work.pass_then.view.made → work.pass_then.view.seen_faults ≤ faults_then
+        → IsPeerServed left taken written faults ended number work.pass_then.view.faults faults_then first final work.peer work.peer_then
+    peer_served number work some did new ends is no_more =
         let own : work.pass_then.view.number ≡ number = ap (λ (v : View Deed). v.number) did.rest ∙ did.number in
         let deeds = made_by number (past (with_makers first) (with_makers final)) in
         let made_is : deeds ≡ work.pass_then.view.made = made number some ∙ ap (λ (k : ℕ). made_in k all) (sym own) ∙ is in
@@ -135,23 +135,26 @@ module _ {P : Type 0} (left : P → Option (List ℕ)) (taken : P → ℕ) (writ
           over = did.over;
           shared = shared;
           keeps = λ exchanges session. exchanges-keep law number final legal first exchanges (shared exchanges session);
-          failed = λ exchanges session below_end. let told = session.failed below_end in omega (arith, told);
+          failed = λ exchanges session below_end. let told = session.failed (omega (arith, no_more, below_end)) in omega (arith, told);
         }
 
     peers_served : (number : ℕ) (works : List (Work P)) → 0 < number → AreAttended attends number works
         → All (λ work. IsNew lock (with_makers first) work.pass) works
         → All (λ work. BeginsWith (with_makers final) work.pass_then.view.seen) works
         → All (λ work. made_in work.pass_then.view.number all ≡ work.pass_then.view.made) works
-        → AreServed (λ desk counted. IsPeerServed left taken written faults ended desk counted first final) number
+        → All (λ work. work.pass_then.view.seen_faults ≤ faults_then) works
+        → AreServed (λ desk counted. IsPeerServed left taken written faults ended desk counted faults_then first final) number
         (map (λ work. work.pass_then.view.faults) works) (map (λ work. work.peer) works) (map (λ work. work.peer_then) works)
-    peers_served number [] some did new ends is = tt
-    peers_served number (work ∷ works) some did new ends is = (
+    peers_served number [] some did new ends is no_more = tt
+    peers_served number (work ∷ works) some did new ends is no_more = (
       peer_served number work some did.0 (All-head (λ (w : Work P). IsNew lock (with_makers first) w.pass) work works new)
           (All-head (λ (w : Work P). BeginsWith (with_makers final) w.pass_then.view.seen) work works ends)
-          (All-head (λ (w : Work P). made_in w.pass_then.view.number all ≡ w.pass_then.view.made) work works is),
+          (All-head (λ (w : Work P). made_in w.pass_then.view.number all ≡ w.pass_then.view.made) work works is)
+          (All-head (λ (w : Work P). w.pass_then.view.seen_faults ≤ faults_then) work works no_more),
       peers_served (number + 1) works (omega arith) did.1 (All-tail (λ (w : Work P). IsNew lock (with_makers first) w.pass) work works new)
           (All-tail (λ (w : Work P). BeginsWith (with_makers final) w.pass_then.view.seen) work works ends)
-          (All-tail (λ (w : Work P). made_in w.pass_then.view.number all ≡ w.pass_then.view.made) work works is),
+          (All-tail (λ (w : Work P). made_in w.pass_then.view.number all ≡ w.pass_then.view.made) work works is)
+          (All-tail (λ (w : Work P). w.pass_then.view.seen_faults ≤ faults_then) work works no_more),
     )
 
   -- pass 0 of a lock round this history was split, and a team went to work
@@ -303,6 +306,9 @@ module _ {P : Type 0} (left : P → Option (List ℕ)) (taken : P → ℕ) (writ
           let is = each_work then (λ (p : PassView Deed). made_in p.view.number passes' ≡ p.view.made) s.unused s.works
           (subst (All (λ (p : PassView Deed). made_in p.view.number passes' ≡ p.view.made)) s.after (found 1 count passes' down))
           in
+          let counts = each_work then (λ (p : PassView Deed). p.view.seen_faults ≤ faults') s.unused s.works
+          (subst (All (λ (p : PassView Deed). p.view.seen_faults ≤ faults')) s.after closed.counted_all)
+          in
           let wanted : length passes ≡ count =
           ap length are ∙ passes_from-length lock (opened (with_makers first) count_of_faults) 1 count
           in
@@ -314,7 +320,7 @@ module _ {P : Type 0} (left : P → Option (List ℕ)) (taken : P → ℕ) (writ
             counts = map (λ w. w.pass_then.view.faults) s.works;
             count = count_is ∙ peers-length ∙ sym (length-map s.works (λ (w : Work P). w.peer));
             came = subst (λ (n : ℕ). Accepts is_fresh n old mid (map (λ (w : Work P). w.peer) s.works)) wanted s.accepted;
-            served = peers_served lock first final passes' made legal law 1 s.works (omega arith) s.attended new_ones.1 ends.1 is.1;
+            served = peers_served lock first final passes' made legal law faults' 1 s.works (omega arith) s.attended new_ones.1 ends.1 is.1 counts.1;
             hung_up = subst (HangsUp mid new) back up;
             grows = grows;
             legal = legal;

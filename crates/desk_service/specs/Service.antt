@@ -14,10 +14,11 @@ use Rattle.desk_server.specs.declared.session.End.{End}
 use Rattle.desk_service.specs.Listening.{Heard, Accepts, HangsUp}
 
 -- The desk with this number served the peer and then ended the connection. Whatever exchanges make its session, they are answered by
--- the one history that all desks share, the ledger keeps the stock of each report among them, and no more of them say that the
--- store failed than its keeper counted faults in its turns, where that count has not come to its end.
+-- the one history that all desks share, and the ledger keeps the stock of each report among them. No more of them say that the
+-- store failed than its keeper counted faults in the desk's turns, where all that the keeper has counted by the end of the service
+-- fits its count.
 pub record IsPeerServed {P : Type 0} (left : P → Option (List ℕ)) (taken : P → ℕ) (written : P → Option (List ℕ)) (faults : P → ℕ)
-    (ended : P → Bool) (desk counted : ℕ) (first final : List Deed) (peer peer' : P) : Type 0 where
+    (ended : P → Bool) (desk counted faults_then : ℕ) (first final : List Deed) (peer peer' : P) : Type 0 where
   pub old : View Deed
   pub new : View Deed
   pub end : End
@@ -26,7 +27,7 @@ pub record IsPeerServed {P : Type 0} (left : P → Option (List ℕ)) (taken : P
   pub over : ended peer' ≡ true
   pub shared : (exchanges : List Exchange) → Session desk old new exchanges → Served desk first final exchanges
   pub keeps : (exchanges : List Exchange) → Session desk old new exchanges → All (λ exchange. ShowsKeptStock exchange.answer) exchanges
-  pub failed : (exchanges : List Exchange) → Session desk old new exchanges → new.seen_faults < 2 ^ 64 - 1
+  pub failed : (exchanges : List Exchange) → Session desk old new exchanges → faults_then < 2 ^ 64 - 1
       → failures exchanges ≤ counted
 
 -- each of these peers was served by its desk, numbered on from this number, with so many faults counted, and left like that
@@ -40,7 +41,7 @@ AreServed serves number _ _ _ = ⊥
 -- history grew by what desks kept and a worker published, and by nothing else, and is legal: each publication covers more records
 -- than the one before, and no more than were accepted. The faults that were counted in the turns of desks are
 -- among those of the keeper.
-pub record IsService {P : Type 0} (serves : ℕ → ℕ → List Deed → List Deed → P → P → Type 0) (is_fresh : P → Type 0)
+pub record IsService {P : Type 0} (serves : ℕ → ℕ → ℕ → List Deed → List Deed → P → P → Type 0) (is_fresh : P → Type 0)
     (wanted accepted : ℕ) (first final : List Deed) (faults faults' : ℕ) (old new : Heard P) : Type 0 where
   pub closed : Heard P
   pub peers : List P
@@ -48,7 +49,7 @@ pub record IsService {P : Type 0} (serves : ℕ → ℕ → List Deed → List D
   pub counts : List ℕ
   pub count : accepted ≡ length peers
   pub came : Accepts is_fresh wanted old closed peers
-  pub served : AreServed (λ desk counted. serves desk counted first final) 1 counts peers peers_then
+  pub served : AreServed (λ desk counted. serves desk counted faults' first final) 1 counts peers peers_then
   pub hung_up : HangsUp closed new peers_then
   pub grows : BeginsWith final first
   pub legal : IsLegal final

@@ -54,6 +54,8 @@ pub fn join_all<B: Logged>(lock: &TurnLock<B>, pass: Pass<B>, mut passes: Vec<Pa
     ensures joined { result.view ≡ joined_all pass.view passes.items }
     ensures saw_own { BeginsWith result.view.seen pass.view.seen }
     ensures saw_all { All (λ other. BeginsWith result.view.seen other.view.seen) passes.items }
+    ensures no_fewer_faults { pass.view.seen_faults ≤ result.view.seen_faults }
+    ensures counted_all { All (λ other. other.view.seen_faults ≤ result.view.seen_faults) passes.items }
 {
     match passes.pop() {
         Some(other) => join_all(lock, lock.join(pass, other), passes),

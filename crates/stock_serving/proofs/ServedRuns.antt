@@ -18,7 +18,7 @@ use Rattle.stock_ends.specs.declared.end.End.{End}
 use Rattle.stock_ends.specs.declared.end.End.TheVariants.{Done, NoMemory, ReadFailed, WriteFailed, TooLong, StoreFailed, ListenFailed, Damaged}
 use Rattle.stock_ends.proofs.Openings.{opened-as, opened-plan, unopened}
 
-module _ {P O : Type 0} (written : O → Option (List ℕ)) (write_faults : O → ℕ) (serves : ℕ → ℕ → List Deed → List Deed → P → P → Type 0)
+module _ {P O : Type 0} (written : O → Option (List ℕ)) (write_faults : O → ℕ) (serves : ℕ → ℕ → ℕ → List Deed → List Deed → P → P → Type 0)
     (is_fresh : P → Type 0) (desks : ℕ) (first last : Pace) (old new : Heard P) (before after : O) where
   -- the end by a summary that was told
   abbrev IsToldBy : End → Type 0
@@ -56,7 +56,7 @@ module _ {P O : Type 0} (written : O → Option (List ℕ)) (write_faults : O �
   told-by (Err e) end leaves wrote is same = subst IsToldBy (sym is) (told-stopped e leaves same)
 
 -- a service over a legal history leaves one
-module _ {P : Type 0} (serves : ℕ → ℕ → List Deed → List Deed → P → P → Type 0) (is_fresh : P → Type 0) (desks : ℕ) (first last : Pace)
+module _ {P : Type 0} (serves : ℕ → ℕ → ℕ → List Deed → List Deed → P → P → Type 0) (is_fresh : P → Type 0) (desks : ℕ) (first last : Pace)
     (old new : Heard P) (legal : IsLegal first.history) where
   stopped-legal : (end : End) → Stops serves is_fresh desks end first last old new → IsLegal last.history
   stopped-legal ListenFailed (inl unheard) = subst (λ (p : Pace). IsLegal p.history) (sym unheard.nothing_kept) legal
@@ -76,7 +76,7 @@ module _ {P : Type 0} (serves : ℕ → ℕ → List Deed → List Deed → P �
 
 module _ {H Kt L P O : Type 0} (kept_tells : Kt → Tables → Type 0) (k_faults : Kt → ℕ) (k_plan : Kt → Option (List ℕ)) (k_calls : Kt → ℕ)
     (tells : H → Tables → Type 0) (plan : H → Option (List ℕ)) (faults kept_faults : H → ℕ) (hears : L → Heard P)
-    (written : O → Option (List ℕ)) (write_faults : O → ℕ) (serves : ℕ → ℕ → List Deed → List Deed → P → P → Type 0) (is_fresh : P → Type 0)
+    (written : O → Option (List ℕ)) (write_faults : O → ℕ) (serves : ℕ → ℕ → ℕ → List Deed → List Deed → P → P → Type 0) (is_fresh : P → Type 0)
     (desks : ℕ) (shelf shelf' : H) (keeper keeper' : Kt) (listener listener' : L) (output output' : O) where
   served-begun : (summary : Result (String Global) End) (end : End)
       → TellSame (tells shelf) (kept_tells keeper) → IfSome (plan shelf) (λ numbers. k_plan keeper ≡ Some numbers)
@@ -143,7 +143,7 @@ module _ {H Kt L P O : Type 0} (kept_tells : Kt → Tables → Type 0) (k_faults
 
 module _ {H Kt L P O : Type 0} (kept_tells : Kt → Tables → Type 0) (tells : H → Tables → Type 0) (plan : H → Option (List ℕ))
     (faults kept_faults : H → ℕ) (hears : L → Heard P) (written : O → Option (List ℕ)) (write_faults : O → ℕ)
-    (serves : ℕ → ℕ → List Deed → List Deed → P → P → Type 0) (is_fresh : P → Type 0) (desks : ℕ) (shelf shelf' : H) (listener listener' : L)
+    (serves : ℕ → ℕ → ℕ → List Deed → List Deed → P → P → Type 0) (is_fresh : P → Type 0) (desks : ℕ) (shelf shelf' : H) (listener listener' : L)
     (output output' : O) where
   abbrev ServesBy : End → Type 0
   ServesBy end =
@@ -194,7 +194,7 @@ unopened-complete kept_tells StoreFailed told plan before after kept (inr failed
 unopened-complete kept_tells ListenFailed told plan before after kept cause shelf keeper = absurd cause
 unopened-complete kept_tells (Damaged damage) told plan before after kept cause shelf keeper = inr (inr refl)
 
-module _ {P O : Type 0} (written : O → Option (List ℕ)) (write_faults : O → ℕ) (serves : ℕ → ℕ → List Deed → List Deed → P → P → Type 0)
+module _ {P O : Type 0} (written : O → Option (List ℕ)) (write_faults : O → ℕ) (serves : ℕ → ℕ → ℕ → List Deed → List Deed → P → P → Type 0)
     (is_fresh : P → Type 0) (desks : ℕ) (first last : Pace) (old new : Heard P) (before after : O) (text : List ℕ) where
   -- one that was served without a fault
   run-complete : (end : End) → ServesTo serves is_fresh desks end first last old new → Tells written write_faults end text before after
@@ -215,7 +215,7 @@ module _ {P O : Type 0} (written : O → Option (List ℕ)) (write_faults : O �
 
 module _ {H Kt L P O : Type 0} (kept_tells : Kt → Tables → Type 0) (tells : H → Tables → Type 0) (plan : H → Option (List ℕ))
     (faults kept_faults : H → ℕ) (hears : L → Heard P) (written : O → Option (List ℕ)) (write_faults : O → ℕ)
-    (serves : ℕ → ℕ → List Deed → List Deed → P → P → Type 0) (is_fresh : P → Type 0) (desks : ℕ) (shelf shelf' : H) (listener listener' : L)
+    (serves : ℕ → ℕ → ℕ → List Deed → List Deed → P → P → Type 0) (is_fresh : P → Type 0) (desks : ℕ) (shelf shelf' : H) (listener listener' : L)
     (output output' : O) where
   -- without a fault it is done, unless memory was wanting or the tables are none of a ledger
   pub served-complete : (end : End)

@@ -30,7 +30,7 @@ unsettled keep.Failed served last refused =
     (refused, rose)
 unsettled keep.NoMemory served last refused = inl refused
 
-module _ {P : Type 0} (serves : ℕ → ℕ → List Deed → List Deed → P → P → Type 0) (is_fresh : P → Type 0) (desks : ℕ) where
+module _ {P : Type 0} (serves : ℕ → ℕ → ℕ → List Deed → List Deed → P → P → Type 0) (is_fresh : P → Type 0) (desks : ℕ) where
   -- the count of the listener did not fall
   pub service-falls : (came : ℕ) (first final : List Deed) (faults faults' : ℕ) (old new : Heard P) → IsService serves is_fresh desks came first final faults faults' old new
       → NeverFalls old.faults new.faults
@@ -107,7 +107,7 @@ module _ {P : Type 0} (serves : ℕ → ℕ → List Deed → List Deed → P �
 
 -- what was begun leaves a summary or none
 module _ {Kt L P : Type 0} (tells : Kt → Tables → Type 0) (faults : Kt → ℕ) (plan : Kt → Option (List ℕ)) (calls : Kt → ℕ)
-    (hears : L → Heard P) (serves : ℕ → ℕ → List Deed → List Deed → P → P → Type 0) (is_fresh : P → Type 0) (desks : ℕ) where
+    (hears : L → Heard P) (serves : ℕ → ℕ → ℕ → List Deed → List Deed → P → P → Type 0) (is_fresh : P → Type 0) (desks : ℕ) where
   pub leaves-begun : (summary : Result (String Global) End) (keeper keeper' : Kt) (listener listener' : L)
       → IsBegun tells faults plan calls (λ first last. Leaves serves is_fresh desks summary first last (hears listener) (hears listener')) keeper keeper'
       → LeavesKept tells faults plan calls hears serves is_fresh desks summary keeper keeper' listener listener'

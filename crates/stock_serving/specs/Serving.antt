@@ -57,7 +57,7 @@ pub record IsUnheard {P : Type 0} (first last : Pace) (old new : Heard P) : Type
   pub nothing_kept : last ≡ first
   pub cause : Rose old.faults new.faults
 
-module _ {P : Type 0} (serves : ℕ → ℕ → List Deed → List Deed → P → P → Type 0) (is_fresh : P → Type 0) (desks : ℕ) where
+module _ {P : Type 0} (serves : ℕ → ℕ → ℕ → List Deed → List Deed → P → P → Type 0) (is_fresh : P → Type 0) (desks : ℕ) where
   -- fewer peers came than were wanted, as the listener failed: those were served, and nothing was settled
   pub record IsCutShort (first last : Pace) (old new : Heard P) : Type 0 where
     pub came : ℕ
@@ -128,7 +128,7 @@ pub record IsBegun {Kt : Type 0} (tells : Kt → Tables → Type 0) (faults : Kt
 
 -- what a service over a keeper leaves: the text of its summary, or the end that it came to without one
 module _ {Kt L P : Type 0} (tells : Kt → Tables → Type 0) (faults : Kt → ℕ) (plan : Kt → Option (List ℕ)) (calls : Kt → ℕ)
-    (hears : L → Heard P) (serves : ℕ → ℕ → List Deed → List Deed → P → P → Type 0) (is_fresh : P → Type 0) (desks : ℕ) where
+    (hears : L → Heard P) (serves : ℕ → ℕ → ℕ → List Deed → List Deed → P → P → Type 0) (is_fresh : P → Type 0) (desks : ℕ) where
   abbrev pub LeavesKept : Result (String Global) End → Kt → Kt → L → L → Type 0
   LeavesKept (Ok text) keeper_before keeper_after listener_before listener_after =
       IsBegun tells faults plan calls (λ first last. Leaves serves is_fresh desks (Ok text) first last (hears listener_before) (hears listener_after))
@@ -140,7 +140,7 @@ module _ {Kt L P : Type 0} (tells : Kt → Tables → Type 0) (faults : Kt → �
 
 module _ {H Kt L P O : Type 0} (kept_tells : Kt → Tables → Type 0) (tells : H → Tables → Type 0) (plan : H → Option (List ℕ))
     (faults kept_faults : H → ℕ) (hears : L → Heard P) (written : O → Option (List ℕ)) (write_faults : O → ℕ)
-    (serves : ℕ → ℕ → List Deed → List Deed → P → P → Type 0) (is_fresh : P → Type 0) (desks : ℕ) where
+    (serves : ℕ → ℕ → ℕ → List Deed → List Deed → P → P → Type 0) (is_fresh : P → Type 0) (desks : ℕ) where
   -- the ledger was opened and served, the keeper that is back on the shelf has the tables of the last history, which is legal, and
   -- the summary of that was told
   pub record IsServedOver (shelf_before shelf_after : H) (listener_before listener_after : L) (output_before output_after : O) (end : End) : Type 0 where

@@ -88,6 +88,7 @@ module _ {B E : Type 0} (history : B → List (ℕ × E)) (faults : B → ℕ) (
               lives = q.lives;
               split_off = q.split_off ∙ sym long;
               saw_both = λ k d lt. let both = q.saw_both k d lt in let j : Joined E = slice_index_or v.joined k d in (begins_through j.kept_seen v.seen new both.0 seen_new, begins_through j.other_seen v.seen new both.1 seen_new);
+              counted_both = λ k d lt. let both = q.counted_both k d lt in (omega (arith, both.0, f.no_more, rises), omega (arith, both.1, f.no_more, rises));
               are_spent = λ k d lt. still_spent s.views id v w _ at lives (q.are_spent k d lt);
               keeps_made = λ k x at'' none. each_set (λ (k : ℕ) (x : View E). x.passes ≡ 0 → (made_by k (past v.first new) ≡ joined_made k v.joined) × (made_by k (past new new) ≡ [])) s.views id w
                   (λ z. let z' : v.passes ≡ 0 = z in absurd (omega arith))
@@ -101,6 +102,7 @@ module _ {B E : Type 0} (history : B → List (ℕ × E)) (faults : B → ℕ) (
               lives = q.lives;
               split_off = q.split_off ∙ sym long;
               saw_both = q.saw_both;
+              counted_both = q.counted_both;
               are_spent = λ k d lt. still_spent s.views id v w _ at lives (q.are_spent k d lt);
               keeps_made = λ k x at'' none. each_set (λ (k : ℕ) (x : View E). x.passes ≡ 0 → (made_by k (past y.first y.seen) ≡ joined_made k y.joined) × (made_by k (past y.seen new) ≡ [])) s.views id w
                   (λ z. let z' : v.passes ≡ 0 = z in absurd (omega arith))

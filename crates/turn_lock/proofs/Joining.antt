@@ -34,6 +34,12 @@ module _ {E : Type 0} where
       (λ lt. (b, begins_between v.seen w.seen log a b (omega arith), begins_self w.seen)) (λ lt. (a, begins_self v.seen, begins_between w.seen v.seen log b a (omega arith)))
       (λ e. (a, begins_self v.seen, begins_between w.seen v.seen log b a (omega arith)))
 
+  -- where who has seen less has counted no more, neither of both has counted more than who has seen the longer history
+  pub longer_counts : (v w : View E) → (length v.seen < length w.seen → v.seen_faults ≤ w.seen_faults) → (length w.seen < length v.seen → w.seen_faults ≤ v.seen_faults)
+      → (v.seen_faults ≤ longer_faults v w) × (w.seen_faults ≤ longer_faults v w)
+  longer_counts v w first second = by_longer (λ _ n. (v.seen_faults ≤ n) × (w.seen_faults ≤ n)) v w
+      (λ less. (first less, omega arith)) (λ less. (omega arith, second less)) (λ _. (omega arith, omega arith))
+
   not_spent : (v u : View E) → u ≡ v → 0 < v.passes → ¬ (u.passes ≡ 0)
   not_spent v u same lives none = let e = ap (λ (x : View E). x.passes) same in omega arith
 
@@ -58,6 +64,7 @@ module _ {B E : Type 0} (history : B → List (ℕ × E)) (faults : B → ℕ) (
       let alone = g.only_zero apart in
       let one : w.passes ≡ 1 = g.counts ∙ ap (λ (l : List (Joined E)). 1 + length l) alone.0 in
       let longer = longer_begins v w r.log f.has_seen g.has_seen in
+      let counts = longer_counts v w (r.later 0 o v w at at_w lives lives_w) (r.later o 0 w v at_w at lives_w lives) in
       let mine = none_in_parts 0 v.seen seen r.log longer.1 longer.0 f.none_past in
       let theirs = none_in_parts o w.seen seen r.log longer.2 longer.0 g.none_past in
       let here : 0 < n = at_below s.views 0 v at in
@@ -109,6 +116,8 @@ module _ {B E : Type 0} (history : B → List (ℕ × E)) (faults : B → ℕ) (
               split_off = q.split_off ∙ sym long;
               saw_both = All-cons (λ (j : Joined E). BeginsWith seen j.kept_seen × BeginsWith seen j.other_seen) (kept_of v w) v.joined (longer.1, longer.2)
                   (λ k d lt. let b = q.saw_both k d lt in let j : Joined E = slice_index_or v.joined k d in (begins_through j.kept_seen v.seen seen b.0 longer.1, begins_through j.other_seen v.seen seen b.1 longer.1));
+              counted_both = All-cons (λ (j : Joined E). (j.kept_seen_faults ≤ longer_faults v w) × (j.other_seen_faults ≤ longer_faults v w)) (kept_of v w) v.joined counts
+                  (λ k d lt. let b = q.counted_both k d lt in (omega (arith, b.0, counts.0), omega (arith, b.1, counts.0)));
               are_spent = All-cons (λ (j : Joined E). (u : View E) × (get_elem? (set (set s.views 0 both) o spent) j.number ≡ some u) × (u.passes ≡ 0)) (kept_of v w) v.joined
                   (spent, subst (λ (k : ℕ). get_elem? (set (set s.views 0 both) o spent) k ≡ some spent) (sym g.numbered) spent_at, refl)
                   (λ k d lt. let gone = q.are_spent k d lt in let m : ℕ = (slice_index_or v.joined k d).number in (

@@ -50,13 +50,14 @@ module _ {E : Type 0} where
   no_turns_spent v e = let P : View E → Type 0 = λ x. all_turns x + tickets x.turn ≤ x.passes * 2 ^ 57 in subst P (sym e) (omega arith)
 
   keeps_last : (views : List (View E)) (v : View E) (js : List (Joined E)) → All (λ (j : Joined E). BeginsWith v.seen j.kept_seen × BeginsWith v.seen j.other_seen) js
+      → All (λ (j : Joined E). (j.kept_seen_faults ≤ v.seen_faults) × (j.other_seen_faults ≤ v.seen_faults)) js
       → All (λ (j : Joined E). (u : View E) × (get_elem? views j.number ≡ some u) × (u.passes ≡ 0)) js
       → ((k : ℕ) (u : View E) → get_elem? views k ≡ some u → u.passes ≡ 0 → made_by k (past v.first v.seen) ≡ joined_made k js) → KeepsLast v js
-  keeps_last views v [] saw gone made = tt
-  keeps_last views v (j ∷ js) saw gone made =
-      let both = saw 0 j (omega arith) in let spent_there = gone 0 j (omega arith) in
+  keeps_last views v [] saw counted gone made = tt
+  keeps_last views v (j ∷ js) saw counted gone made =
+      let both = saw 0 j (omega arith) in let counts = counted 0 j (omega arith) in let spent_there = gone 0 j (omega arith) in
       let m = rw (eq-eqb j.number j.number refl) at (made j.number spent_there.0 spent_there.1 spent_there.2) in
-      (both.0, both.1, m)
+      (both.0, both.1, m, counts.0, counts.1)
 
 module _ {B E : Type 0} (history : B → List (ℕ × E)) (faults : B → ℕ) (about : B) where
   abbrev pub Goes : State (Option B) (View E) → ℕ → ℕ → Me (Option B) (View E) → (ℕ → Me (Option B) (View E) → Type 0) → ℕ → Type 0
@@ -223,6 +224,6 @@ module _ {B E : Type 0} (history : B → List (ℕ × E)) (faults : B → ℕ) (
       let q = r.zero_fits me.0 (subst (λ (k : ℕ). get_elem? s.views k ≡ some me.0) e at) in
       stays s r 0 id me (checked history faults (step n 0 0 0 none) me) at (
         refl,
-        keeps_last s.views me.0 me.0.joined q.saw_both q.are_spent (λ k u at_k none. (q.keeps_made k u at_k none).0),
+        keeps_last s.views me.0 me.0.joined q.saw_both q.counted_both q.are_spent (λ k u at_k none. (q.keeps_made k u at_k none).0),
         subst (λ (x : List (ℕ × E) × ℕ). made_by x.1 (past x.0 me.0.seen) ≡ me.0.made) (λ i. (sym f.began i, sym f.numbered i)) f.own,
       )

@@ -32,7 +32,7 @@ module _ {B E : Type 0} (history : B → List (ℕ × E)) (faults : B → ℕ) (
             record { numbered = refl; began = refl; began_faults = refl; from_first = begins_self log; has_seen = begins_self log; no_more = omega arith; own = ap (made_by 0) (past_self log); none_past = ap (made_by 0) (past_self log); few_turns = omega arith; few_joined = omega arith; in_turn = tt; counts = refl; only_zero = λ ne. absurd (ne refl) } j u at;
         joined_is_spent = λ j u at none. each (λ (k : ℕ) (x : View E). x.passes ≡ 0 → x ≡ spent) (λ z. absurd (omega arith)) j u at none;
         zero_fits = λ u at. each (λ (k : ℕ) (x : View E). FitsZero log (v ∷ []) x)
-            record { lives = omega arith; split_off = refl; saw_both = λ k d lt. absurd (omega arith); are_spent = λ k d lt. absurd (omega arith); keeps_made = λ k x at' none. absurd (each (λ (j : ℕ) (y : View E). ¬ (y.passes ≡ 0)) (λ z. absurd (omega arith)) k x at' none); keeps_others = λ k le. refl } 0 u at;
+            record { lives = omega arith; split_off = refl; saw_both = λ k d lt. absurd (omega arith); counted_both = λ k d lt. absurd (omega arith); are_spent = λ k d lt. absurd (omega arith); keeps_made = λ k x at' none. absurd (each (λ (j : ℕ) (y : View E). ¬ (y.passes ≡ 0)) (λ z. absurd (omega arith)) k x at' none); keeps_others = λ k le. refl } 0 u at;
         apart = λ i j u x t at_i at_j _ _. (one_of v u i at_i).0 ∙ sym (one_of v x j at_j).0;
         later = λ i j u x at_i at_j _ _ less. let same = ap (λ (y : View E). length y.seen) (sym (one_of v u i at_i).1 ∙ (one_of v x j at_j).1) in absurd (omega arith);
         latest = (0, v, refl, omega arith, refl, refl);

@@ -59,6 +59,7 @@ module _ {B E : Type 0} (history : B → List (ℕ × E)) (faults : B → ℕ) (
               lives = q.lives;
               split_off = omega (arith, q.split_off);
               saw_both = q.saw_both;
+              counted_both = q.counted_both;
               are_spent = λ k d lt. let gone = still_spent s.views 0 v left _ at lives (q.are_spent k d lt) in (gone.0, still _ gone.0 gone.1, gone.2);
               keeps_made = λ k x at'' none. each_split (λ (i : ℕ) (y : View E). y.passes ≡ 0 → (made_by i (past v.first v.seen) ≡ joined_made i v.joined) × (made_by i (past v.seen r.log) ≡ [])) s.views v
                   (λ z. let z' : v.passes ≡ 0 = z in absurd (omega arith)) (λ z. absurd (omega arith)) (λ i y ne at3 z. q.keeps_made i y at3 z) k x at'' none;

@@ -72,6 +72,7 @@ module _ {B E : Type 0} (history : B → List (ℕ × E)) (faults : B → ℕ) (
               lives = q.lives;
               split_off = q.split_off ∙ sym long;
               saw_both = q.saw_both;
+              counted_both = q.counted_both;
               are_spent = λ k d lt. still_spent s.views id v w _ at lives (q.are_spent k d lt);
               keeps_made = λ k x at'' none. each_set (λ (k : ℕ) (x : View E). x.passes ≡ 0 → (made_by k (past v.first v.seen) ≡ joined_made k v.joined) × (made_by k (past v.seen r.log) ≡ [])) s.views id w (λ z. let z' : v.passes ≡ 0 = z in absurd (omega arith)) (λ i y ne at3 n. q.keeps_made i y at3 n) k x at'' none;
               keeps_others = λ k le. q.keeps_others k (omega arith);
@@ -80,6 +81,7 @@ module _ {B E : Type 0} (history : B → List (ℕ × E)) (faults : B → ℕ) (
               lives = q.lives;
               split_off = q.split_off ∙ sym long;
               saw_both = q.saw_both;
+              counted_both = q.counted_both;
               are_spent = λ k d lt. still_spent s.views id v w _ at lives (q.are_spent k d lt);
               keeps_made = λ k x at'' none. each_set (λ (k : ℕ) (x : View E). x.passes ≡ 0 → (made_by k (past y.first y.seen) ≡ joined_made k y.joined) × (made_by k (past y.seen r.log) ≡ [])) s.views id w (λ z. let z' : v.passes ≡ 0 = z in absurd (omega arith)) (λ i y ne at3 n. q.keeps_made i y at3 n) k x at'' none;
               keeps_others = λ k le. q.keeps_others k (omega arith);

@@ -54,6 +54,7 @@ pub record FitsZero {E : Type 0} (log : List (ℕ × E)) (views : List (View E))
   pub lives : 0 < v.passes
   pub split_off : v.split + 1 ≡ length views
   pub saw_both : All (λ k. BeginsWith v.seen k.kept_seen × BeginsWith v.seen k.other_seen) v.joined
+  pub counted_both : All (λ k. (k.kept_seen_faults ≤ v.seen_faults) × (k.other_seen_faults ≤ v.seen_faults)) v.joined
   pub are_spent : All (λ k. (u : View E) × (get_elem? views k.number ≡ some u) × (u.passes ≡ 0)) v.joined
   pub keeps_made : (k : ℕ) (u : View E) → get_elem? views k ≡ some u → u.passes ≡ 0 → (made_by k (past v.first v.seen) ≡ joined_made k v.joined) × (made_by k (past v.seen log) ≡ [])
   pub keeps_others : (k : ℕ) → length views ≤ k → joined_made k v.joined ≡ []

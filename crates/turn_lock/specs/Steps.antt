@@ -25,10 +25,12 @@ pub record Learns {E : Type 0} (v : View E) (log : List (ℕ × E)) (count : ℕ
   pub own : made_by v.number (past v.first log) ≡ v.made
   pub none_past : made_by v.number (past v.seen log) ≡ []
 
--- what a pass that was joined last made is all that pass 0 has seen of it past the first history, and what both had seen is the beginning of what pass 0 has seen
+-- what a pass that was joined last made is all that pass 0 has seen of it past the first history, what both had seen is the beginning of what pass 0 has seen,
+-- and neither had seen more faults
 abbrev pub KeepsLast : {E : Type 0} → View E → List (Joined E) → Type 0
 KeepsLast v [] = Unit {0}
 KeepsLast v (j ∷ js) = BeginsWith v.seen j.kept_seen × BeginsWith v.seen j.other_seen × (made_by j.number (past v.first v.seen) ≡ j.made)
+    × (j.kept_seen_faults ≤ v.seen_faults) × (j.other_seen_faults ≤ v.seen_faults)
 
 module _ {B E : Type 0} (history : B → List (ℕ × E)) (faults : B → ℕ) where
   -- a look at the next ticket

@@ -83,7 +83,7 @@ module _ {E : Type 0} where
 
   -- what is kept of the pass w, which is joined into the pass v
   abbrev pub kept_of : View E → View E → Joined E
-  kept_of v w = record { number = w.number; made = w.made; gives = length w.stops; faults = w.faults; kept_seen = v.seen; other_seen = w.seen }
+  kept_of v w = record { number = w.number; made = w.made; gives = length w.stops; faults = w.faults; kept_seen = v.seen; other_seen = w.seen; kept_seen_faults = v.seen_faults; other_seen_faults = w.seen_faults }
 
   -- the pass w is joined into the pass v
   abbrev pub joined_view : View E → View E → View E

@@ -207,6 +207,7 @@ impl<B: Logged> TurnLock<B> {
         ensures same_lock { result.lock ≡ kept.lock }
         ensures joined { result.view ≡ joined_view kept.view other.view }
         ensures saw_both { BeginsWith result.view.seen kept.view.seen × BeginsWith result.view.seen other.view.seen }
+        ensures no_fewer_faults { (kept.view.seen_faults ≤ result.view.seen_faults) × (other.view.seen_faults ≤ result.view.seen_faults) }
         ensures own { made_by 0 (past result.view.first result.view.seen) ≡ result.view.made }
         ensures of_other { made_by other.view.number (past result.view.first result.view.seen) ≡ other.view.made }
     {

@@ -34,9 +34,11 @@ pub struct Joined<E> {
     /// How many turns it had.
     pub gives: u64,
     pub faults: u64,
-    /// What pass 0 and this pass had seen before they were joined.
+    /// The histories and the counts of faults that pass 0 and this pass had seen before they were joined.
     pub kept_seen: LinkedList<(u32, E)>,
     pub other_seen: LinkedList<(u32, E)>,
+    pub kept_seen_faults: u64,
+    pub other_seen_faults: u64,
 }
 
 /// Where a pass stands in its turn.

@@ -1,5 +1,5 @@
 -- The last pass is joined, and then the rest.
-use Rattle.std.proofs.Common.{sym, ap, ◌∙◌, subst}
+use Rattle.std.proofs.Common.{◌≤◌, sym, ap, ◌∙◌, subst, arith}
 use Rattle.std.specs.Prelude.{All}
 use Rattle.turn_lock.specs.Histories.{BeginsWith}
 use Rattle.turn_lock.specs.Passes.{PassView}
@@ -22,3 +22,14 @@ returns-in-Some-clause-saw_all g t c =
     subst (All P) (sym c.in-Some.ensures.items)
     (All-last P rest last c.join_all.ensures.saw_all
     (begins_through last.view.seen c.join.result.view.seen c.join_all.result.view.seen c.join.ensures.saw_both.1 c.join_all.ensures.saw_own))
+
+pub returns-in-Some-clause-no_fewer_faults : goal.returns-in-Some-clause-no_fewer_faults
+returns-in-Some-clause-no_fewer_faults g t c = omega (arith, c.join.ensures.no_fewer_faults.0, c.join_all.ensures.no_fewer_faults)
+
+pub returns-in-Some-clause-counted_all : goal.returns-in-Some-clause-counted_all
+returns-in-Some-clause-counted_all g t c =
+    let rest = c.pop.new.self.items in
+    let P = λ (other : PassView _). other.view.seen_faults ≤ c.join_all.result.view.seen_faults in
+    subst (All P) (sym c.in-Some.ensures.items)
+    (All-last P rest c.in-Some.other c.join_all.ensures.counted_all
+    (omega (arith, c.join.ensures.no_fewer_faults.1, c.join_all.ensures.no_fewer_faults)))

@@ -1,5 +1,5 @@
 -- All passes were joined into pass 0, and the lock ended.
-use Rattle.std.proofs.Common.{◌≡◌, ℕ, ◌+◌, List, length, sym, ap, ◌∙◌, subst, arith}
+use Rattle.std.proofs.Common.{◌≡◌, ℕ, ◌+◌, ◌≤◌, List, length, sym, ap, ◌∙◌, subst, arith}
 use Rattle.std.specs.Prelude.{All}
 use Rattle.stock_model.specs.declared.deeds.Deed.{Deed}
 use Rattle.turn_lock.specs.Histories.{BeginsWith, past, made_by}
@@ -35,6 +35,7 @@ returns-clause-closed g c =
       begins = subst (λ (z : List (ℕ × Deed)). BeginsWith final z) first_is c.close-book.ensures.begins;
       saw_own = subst (λ (z : List (ℕ × Deed)). BeginsWith z view.seen) (sym c.close-book.ensures.seen) c.join_all-pass.ensures.saw_own;
       saw_all = subst (λ (z : List (ℕ × Deed)). All (λ (p : PassView Deed). BeginsWith z p.view.seen) passes) (sym c.close-book.ensures.seen) c.join_all-pass.ensures.saw_all;
+      counted_all = subst (λ (n : ℕ). All (λ (p : PassView Deed). p.view.seen_faults ≤ n) passes) (sym c.close-book.ensures.faults) c.join_all-pass.ensures.counted_all;
       rose =
           ap (λ (n : ℕ). n + all_faults (joined_all view passes)) (sym (joined_all-first_faults view passes))
           ∙ ap (λ (v : View Deed). v.first_faults + all_faults v) (sym joined) ∙ c.close-book.ensures.rose;
