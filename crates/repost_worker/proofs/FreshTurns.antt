@@ -20,10 +20,10 @@ use Rattle.repost_frontier.specs.declared.slot.Slot.{Slot}
 use Rattle.repost_laws.specs.Builds.{Suspects, IsClean}
 use Rattle.repost_laws.specs.Touched.{is_new}
 use Rattle.repost_build.specs.Builds.{IsTurned}
-use Rattle.repost_build.specs.Readings.{suspects_in, target_of, IsUnchanged}
+use Rattle.repost_build.specs.Readings.{suspects_in, target_of, turns_of, IsUnchanged}
 use Rattle.repost_build.specs.declared.build.Build.{Build}
 use Rattle.repost_worker.specs.Turns.{records_of, IsCleanOf, CanFetch, IsFetched, IsTurnTo}
-use Rattle.repost_worker.specs.Runs.{AreTurnsTo}
+use Rattle.repost_worker.specs.Runs.{AreTurnsTo, AreAtWork}
 use Rattle.repost_worker.specs.declared.turn.Turned.{Turned}
 use Rattle.repost_worker.specs.declared.turn.Turned.TheVariants.{Valued, Fetched, Published, Idle}
 use Rattle.repost_worker.proofs.Works.{records-published, covered-published}
@@ -259,3 +259,88 @@ fresh-turns turns history build history' build' low run more =
     inl (record { target = refl; covers = low; needed = refl }) in
     let last = needs-turns n turns history build history' build' (length (filter (is_new n) (posting_line (records history))) + 2) first run in
     omega (arith, last.2, none-needed n history' build' last.0 last.1 more)
+
+-- where no movement is suspect no more than a publication is left to come for what was taken in since
+needed-clean : (n : ℕ) (history : List Deed) (build : Build) (needed : ℕ) → Needs n history build needed → IsCleanOf history build
+    → n < target_of build → needed ≤ 1
+needed-clean n history build needed (inl is) clean more = absurd (omega (arith, is.target, more))
+needed-clean n history build needed (inr (inl is)) clean more =
+    omega (arith, is.needed, waiting-clean n (suspects_in build) (posting_line (records_of history build)) clean)
+needed-clean n history build needed (inr (inr is)) clean more = omega (arith, is.needed)
+
+-- Where they were taken in since, and no movement is suspect any more, there was a fetch, and each of their movements was valued.
+pub valued-turns : (turns : List Turned) (history : List Deed) (build : Build) (history' : List Deed) (build' : Build)
+    → covered history ≤ target_of build → AreTurnsTo turns history build history' build' → IsCleanOf history' build'
+    → target_of build < target_of build'
+    → length (filter (is_new (target_of build)) (posting_line (records history))) + 1 ≤ length turns
+valued-turns turns history build history' build' low run clean more =
+    let n = target_of build in
+    let first : Needs n history build (length (filter (is_new n) (posting_line (records history))) + 2) =
+    inl (record { target = refl; covers = low; needed = refl }) in
+    let last = needs-turns n turns history build history' build' (length (filter (is_new n) (posting_line (records history))) + 2) first run in
+    omega (arith, last.2, needed-clean n history' build' last.0 last.1 clean more)
+
+-- ---- since the last publication
+
+-- nothing was published since the first history; or those turns were made that do not come any more for what is not covered
+pub record IsSince (history : List Deed) (build : Build) : Type 0 where
+  pub needed : ℕ
+  pub needs : Needs (covered history) history build needed
+  pub made : length (filter (is_new (covered history)) (posting_line (records history))) + 2 ≤ needed + turns_of build
+
+abbrev pub IsFirstOrSince : List Deed → List Deed → Build → Type 0
+IsFirstOrSince first history build = (history ≡ first) ⊎ IsSince history build
+
+-- a turn that counts
+since-counted : (first history : List Deed) (build : Build) (turned : Turned) (build' : Build) → IsFirstOrSince first history build
+    → IsTurnTo history build turned history build' → turns_of build' ≡ turns_of build + 1 → IsFirstOrSince first history build'
+since-counted first history build turned build' (inl same) turn one = inl same
+since-counted first history build turned build' (inr since) turn one =
+    let then = needs-turn (covered history) history build turned history build' since.needed since.needs turn in
+    inr (record { needed = then.0; needs = then.1; made = omega (arith, since.made, then.2, one) })
+
+since-published : (first history : List Deed) (n : RecordNo) (build' : Build) → target_of build' ≡ n.0
+    → IsFirstOrSince first (history ++ deed.Published n ∷ []) build'
+since-published first history n build' target =
+    let now : List Deed = history ++ deed.Published n ∷ [] in
+    let is : target_of build' ≡ covered now = target ∙ sym (covered-published history n) in
+    inr (record {
+      needed = length (filter (is_new (covered now)) (posting_line (records now))) + 2;
+      needs = inl (record { target = is; covers = omega arith; needed = refl });
+      made = omega arith;
+    })
+
+since-turn : (first history : List Deed) (build : Build) (turned : Turned) (history' : List Deed) (build' : Build)
+    → IsFirstOrSince first history build → IsTurnTo history build turned history' build' → turned ≢ Idle
+    → IsFirstOrSince first history' build'
+since-turn first history build (Valued place) history' build' since turn more =
+    subst (λ (h : List Deed). IsFirstOrSince first h build') (sym turn.0)
+    (since-counted first history build (Valued place) build' since (refl, turn.1) turn.1.turns)
+since-turn first history build (Fetched n) history' build' since turn more =
+    subst (λ (h : List Deed). IsFirstOrSince first h build') (sym turn.3)
+    (since-counted first history build (Fetched n) build' since (turn.0, turn.1, turn.2, refl, turn.4) turn.4.turns)
+since-turn first history build (Published n) history' build' since turn more =
+    subst (λ (h : List Deed). IsFirstOrSince first h build') (sym turn.4)
+    (since-published first history n build' (turn.5.target ∙ sym turn.3))
+since-turn first history build Idle history' build' since turn more = absurd (more refl)
+
+since-turns : (first : List Deed) (turns : List Turned) (history : List Deed) (build : Build) (history' : List Deed) (build' : Build)
+    → IsFirstOrSince first history build → AreTurnsTo turns history build history' build' → AreAtWork turns
+    → IsFirstOrSince first history' build'
+since-turns first [] history build history' build' since run at_work =
+    subst (λ (h : List Deed). IsFirstOrSince first h build') (sym run.0)
+    (subst (λ (b : Build). IsFirstOrSince first history b) (sym run.1) since)
+since-turns first (turned ∷ turns) history build history' build' since run at_work =
+    since-turns first turns run.0 run.1 history' build'
+    (since-turn first history build turned run.0 run.1 since run.2 (at_work turned (Contains-first turned turns))) run.3
+    (λ t held. at_work t (Contains-later turned turns t held))
+
+-- Where some turns published, and no movement is suspect of more records than are covered, each movement of those was valued since.
+pub valued-since : (turns : List Turned) (history : List Deed) (build : Build) (history' : List Deed) (build' : Build)
+    → AreTurnsTo turns history build history' build' → AreAtWork turns → IsCleanOf history' build' → covered history' < target_of build'
+    → (history' ≡ history) ⊎ (length (filter (is_new (covered history')) (posting_line (records history'))) + 1 ≤ turns_of build')
+valued-since turns history build history' build' run at_work clean more =
+    elim (since-turns history turns history build history' build' (inl refl) run at_work) [
+      | inl same ↦ inl same
+      | inr since ↦ inr (omega (arith, since.made, needed-clean (covered history') history' build' since.needed since.needs clean more))
+    ]

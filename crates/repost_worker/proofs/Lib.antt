@@ -3,9 +3,11 @@ pub mod GatedRuns
 pub mod LockedHistories
 pub mod LockedTurns
 pub mod OpenedBooks
+pub mod OpenedOrder
 pub mod Paces
 pub mod RunLaws
 pub mod Running
+pub mod Settling
 pub mod Stops
 pub mod StoredPosts
 pub mod TurnsAhead

@@ -49,7 +49,7 @@ covered-idle turns before history build history' build' is run =
     ap covered last.3.2 ∙ last.3.1 ∙ sym (ap accepted last.3.2)
 
 -- so it is where as many turns did something as may come
-covered-full : (turns : List Turned) (history : List Deed) (build : Build) (history' : List Deed) (build' : Build)
+pub covered-full : (turns : List Turned) (history : List Deed) (build : Build) (history' : List Deed) (build' : Build)
     → IsWorkOf history build → AreTurnsTo turns history build history' build' → AreAtWork turns
     → 2 * length (posting_line (records history)) + 3 ≤ length turns → covered history' ≡ accepted history'
 covered-full turns history build history' build' work run at_work many =

@@ -22,17 +22,12 @@ use Rattle.repost_laws.proofs.TurnCounts.{AreAhead-turn}
 use Rattle.repost_build.specs.Builds.{IsTurned}
 use Rattle.repost_build.specs.Readings.{found_in, suspects_in, target_of, fetches_of}
 use Rattle.repost_build.specs.declared.build.Build.{Build}
-use Rattle.repost_worker.specs.Turns.{records_of, IsWorkOf, IsCleanOf, CanFetch, IsTurnTo}
+use Rattle.repost_worker.specs.Turns.{records_of, ahead_in, IsWorkOf, IsCleanOf, CanFetch, IsTurnTo}
 use Rattle.repost_worker.specs.Runs.{AreTurnsTo, AreAtWork}
 use Rattle.repost_worker.specs.declared.turn.Turned.{Turned}
 use Rattle.repost_worker.specs.declared.turn.Turned.TheVariants.{Valued, Fetched, Published, Idle}
 use Rattle.repost_worker.specs.declared.turn.TheConstants.{MAX_FETCHES}
 use Rattle.repost_worker.proofs.Works.{records-published, covered-published}
-
--- how many movements of the line there are from the first suspect on
-abbrev pub ahead_in : Suspects → List Entry → ℕ
-ahead_in suspects [] = 0
-ahead_in suspects (e ∷ es) = if suspects e.place then length es + 1 else ahead_in suspects es
 
 -- how many fetches and publications come once no movement is suspect, with the valuations between them
 abbrev pub turns_after : ℕ → ℕ → ℕ → ℕ → ℕ → ℕ
@@ -59,7 +54,7 @@ between-work history build work = record { covered = omega (arith, work.base, wo
 
 -- ---- the movements from the first suspect on
 
-ahead-within : (suspects : Suspects) (line : List Entry) → ahead_in suspects line ≤ length line
+pub ahead-within : (suspects : Suspects) (line : List Entry) → ahead_in suspects line ≤ length line
 ahead-within suspects [] = omega arith
 ahead-within suspects (e ∷ es) =
     elim (suspects e.place) as (λ (b : Bool). cond b (length es + 1) (ahead_in suspects es) ≤ length (e ∷ es))
@@ -110,7 +105,7 @@ ahead-less (f ∷ fs) suspects new_suspects e order held suspect ahead =
     ]
 
 -- so it is after a turn that values the first
-ahead-turned : (journal : List Record) (old new : Build) (place : Place) → IsTurned journal old new place
+pub ahead-turned : (journal : List Record) (old new : Build) (place : Place) → IsTurned journal old new place
     → ahead_in (suspects_in new) (posting_line journal) < ahead_in (suspects_in old) (posting_line journal)
 ahead-turned journal old new place turned =
     ahead-less (posting_line journal) (suspects_in old) (suspects_in new) turned.entry

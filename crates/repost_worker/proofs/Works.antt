@@ -15,7 +15,7 @@ use Rattle.repost_laws.specs.Touched.{is_touched, is_charged_by}
 use Rattle.repost_build.specs.Builds.{IsOf}
 use Rattle.repost_build.specs.Readings.{suspects_in, target_of, fetches_of, turns_of, IsUnchanged}
 use Rattle.repost_build.specs.declared.build.Build.{Build}
-use Rattle.repost_worker.specs.Turns.{records_of, IsWorkOf, IsCleanOf, CanFetch, IsFetched, IsPublished}
+use Rattle.repost_worker.specs.Turns.{records_of, IsWorkOf, IsCleanOf, CanFetch, CanPublish, IsFetched, IsPublished}
 
 -- a new build can work on a book that covers nothing
 pub work-start : (history : List Deed) (build : Build) → IsOf [] build → covered history ≡ 0 → IsWorkOf history build
@@ -55,11 +55,19 @@ module _ (history : List Deed) (old mid : Build) (same : IsUnchanged old mid) wh
       subst (λ (n : ℕ). IsClean (posting_line (take n (records history))) (suspects_in mid)) (sym same.target)
       (subst (λ (slots : List Slot). IsClean (posting_line (records_of history old)) (suspects_of slots)) (sym same.slots) clean)
 
+  pub clean-before : IsCleanOf history mid → IsCleanOf history old
+  clean-before clean =
+      subst (λ (n : ℕ). IsClean (posting_line (take n (records history))) (suspects_in old)) same.target
+      (subst (λ (slots : List Slot). IsClean (posting_line (records_of history mid)) (suspects_of slots)) same.slots clean)
+
   pub can_fetch-still : CanFetch history mid → CanFetch history old
   can_fetch-still can = (omega (arith, can.0, same.target), omega (arith, can.1, same.fetches))
 
   pub can_fetch-then : CanFetch history old → CanFetch history mid
   can_fetch-then can = (omega (arith, can.0, same.target), omega (arith, can.1, same.fetches))
+
+  pub can_publish-still : CanPublish history old → CanPublish history mid
+  can_publish-still can = (clean-still can.0, (λ fetch. can.1 (can_fetch-still fetch)), omega (arith, can.2, same.target))
 
   pub fetched-still : (new : Build) → IsFetched history mid new → IsFetched history old new
   fetched-still new fetched = record {
@@ -92,6 +100,11 @@ pub turns-none : (journal : List Record) (build : Build) → IsOf journal build 
 turns-none journal build of none =
     let bound = subst (λ (f : ℕ). turns_of build ≤ f * (length (posting_line journal) + 1)) none of.built.counted.few.bound in
     omega (arith, bound)
+
+-- a build that is of no more than is covered made none since that was published
+pub turns-at_rest : (history : List Deed) (build : Build) → IsWorkOf history build → target_of build ≡ covered history → turns_of build ≡ 0
+turns-at_rest history build work same =
+    turns-none (records_of history build) build work.of (omega (arith, work.of.fetched, work.base, same))
 
 -- after a publication there are the same records, of which so many are covered
 pub records-published : (history : List Deed) (n : RecordNo) → records (history ++ deed.Published n ∷ []) ≡ records history

@@ -1,5 +1,5 @@
 -- What the opening of a ledger comes to: which records are posted again, which fault is told, and which calls its keeper had.
-use Rattle.std.specs.Prelude.{ℕ, ◌≡◌, ◌⊎◌, ◌+◌, List, [], ◌∷◌, ◌++◌, length, Option, None}
+use Rattle.std.specs.Prelude.{ℕ, ◌≡◌, ◌⊎◌, ◌+◌, List, [], ◌∷◌, ◌++◌, length, take, drop, map, Option, None}
 use Rattle.stock_model.specs.Faults.{fault}
 use Rattle.stock_model.specs.History.{records, accepted}
 use Rattle.stock_model.specs.declared.deeds.Deed.{Deed}
@@ -11,7 +11,7 @@ use Rattle.stock_keeper.specs.declared.fault.KeepFault.TheVariants as keep
 use Rattle.stock_keeper.specs.declared.tables.StoredRecord.{StoredRecord}
 use Rattle.stock_keeper.specs.declared.tables.Tables.{Tables}
 use Rattle.voucher_json.specs.RecordTexts.{record_text}
-use Rattle.kept_tables.specs.Openings.{IsBadRecord, IsBadStored, IsFaultOf}
+use Rattle.kept_tables.specs.Openings.{IsBadRecord, IsBadStored, IsFaultOf, opening}
 use Rattle.kept_tables.specs.declared.open_fault.OpenFault.{OpenFault}
 use Rattle.kept_tables.specs.declared.open_fault.OpenFault.TheVariants.{KeeperFailed, BadStored, NoMemory}
 
@@ -25,6 +25,11 @@ pub record IsPosted (old : List Deed) (kept : StoredRecord) (new : List Deed) : 
   pub sound : fault (records old) item ≡ None
   pub is : kept ≡ stored (record { 0 = accepted old + 1 }) (record_text item)
   pub grows : new ≡ old ++ Kept item ∷ []
+
+-- the history of a ledger that was opened: the first so many of these records were kept and covered, by one publication where
+-- there are some, and then the others were kept
+abbrev pub opened_history : List Record → ℕ → List Deed
+opened_history items covered = opening (take covered items) covered ++ map Kept (drop covered items)
 
 -- memory was wanting, or no record that may come next is kept so
 abbrev pub IsBadNext : List Record → StoredRecord → OpenFault → Type 0

@@ -1,7 +1,9 @@
 -- What turns add to a history, and which calls of its keeper they make.
-use Rattle.std.specs.Prelude.{◌≡◌, ◌++◌, List, Option, Some, None}
+use Rattle.std.specs.Prelude.{◌≡◌, ◌++◌, List, map, Option, Some, None}
 use Rattle.stock_model.specs.Run.{ArePublications}
 use Rattle.stock_model.specs.declared.deeds.Deed.{Deed}
+use Rattle.stock_model.specs.declared.deeds.Deed.TheVariants.{Kept}
+use Rattle.stock_model.specs.declared.records.Record.{Record}
 use Rattle.stock_keeper.specs.Calls.{KeeperState, IsRefused, AreDone}
 use Rattle.stock_keeper.specs.declared.fault.KeepFault.{KeepFault}
 
@@ -18,3 +20,7 @@ pub record Publishes (stopped : Option KeepFault) (old : List Deed) (keeper : Ke
   pub between : KeeperState
   pub done : AreDone more keeper between
   pub last : IsLast stopped between keeper'
+
+-- records alone were kept, and nothing published
+abbrev pub KeepsAlone : List Deed → List Deed → Type 0
+KeepsAlone old new = (items : List Record) × (new ≡ old ++ map Kept items)

@@ -1,5 +1,5 @@
 -- What one turn of the policy does to a book and a build.
-use Rattle.std.specs.Prelude.{ℕ, ◌≡◌, ◌+◌, ◌<◌, ◌≤◌, ◌||◌, List, ◌∷◌, [], ◌++◌, take, drop, Contains, false}
+use Rattle.std.specs.Prelude.{ℕ, ◌≡◌, ◌+◌, ◌<◌, ◌≤◌, ◌||◌, List, ◌∷◌, [], ◌++◌, length, take, drop, Contains, false, if◌then◌else◌}
 use Rattle.stock_nums.specs.declared.entry.Entry.{Entry}
 use Rattle.stock_nums.specs.declared.place.Place.{Place}
 use Rattle.stock_model.specs.History.{records, accepted, covered}
@@ -7,7 +7,7 @@ use Rattle.stock_model.specs.PostingOrder.{posting_line}
 use Rattle.stock_model.specs.declared.deeds.Deed.{Deed}
 use Rattle.stock_model.specs.declared.deeds.Deed.TheVariants as deed
 use Rattle.stock_model.specs.declared.records.Record.{Record}
-use Rattle.repost_laws.specs.Builds.{IsClean}
+use Rattle.repost_laws.specs.Builds.{Suspects, IsClean}
 use Rattle.repost_laws.specs.Touched.{is_touched, is_charged_by}
 use Rattle.repost_build.specs.Builds.{IsOf, IsTurned}
 use Rattle.repost_build.specs.Readings.{found_in, suspects_in, valued_in, base_of, target_of, fetches_of, turns_of, IsUnchanged}
@@ -31,9 +31,18 @@ pub record IsWorkOf (history : List Deed) (build : Build) : Type 0 where
 abbrev pub IsCleanOf : List Deed → Build → Type 0
 IsCleanOf history build = IsClean (posting_line (records_of history build)) (suspects_in build)
 
+-- how many movements of the line there are from the first suspect on
+abbrev pub ahead_in : Suspects → List Entry → ℕ
+ahead_in suspects [] = 0
+ahead_in suspects (e ∷ es) = if suspects e.place then length es + 1 else ahead_in suspects es
+
 -- records wait that the next turn may fetch
 abbrev pub CanFetch : List Deed → Build → Type 0
 CanFetch history build = (target_of build < accepted history) × (fetches_of build < MAX_FETCHES)
+
+-- the next turn publishes: no movement is suspect, no records may be fetched, and the build is of more than is covered
+abbrev pub CanPublish : List Deed → Build → Type 0
+CanPublish history build = IsCleanOf history build × (CanFetch history build → ⊥) × (covered history < target_of build)
 
 -- the build has taken in all records, and what they touch is suspect beside what was
 pub record IsFetched (history : List Deed) (old new : Build) : Type 0 where

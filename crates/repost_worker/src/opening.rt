@@ -1,14 +1,15 @@
 //! A ledger that was kept is opened again.
 ghost use Rattle.std.specs.Prelude.{◌≡◌, ◌≢◌, ◌⊎◌, ◌≤◌, length, OnOk, IfOk, IfErr};
-ghost use Rattle.stock_model.specs.History.{records, accepted, covered, IsLegal};
+ghost use Rattle.stock_model.specs.History.{records, accepted, covered, settled, IsLegal};
 ghost use Rattle.stock_keeper.specs.Calls.{IsDone};
 ghost use Rattle.stock_keeper.specs.Keeping.{Within};
 ghost use Rattle.stock_keeper.specs.Worths.{AreInOrder};
 ghost use Rattle.stock_keeper.specs.declared.tables.Tables.{Tables};
 ghost use Rattle.kept_tables.specs.Openings.{AreStored, IsFaultOf};
 ghost use Rattle.kept_tables.specs.TablesOf.{tables_of};
-ghost use Rattle.repost_worker.specs.Openings.{state_of, IsPosted, IsBadNext, IsUnposted, IsFoundIn, IsAfterFault};
-ghost use Rattle.repost_worker.specs.Paces.{IsInPace};
+ghost use Rattle.repost_worker.specs.Openings.{state_of, opened_history, IsPosted, IsBadNext, IsUnposted, IsFoundIn, IsAfterFault};
+ghost use Rattle.repost_worker.specs.Paces.{IsInPace, IsAtRest, IsSamePace};
+ghost use Rattle.repost_worker.specs.Published.{KeepsAlone};
 
 use crate::revalued_book::RevaluedBook;
 use kept_tables::checking::{check_worths, covered_of, next_record};
@@ -41,6 +42,8 @@ impl<K: Keeper> RevaluedBook<K> {
         requires settled { Within (K.tells keeper) (K.may_leave keeper) }
         ensures opened { IfOk result (λ book. (t : Tables) → K.tells keeper t → t ≡ tables_of book.history) }
         ensures legal { IfOk result (λ book. IsLegal book.history) }
+        ensures order { IfOk result (λ book. book.history ≡ opened_history (records book.history) (covered book.history)) }
+        ensures at_rest { IfOk result IsAtRest }
         ensures in_pace { IfOk result IsInPace }
         ensures done { IfOk result (λ book. IsDone (state_of (K.faults keeper) (K.plan keeper) (K.calls keeper)) book.keeper) }
         ensures fault { IfErr result (λ n. (t : Tables) → K.tells keeper t → IsFaultOf t n.fault) }
@@ -82,6 +85,8 @@ fn opened_from(alloc: Global, tables: &Tables) -> Result<RevaluedBook<Nowhere>, 
     requires in_order { AreInOrder tables.now.worths }
     ensures opened { IfOk result (λ book. tables_of book.history ≡ tables.now) }
     ensures legal { IfOk result (λ book. IsLegal book.history) }
+    ensures order { IfOk result (λ book. book.history ≡ opened_history (records book.history) (covered book.history)) }
+    ensures at_rest { IfOk result IsAtRest }
     ensures in_pace { IfOk result IsInPace }
     ensures fault { IfErr result (IsFoundIn tables.now) }
 {
@@ -106,6 +111,8 @@ fn posted(alloc: Global, tables: &Tables, part: usize) -> Result<RevaluedBook<No
     ensures stored { IfOk result (λ book. AreStored (records book.history) tables.now) }
     ensures all { IfOk result (λ book. accepted book.history ≡ length tables.now.records) }
     ensures covered { IfOk result (λ book. covered book.history ≡ part) }
+    ensures order { IfOk result (λ book. book.history ≡ opened_history (records book.history) (covered book.history)) }
+    ensures at_rest { IfOk result IsAtRest }
     ensures legal { IfOk result (λ book. IsLegal book.history) }
     ensures fault { IfErr result (IsUnposted tables.now) }
 {
@@ -122,9 +129,12 @@ fn posted(alloc: Global, tables: &Tables, part: usize) -> Result<RevaluedBook<No
     Ok(book)
 }
 
-// Revalues over all records that were posted.
+// Revalues over all records that were posted, and publishes them at once.
 fn settle(alloc: Global, book: &mut RevaluedBook<Nowhere>) -> Result<(), NoMemory>
+    requires at_rest { IsAtRest book.old }
     requires legal { IsLegal book.old.history }
+    ensures history { OnOk result (book.new.history ≡ settled book.old.history) }
+    ensures at_rest { OnOk result (IsAtRest book.new) }
     ensures records { OnOk result (records book.new.history ≡ records book.old.history) }
     ensures covered { OnOk result (covered book.new.history ≡ accepted book.old.history) }
     ensures legal { OnOk result (IsLegal book.new.history) }
@@ -152,6 +162,8 @@ fn post_between(
     ensures stored { OnOk result (AreStored (records book.new.history) tables.now) }
     ensures all { OnOk result (accepted book.new.history ≡ end) }
     ensures covered { OnOk result (covered book.new.history ≡ covered book.old.history) }
+    ensures kept { OnOk result (KeepsAlone book.old.history book.new.history) }
+    ensures pace { OnOk result (IsSamePace book.old book.new) }
     ensures legal { OnOk result (IsLegal book.new.history) }
     ensures fault { IfErr result (IsUnposted tables.now) }
 {
@@ -171,6 +183,7 @@ fn post_stored(
     kept: &StoredRecord,
 ) -> Result<(), OpenFault>
     ensures posted { OnOk result (IsPosted book.old.history kept.now book.new.history) }
+    ensures pace { OnOk result (IsSamePace book.old book.new) }
     ensures legal { OnOk result (IsLegal book.new.history) }
     ensures fault { IfErr result (IsBadNext (records book.old.history) kept.now) }
 {

@@ -5,8 +5,9 @@ ghost use Rattle.stock_model.specs.Faults.{fault};
 ghost use Rattle.stock_model.specs.History as history;
 ghost use Rattle.stock_keeper.specs.Calls.{IsDone};
 ghost use Rattle.kept_tables.specs.Kept.{IsKept};
+ghost use Rattle.repost_build.specs.Readings.{target_of};
 ghost use Rattle.generation_book.specs.Refusals.{IsRefusalOf, IsAfterRefusal};
-ghost use Rattle.repost_worker.specs.Paces.{pace_of, first_pace, IsInPace, IsSamePace, WorksInPace};
+ghost use Rattle.repost_worker.specs.Paces.{pace_of, first_pace, IsInPace, IsSamePace, WorksInPace, StopsInPace};
 ghost use Rattle.repost_worker.specs.Published.{Publishes};
 ghost use Rattle.repost_worker.specs.Turns.{IsWorkOf};
 
@@ -128,8 +129,13 @@ impl<K: Keeper> RevaluedBook<K> {
         ensures publishes { Publishes result.stopped self.old.history self.old.keeper self.new.history self.new.keeper }
         ensures covered { result.covered.0 ≡ history.covered self.new.history }
         ensures pace { IfSome turns (λ n. result.stopped ≡ None → WorksInPace self.old n self.new) }
+        ensures stops { IfSome result.stopped (λ fault. StopsInPace fault self.old turns self.new) }
         ensures in_pace { IsInPace self.new }
         ensures all { turns ≡ None → result.stopped ≡ None → history.covered self.new.history ≡ history.accepted self.new.history }
+
+        // Where no record had been taken in that was not covered, all that wait are published at once.
+        ensures once { turns ≡ None → result.stopped ≡ None → self.old.known ≡ history.covered self.old.history
+            → self.new.history ≡ history.settled self.old.history }
         ensures legal { history.IsLegal self.old.history → history.IsLegal self.new.history }
     {
         counted::<K, Brand>(alloc, &mut self.book, &mut self.build, turns, Blank::new(1))
@@ -151,10 +157,13 @@ fn counted<K: Keeper, L: Ledger>(
     requires some { IfSome turns (λ n. 0 < n) }
     ensures work { IsWorkOf book.new.history build.new }
     ensures pace { IfSome turns (λ n. result.stopped ≡ None → WorksInPace (pace_of book.old build.old) n (pace_of book.new build.new)) }
+    ensures stops { IfSome result.stopped (λ fault. StopsInPace fault (pace_of book.old build.old) turns (pace_of book.new build.new)) }
     ensures in_pace { IsInPace (pace_of book.new build.new) }
     ensures publishes { Publishes result.stopped book.old.history book.old.keeper book.new.history book.new.keeper }
     ensures covered { result.covered.0 ≡ history.covered book.new.history }
     ensures all { turns ≡ None → result.stopped ≡ None → history.covered book.new.history ≡ history.accepted book.new.history }
+    ensures once { turns ≡ None → result.stopped ≡ None → target_of build.old ≡ history.covered book.old.history
+        → book.new.history ≡ history.settled book.old.history }
     ensures legal { history.IsLegal book.old.history → history.IsLegal book.new.history }
 {
     let mut steps = Steps::<L>::new(blank);

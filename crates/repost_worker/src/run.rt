@@ -1,11 +1,11 @@
 //! Runs of turns.
-ghost use Rattle.std.specs.Prelude.{◌≡◌, ◌-◌, ◌<◌, ◌↔◌, IsTrue, IfSome};
+ghost use Rattle.std.specs.Prelude.{◌≡◌, ◌-◌, ◌<◌, ◌↔◌, IsTrue, IfSome, IfErr};
 ghost use Rattle.std.specs.Option.{option_map};
 ghost use Rattle.std.specs.Result.{result_err};
 ghost use Rattle.stock_model.specs.History as history;
 ghost use Rattle.repost_worker.specs.Published.{Publishes};
 ghost use Rattle.repost_worker.specs.Runs.{IsRun};
-ghost use Rattle.repost_worker.specs.Turns.{IsWorkOf};
+ghost use Rattle.repost_worker.specs.Turns.{IsWorkOf, CanPublish};
 
 use crate::turn::turn_on;
 use generation_book::book::Book;
@@ -40,6 +40,7 @@ pub fn run_turns<K: Keeper, L: Ledger>(
     ensures work { IsWorkOf book.new.history build.new }
     ensures run { IsRun limit result.stopped book.old.history build.old steps.old book.new.history build.new steps.new }
     ensures publishes { Publishes result.stopped book.old.history book.old.keeper book.new.history book.new.keeper }
+    ensures due { IfSome result.stopped (λ fault. fault ≡ KeepFault.Failed → CanPublish book.new.history build.new) }
     ensures covered { result.covered.0 ≡ history.covered book.new.history }
 {
     let made = make_turns(alloc, book, build, limit, steps);
@@ -61,6 +62,7 @@ fn make_turns<K: Keeper, L: Ledger>(
     ensures work { IsWorkOf book.new.history build.new }
     ensures run { IsRun limit (result_err result) book.old.history build.old steps.old book.new.history build.new steps.new }
     ensures publishes { Publishes (result_err result) book.old.history book.old.keeper book.new.history book.new.keeper }
+    ensures due { IfErr result (λ fault. fault ≡ KeepFault.Failed → CanPublish book.new.history build.new) }
 {
     let mut left = limit;
     while is_one_left(left) {

@@ -5,7 +5,7 @@ ghost use Rattle.stock_model.specs.declared.deeds.Deed.TheVariants as deed;
 ghost use Rattle.stock_model.specs.declared.records.Record.{Record};
 ghost use Rattle.stock_keeper.specs.Calls.{IsDone, IsRefused, AreDone};
 ghost use Rattle.repost_build.specs.Readings.{target_of, IsUnchanged};
-ghost use Rattle.repost_worker.specs.Turns.{IsWorkOf, IsCleanOf, CanFetch, IsFetched, IsPublished, IsTurnTo, publications, valuations};
+ghost use Rattle.repost_worker.specs.Turns.{IsWorkOf, IsCleanOf, CanFetch, CanPublish, IsFetched, IsPublished, IsTurnTo, publications, valuations};
 
 use generation_book::book::Book;
 use repost_build::build::Build;
@@ -62,6 +62,7 @@ pub fn turn_on<K: Keeper, L: Ledger>(
     ensures steps { IfOk result (λ turned. steps.new ≡ steps.old + valuations turned) }
     ensures done { IfOk result (λ turned. AreDone (publications turned) book.old.keeper book.new.keeper) }
     ensures refused { IfErr result (λ fault. IsRefused fault book.old.keeper book.new.keeper) }
+    ensures due { IfErr result (λ fault. fault ≡ KeepFault.Failed → CanPublish book.old.history build.old) }
     ensures book_stays { OnErr result (book.new.history ≡ book.old.history) }
     ensures build_stays { OnErr result (IsUnchanged build.old build.new) }
     ensures no_steps { OnErr result (steps.new ≡ steps.old) }
@@ -84,6 +85,7 @@ fn turn_of<K: Keeper, L: Ledger>(
     ensures steps { IfOk result (λ turned. steps.new ≡ steps.old + valuations turned) }
     ensures done { IfOk result (λ turned. AreDone (publications turned) book.old.keeper book.new.keeper) }
     ensures refused { IfErr result (λ fault. IsRefused fault book.old.keeper book.new.keeper) }
+    ensures due { IfErr result (λ fault. fault ≡ KeepFault.Failed → CanPublish book.old.history build.old) }
     ensures book_stays { OnErr result (book.new.history ≡ book.old.history) }
     ensures build_stays { OnErr result (IsUnchanged build.old build.new) }
     ensures no_steps { OnErr result (steps.new ≡ steps.old) }

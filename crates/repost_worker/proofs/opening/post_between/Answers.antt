@@ -3,8 +3,19 @@ use Rattle.std.proofs.Common.{◌≡◌, ◌<◌, ◌+◌, ℕ, List, length, So
 use Rattle.std.proofs.lemmas.Option.{slice_get_read}
 use Rattle.stock_model.specs.History.{records, accepted}
 use Rattle.stock_keeper.specs.declared.tables.StoredRecord.{StoredRecord}
+use Rattle.repost_worker.proofs.OpenedOrder.{keeps-none, keeps-more}
 use Rattle.repost_worker.proofs.StoredPosts.{accepted-posted, covered-posted, stored-posted, unposted-bad}
 use Rattle.repost_worker.proofs.opening.post_between.Goals as goal
+
+pub loop-index-init : goal.loop-index-init
+loop-index-init c = record {
+  stored = c.requires.stored;
+  at = c.requires.before;
+  covered = refl;
+  kept = keeps-none c.args.book.now.history;
+  pace = record { known = refl; turns = refl };
+  legal = c.requires.legal;
+}
 
 pub loop-index-preserved : goal.loop-index-preserved
 loop-index-preserved c =
@@ -25,6 +36,12 @@ loop-index-preserved c =
       stored = stored-posted old new one c.in_default.ensures.posted c.args.tables.now held.stored found;
       at = accepted-posted old new one c.in_default.ensures.posted ∙ ap (λ (n : ℕ). n + 1) held.at;
       covered = covered-posted old new one c.in_default.ensures.posted ∙ held.covered;
+      kept =
+          keeps-more c.args.book.now.history old new c.in_default.ensures.posted.item held.kept c.in_default.ensures.posted.grows;
+      pace = record {
+        known = c.in_default.ensures.pace.known ∙ held.pace.known;
+        turns = c.in_default.ensures.pace.turns ∙ held.pace.turns;
+      };
       legal = c.in_default.ensures.legal;
     }
 

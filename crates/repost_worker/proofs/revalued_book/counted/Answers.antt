@@ -3,7 +3,8 @@ use Rattle.std.proofs.Common.{ℕ, Option, None, subst}
 use Rattle.stock_keeper.specs.declared.fault.KeepFault.{KeepFault}
 use Rattle.repost_worker.specs.Runs.{IsRun}
 use Rattle.repost_worker.proofs.RunLaws.{covered-run}
-use Rattle.repost_worker.proofs.Paces.{in_pace-work, in_pace-limit}
+use Rattle.repost_worker.proofs.Paces.{in_pace-work, in_pace-limit, stops-limit}
+use Rattle.repost_worker.proofs.Settling.{settled-run}
 use Rattle.repost_worker.proofs.Working.{turns-legal}
 use Rattle.repost_worker.proofs.revalued_book.counted.Goals as goal
 
@@ -29,3 +30,18 @@ returns-clause-pace g c =
 
 pub returns-clause-in_pace : goal.returns-clause-in_pace
 returns-clause-in_pace g c = in_pace-work c.run_turns.new.book c.run_turns.new.build c.run_turns.ensures.work
+
+pub returns-clause-stops : goal.returns-clause-stops
+returns-clause-stops g c =
+    stops-limit c.run_turns.result.stopped c.args.turns c.args.book.now c.run_turns.new.book c.args.build.now
+    c.run_turns.new.build c.new-steps.result c.run_turns.new.steps c.requires.work c.run_turns.ensures.run c.run_turns.ensures.due
+
+pub returns-clause-once : goal.returns-clause-once
+returns-clause-once g c all done same =
+    let run = c.run_turns.ensures.run in
+    settled-run c.args.book.now.history c.run_turns.new.book.history c.args.build.now c.run_turns.new.build c.new-steps.result
+    c.run_turns.new.steps same
+    (subst (λ (stopped : Option KeepFault). IsRun None stopped c.args.book.now.history c.args.build.now c.new-steps.result
+    c.run_turns.new.book.history c.run_turns.new.build c.run_turns.new.steps) done
+    (subst (λ (limit : Option ℕ). IsRun limit c.run_turns.result.stopped c.args.book.now.history c.args.build.now c.new-steps.result
+    c.run_turns.new.book.history c.run_turns.new.build c.run_turns.new.steps) all run))

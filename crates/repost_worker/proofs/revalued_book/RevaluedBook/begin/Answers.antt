@@ -1,7 +1,9 @@
 -- The keeper of the opened history, or the fault of what it told.
-use Rattle.std.proofs.Common.{subst}
+use Rattle.std.proofs.Common.{◌≡◌, List, sym, ap, ◌∙◌, subst}
+use Rattle.stock_model.specs.History.{records, covered}
+use Rattle.stock_model.specs.declared.deeds.Deed.{Deed}
 use Rattle.stock_keeper.specs.declared.tables.Tables.{Tables}
-use Rattle.repost_worker.specs.Openings.{IsFoundIn}
+use Rattle.repost_worker.specs.Openings.{opened_history, IsFoundIn}
 use Rattle.repost_worker.proofs.OpenedBooks.{fault-found, kept-opened}
 use Rattle.repost_worker.proofs.revalued_book.RevaluedBook.begin.Goals as goal
 
@@ -18,3 +20,16 @@ returns-in-Err-opened_from-clause-fault g c t tells =
     let told = c.in-Err-opened_from.fault in
     fault-found t told
     (subst (λ (ts : Tables). IsFoundIn ts told) (c.in-Ok.ensures.tables t tells) c.in-Err-opened_from.ensures.fault)
+
+pub returns-clause-order : goal.returns-clause-order
+returns-clause-order g c =
+    subst (λ (h : List Deed). h ≡ opened_history (records h) (covered h)) (sym c.with_keeper.ensures.history)
+    c.in-Ok-opened_from.ensures.order
+
+pub returns-clause-at_rest : goal.returns-clause-at_rest
+returns-clause-at_rest g c =
+    let rest = c.in-Ok-opened_from.ensures.at_rest in
+    record {
+      known = c.with_keeper.ensures.pace.known ∙ rest.known ∙ sym (ap covered c.with_keeper.ensures.history);
+      turns = c.with_keeper.ensures.pace.turns ∙ rest.turns;
+    }
