@@ -1,3 +1,4 @@
+pub mod FewTurns
 pub mod FreshTurns
 pub mod GatedRuns
 pub mod LockedHistories

@@ -1,17 +1,19 @@
 -- A worker's run over a book that threads share: one turn after another, as long as a gate lets it go on.
 use Rattle.std.specs.Prelude.{ℕ, ◌≡◌, ◌⊎◌, ◌+◌, ◌^◌, ◌<◌, ◌≤◌, List, [], ◌∷◌, ◌++◌, length, map, sum_by, Option, Result, Ok, Err}
 use Rattle.std.specs.Option.{option_map}
+use Rattle.stock_model.specs.PostingOrder.{posting_line}
 use Rattle.stock_model.specs.declared.deeds.Deed.{Deed}
 use Rattle.stock_keeper.specs.declared.fault.KeepFault.{KeepFault}
 use Rattle.turn_lock.specs.declared.view.View.{View}
-use Rattle.repost_build.specs.Readings.{IsUnchanged}
+use Rattle.session_laws.specs.Makers.{without_makers}
+use Rattle.repost_build.specs.Readings.{suspects_in, IsUnchanged}
 use Rattle.repost_build.specs.declared.build.Build.{Build}
 use Rattle.repost_worker.specs.LockedTurns.{IsLockedTurn, IsRefusedTurn}
-use Rattle.repost_worker.specs.Turns.{valuations}
+use Rattle.repost_worker.specs.Turns.{records_of, ahead_in, valuations}
 use Rattle.repost_worker.specs.declared.gate.Go.{Go}
 use Rattle.repost_worker.specs.declared.gate.Go.TheVariants.{Work, Stop}
 use Rattle.repost_worker.specs.declared.turn.Turned.{Turned}
-use Rattle.repost_worker.specs.declared.turn.Turned.TheVariants.{Idle}
+use Rattle.repost_worker.specs.declared.turn.Turned.TheVariants.{Valued, Fetched, Published, Idle}
 
 -- one turn under the lock, which came to this, or was refused so
 abbrev pub IsTurnWith : View Deed → Build → Result Turned KeepFault → View Deed → Build → Type 0
@@ -29,6 +31,37 @@ AreTurnsWith (result ∷ results) old build new build' =
 abbrev pub valuations_with : Result Turned KeepFault → ℕ
 valuations_with (Ok turned) = valuations turned
 valuations_with (Err fault) = 0
+
+-- one where the turn did something, and none where it was idle or refused
+abbrev pub turns_with : Result Turned KeepFault → ℕ
+turns_with (Ok (Valued place)) = 1
+turns_with (Ok (Fetched n)) = 1
+turns_with (Ok (Published n)) = 1
+turns_with (Ok Idle) = 0
+turns_with (Err fault) = 0
+
+-- the turn published nothing
+abbrev pub PublishesNothing : Result Turned KeepFault → Type 0
+PublishesNothing (Ok (Valued place)) = Unit {0}
+PublishesNothing (Ok (Fetched n)) = Unit {0}
+PublishesNothing (Ok (Published n)) = ⊥
+PublishesNothing (Ok Idle) = Unit {0}
+PublishesNothing (Err fault) = Unit {0}
+
+-- it neither published nor fetched
+abbrev pub StaysWithBuild : Result Turned KeepFault → Type 0
+StaysWithBuild (Ok (Valued place)) = Unit {0}
+StaysWithBuild (Ok (Fetched n)) = ⊥
+StaysWithBuild (Ok (Published n)) = ⊥
+StaysWithBuild (Ok Idle) = Unit {0}
+StaysWithBuild (Err fault) = Unit {0}
+
+-- how many movements the records make that the build is of, and how many of them come from the first suspect on
+abbrev pub movements_in : View Deed → Build → ℕ
+movements_in view build = length (posting_line (records_of (without_makers view.seen) build))
+
+abbrev pub movements_ahead : View Deed → Build → ℕ
+movements_ahead view build = ahead_in (suspects_in build) (posting_line (records_of (without_makers view.seen) build))
 
 -- what a gate was given and what it answered
 abbrev pub Answers : Type 0
