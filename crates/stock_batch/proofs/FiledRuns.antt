@@ -34,7 +34,7 @@ module _ {H Kt S O : Type 0} (kept_tells : Kt → Tables → Type 0) (k_faults :
         last = run.last;
         opened =
             opened-as kept_tells keeper (tells shelf) (plan shelf) (k_plan keeper) (k_faults keeper) (k_calls keeper) run.first same planned
-            uncalled run.tables run.legal run.begun;
+            uncalled run.tables run.legal run.order run.at_rest run.begun;
         put_back = record {
           tables = λ t told. run.kept t (back t told);
           plan_is = opened-plan (plan shelf') (k_plan keeper') run.last.keeper.plan plans (sym run.plan_is);

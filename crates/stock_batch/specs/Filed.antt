@@ -1,12 +1,12 @@
 -- A batch over the ledger that a shelf has at a path.
 use Rattle.std.specs.Prelude.{◌≡◌, ◌⊎◌, ℕ, Option, List}
-use Rattle.stock_model.specs.History.{IsLegal}
+use Rattle.stock_model.specs.History.{records, covered, IsLegal}
 use Rattle.stock_keeper.specs.Calls.{IsDone}
 use Rattle.stock_keeper.specs.Keeping.{Within}
 use Rattle.stock_keeper.specs.declared.tables.Tables.{Tables}
 use Rattle.kept_tables.specs.TablesOf.{tables_of}
-use Rattle.repost_worker.specs.Openings.{state_of}
-use Rattle.repost_worker.specs.Paces.{Pace}
+use Rattle.repost_worker.specs.Openings.{state_of, opened_history}
+use Rattle.repost_worker.specs.Paces.{Pace, IsAtRest}
 use Rattle.stock_ends.specs.Openings.{IsUnbegunFor, IsOpenedAs, IsPutBack, IsNotOpened}
 use Rattle.stock_ends.specs.declared.end.End.{End}
 use Rattle.stock_batch.specs.Ran.{Ran}
@@ -21,7 +21,8 @@ pub record IsUnbegun {Kt S O : Type 0} (tells : Kt → Tables → Type 0) (fault
   pub cause : IsUnbegunFor end (tells keeper_before) (state_of (faults keeper_before) (plan keeper_before) (calls keeper_before))
       (state_of (faults keeper_after) (plan keeper_after) (calls keeper_after))
 
--- or the lines were answered, from the history that its tables are of to the one that they are of then
+-- or the lines were answered, from the history that its tables are of to the one that they are of then; the worker began with what
+-- was covered and no turn
 pub record IsRunKept {Kt S O : Type 0} (tells : Kt → Tables → Type 0) (faults : Kt → ℕ) (plan : Kt → Option (List ℕ)) (calls : Kt → ℕ)
     (left : S → Option (List ℕ)) (taken read_faults : S → ℕ) (written : O → Option (List ℕ)) (write_faults : O → ℕ)
     (keeper_before keeper_after : Kt) (input_before input_after : S) (output_before output_after : O) (end : End) : Type 0 where
@@ -29,6 +30,8 @@ pub record IsRunKept {Kt S O : Type 0} (tells : Kt → Tables → Type 0) (fault
   pub last : Pace
   pub tables : (t : Tables) → tells keeper_before t → t ≡ tables_of first.history
   pub legal : IsLegal first.history
+  pub order : first.history ≡ opened_history (records first.history) (covered first.history)
+  pub at_rest : IsAtRest first
   pub begun : IsDone (state_of (faults keeper_before) (plan keeper_before) (calls keeper_before)) first.keeper
   pub kept : (t : Tables) → tells keeper_after t → t ≡ tables_of last.history
   pub plan_is : plan keeper_after ≡ last.keeper.plan

@@ -2,15 +2,15 @@
 use Rattle.std.specs.Prelude.{Contains}
 use Rattle.std.proofs.Common.{◌≡◌, ℕ, List, Option, Some, None, IfSome, OnSome, inl, inr, refl, sym, ap, ◌∙◌, subst, arith}
 use Rattle.stock_io.specs.Counts.{Rose, raised}
-use Rattle.stock_model.specs.History.{IsLegal}
+use Rattle.stock_model.specs.History.{records, covered, IsLegal}
 use Rattle.stock_keeper.specs.Calls.{KeeperState, IsDone}
 use Rattle.stock_keeper.specs.Keeping.{TellSame}
 use Rattle.stock_keeper.specs.declared.fault.KeepFault.{KeepFault}
 use Rattle.stock_keeper.specs.declared.fault.KeepFault.TheVariants as keep
 use Rattle.stock_keeper.specs.declared.tables.Tables.{Tables}
 use Rattle.kept_tables.specs.TablesOf.{tables_of}
-use Rattle.repost_worker.specs.Openings.{state_of}
-use Rattle.repost_worker.specs.Paces.{Pace}
+use Rattle.repost_worker.specs.Openings.{state_of, opened_history}
+use Rattle.repost_worker.specs.Paces.{Pace, IsAtRest}
 use Rattle.stock_ends.specs.Openings.{end_of_refusal, HasFirst, IsUnopened, IsUnbegunFor, IsOpenedAs}
 use Rattle.stock_ends.specs.declared.end.End.{End}
 use Rattle.stock_ends.specs.declared.end.End.TheVariants.{Done, NoMemory, ReadFailed, WriteFailed, TooLong, StoreFailed, ListenFailed, Damaged}
@@ -32,13 +32,16 @@ opened-calls (Some numbers) kept before after plan none counted =
 pub opened-as : {Kt : Type 0} (kept_tells : Kt → Tables → Type 0) (keeper : Kt) (told : Tables → Type 0) (plan kept_plan : Option (List ℕ))
     (faults calls : ℕ) (first : Pace) → TellSame told (kept_tells keeper) → IfSome plan (λ numbers. kept_plan ≡ Some numbers)
     → OnSome plan (calls ≡ 0) → ((t : Tables) → kept_tells keeper t → t ≡ tables_of first.history) → IsLegal first.history
+    → first.history ≡ opened_history (records first.history) (covered first.history) → IsAtRest first
     → IsDone (state_of faults kept_plan calls) first.keeper → IsOpenedAs kept_tells told plan first
-opened-as kept_tells keeper told plan kept_plan faults calls first same planned uncalled tables legal begun =
+opened-as kept_tells keeper told plan kept_plan faults calls first same planned uncalled tables legal order at_rest begun =
     record {
       kept = keeper;
       same = same;
       tables = tables;
       legal = legal;
+      order = order;
+      at_rest = at_rest;
       plan_is = opened-plan plan kept_plan first.keeper.plan planned begun.count.plan_kept;
       calls = opened-calls plan kept_plan calls first.keeper.calls planned uncalled begun.count.counted;
     }

@@ -1,7 +1,7 @@
 -- How the ledger that a shelf has at a path is opened, or why it is not, and how it is put back.
 use Rattle.std.specs.Prelude.{◌≡◌, ◌⊎◌, ℕ, Option, Some, List, IfSome, Contains}
 use Rattle.stock_io.specs.Counts.{Rose}
-use Rattle.stock_model.specs.History.{IsLegal}
+use Rattle.stock_model.specs.History.{records, covered, IsLegal}
 use Rattle.stock_keeper.specs.Calls.{KeeperState, IsFailed}
 use Rattle.stock_keeper.specs.Keeping.{Within, TellSame}
 use Rattle.stock_keeper.specs.declared.fault.KeepFault.{KeepFault}
@@ -10,7 +10,8 @@ use Rattle.stock_keeper.specs.declared.tables.Tables.{Tables}
 use Rattle.kept_tables.specs.TablesOf.{tables_of}
 use Rattle.kept_tables.specs.declared.open_fault.OpenFault.{OpenFault}
 use Rattle.kept_tables.specs.declared.open_fault.OpenFault.TheVariants as open_fault
-use Rattle.repost_worker.specs.Paces.{Pace}
+use Rattle.repost_worker.specs.Openings.{opened_history}
+use Rattle.repost_worker.specs.Paces.{Pace, IsAtRest}
 use Rattle.stock_ends.specs.Damages.{HasDamage}
 use Rattle.stock_ends.specs.declared.damage.Damage.TheVariants.{Head, Record, Worth}
 use Rattle.stock_ends.specs.declared.end.End.{End}
@@ -31,12 +32,14 @@ IsUnopened {Kt} kept_tells (Damaged damage) told plan faults faults' kept_faults
 IsUnopened kept_tells end told plan faults faults' kept_faults' = ⊥
 
 -- the book was opened over a keeper whose tables are those of its history, and those of the shelf, where both tell them, by the
--- first call of the keeper, which has the plan that the shelf tells
+-- first call of the keeper, which has the plan that the shelf tells; and the worker begins with what is covered and no turn
 pub record IsOpenedAs {Kt : Type 0} (kept_tells : Kt → Tables → Type 0) (told : Tables → Type 0) (plan : Option (List ℕ)) (first : Pace) : Type 0 where
   pub kept : Kt
   pub same : TellSame told (kept_tells kept)
   pub tables : (t : Tables) → kept_tells kept t → t ≡ tables_of first.history
   pub legal : IsLegal first.history
+  pub order : first.history ≡ opened_history (records first.history) (covered first.history)
+  pub at_rest : IsAtRest first
   pub plan_is : IfSome plan (λ numbers. first.keeper.plan ≡ Some numbers)
   pub calls : IfSome plan (λ numbers. first.keeper.calls ≡ 1)
 

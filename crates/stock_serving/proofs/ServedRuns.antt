@@ -96,7 +96,7 @@ module _ {H Kt L P O : Type 0} (kept_tells : Kt → Tables → Type 0) (k_faults
         last = begun.last;
         opened =
             opened-as kept_tells keeper (tells shelf) (plan shelf) (k_plan keeper) (k_faults keeper) (k_calls keeper) begun.first same planned
-            uncalled begun.tables begun.legal begun.begun;
+            uncalled begun.tables begun.legal begun.order begun.at_rest begun.begun;
         put_back = record {
           tables = λ t told. begun.kept t (back t told);
           plan_is = opened-plan (plan shelf') (k_plan keeper') begun.last.keeper.plan plans (sym begun.plan_is);

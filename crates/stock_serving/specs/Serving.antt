@@ -4,7 +4,7 @@ use Rattle.std.specs.declared.alloc.Global.{Global}
 use Rattle.std.specs.Io.KnownBytes.{Appends}
 use Rattle.stock_io.specs.Counts.{Rose}
 use Rattle.stock_io.specs.Streams.{AppendsFront}
-use Rattle.stock_model.specs.History.{accepted, covered, IsLegal}
+use Rattle.stock_model.specs.History.{records, accepted, covered, IsLegal}
 use Rattle.stock_model.specs.declared.deeds.Deed.{Deed}
 use Rattle.stock_keeper.specs.Calls.{IsDone}
 use Rattle.stock_keeper.specs.Keeping.{Within}
@@ -12,8 +12,8 @@ use Rattle.stock_keeper.specs.declared.fault.KeepFault.{KeepFault}
 use Rattle.stock_keeper.specs.declared.fault.KeepFault.TheVariants as keep
 use Rattle.stock_keeper.specs.declared.tables.Tables.{Tables}
 use Rattle.kept_tables.specs.TablesOf.{tables_of}
-use Rattle.repost_worker.specs.Openings.{state_of}
-use Rattle.repost_worker.specs.Paces.{Pace}
+use Rattle.repost_worker.specs.Openings.{state_of, opened_history}
+use Rattle.repost_worker.specs.Paces.{Pace, IsAtRest}
 use Rattle.repost_worker.specs.Published.{Publishes}
 use Rattle.desk_service.specs.Listening.{Heard}
 use Rattle.desk_service.specs.Service.{IsService}
@@ -113,13 +113,16 @@ pub record IsUnbegunKeeper {Kt L : Type 0} (tells : Kt → Tables → Type 0) (f
   pub cause : IsUnbegunFor end (tells keeper_before) (state_of (faults keeper_before) (plan keeper_before) (calls keeper_before))
       (state_of (faults keeper_after) (plan keeper_after) (calls keeper_after))
 
--- or its ledger was opened, and this was done from the history that its tables are of to the one that they are of then
+-- or its ledger was opened, and this was done from the history that its tables are of to the one that they are of then; the worker
+-- began with what was covered and no turn
 pub record IsBegun {Kt : Type 0} (tells : Kt → Tables → Type 0) (faults : Kt → ℕ) (plan : Kt → Option (List ℕ)) (calls : Kt → ℕ)
     (does : Pace → Pace → Type 0) (keeper_before keeper_after : Kt) : Type 0 where
   pub first : Pace
   pub last : Pace
   pub tables : (t : Tables) → tells keeper_before t → t ≡ tables_of first.history
   pub legal : IsLegal first.history
+  pub order : first.history ≡ opened_history (records first.history) (covered first.history)
+  pub at_rest : IsAtRest first
   pub begun : IsDone (state_of (faults keeper_before) (plan keeper_before) (calls keeper_before)) first.keeper
   pub kept : (t : Tables) → tells keeper_after t → t ≡ tables_of last.history
   pub plan_is : plan keeper_after ≡ last.keeper.plan
