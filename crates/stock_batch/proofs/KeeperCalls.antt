@@ -1,5 +1,5 @@
 -- Which calls of the keeper an answer tells.
-use Rattle.std.proofs.Common.{◌≡◌, ◌⊎◌, ℕ, ◌≤◌, List, [], ◌∷◌, ◌++◌, Option, None, Some, Result, Ok, Err, IfOk, OnErr, inl, inr, refl, sym, ◌∙◌, subst, append-nil, arith}
+use Rattle.std.proofs.Common.{◌≡◌, ℕ, ◌≤◌, List, [], ◌∷◌, ◌++◌, Option, None, Some, Result, Ok, Err, IfOk, IfSome, OnErr, refl, sym, ◌∙◌, subst, append-nil, arith}
 use Rattle.stock_nums.specs.declared.memory.NoMemory as memory
 use Rattle.stock_nums.specs.declared.numbers.RecordNo.{RecordNo}
 use Rattle.stock_model.specs.declared.answers.Answer.{Answer}
@@ -9,17 +9,18 @@ use Rattle.stock_model.specs.declared.faults.PostFault.{PostFault}
 use Rattle.stock_model.specs.declared.faults.PostFault.TheVariants.{CodeTaken, CodeShape, AccountRange, UnknownItem, UnknownStore, SameStore, UnknownTarget, LinkLater, RepeatedTarget, OverReturn, NoBasis, Full, Short, KeeperFailed, NoMemory}
 use Rattle.stock_model.specs.declared.records.Record.{Record}
 use Rattle.stock_model.specs.declared.replies.Reply.{Reply}
-use Rattle.stock_model.specs.declared.replies.Reply.TheVariants.{Accepted}
-use Rattle.stock_model.specs.PostReplies.{refusal, TellsStoreFailed}
+use Rattle.stock_model.specs.declared.replies.Reply.TheVariants.{Accepted, Worked, Settled, StoreFailed}
+use Rattle.stock_model.specs.declared.requests.Request.TheVariants.{Work, Settle}
+use Rattle.stock_model.specs.PostReplies.{refusal}
 use Rattle.stock_keeper.specs.Calls.{KeeperState, IsDone}
 use Rattle.stock_keeper.specs.declared.fault.KeepFault.{KeepFault}
 use Rattle.stock_keeper.specs.declared.fault.KeepFault.TheVariants as keep_fault
 use Rattle.generation_book.specs.Refusals.{IsAfterRefusal}
-use Rattle.repost_worker.specs.Paces.{Pace, WorksInPace}
+use Rattle.repost_worker.specs.Paces.{Pace, IsInPace, WorksInPace, StopsInPace}
 use Rattle.repost_worker.specs.Published.{Publishes}
 use Rattle.book_answers.specs.Answers.{HasText}
 use Rattle.book_answers.proofs.KeeperFaults.{never_falls-refused}
-use Rattle.stock_batch.specs.Paces.{IsLastCall, CallsKeeper, IsStopped, IsAfterTurns}
+use Rattle.stock_batch.specs.Paces.{KeepsPace, IsLastCall, CallsKeeper, IsStopped, IsAfterTurns}
 
 -- none was made
 pub calls-none : (old : Pace) (answer : Answer) → IsLastCall answer old.keeper old.keeper → CallsKeeper old answer old
@@ -108,9 +109,23 @@ calls-turns (Some keep_fault.Failed) old new reply answer plain published after 
     }
 calls-turns (Some keep_fault.NoMemory) old new reply answer plain published after = absurd after
 
--- so many turns were made, unless the keeper failed
-pub pace-turns : (stopped : Option KeepFault) (old new : Pace) (n : ℕ) (reply : Reply) (answer : Answer) → (stopped ≡ None → WorksInPace old n new)
-    → IsAfterTurns stopped reply answer → WorksInPace old n new ⊎ TellsStoreFailed answer
-pace-turns None old new n reply answer works after = inl (works refl)
-pace-turns (Some keep_fault.Failed) old new n reply answer works after = inr after
-pace-turns (Some keep_fault.NoMemory) old new n reply answer works after = absurd after
+-- so many turns were made, or fewer, and the keeper failed at the next one
+pub pace-work : (stopped : Option KeepFault) (old new : Pace) (turns : ℕ) (count : RecordNo) (answer : Answer)
+    → (stopped ≡ None → WorksInPace old turns new) → IfSome stopped (λ fault. StopsInPace fault old (Some turns) new) → IsInPace new
+    → IsAfterTurns stopped (Worked count) answer → KeepsPace old (Work turns) answer new
+pace-work None old new turns count answer works stops pace after = (
+  (λ other. works refl),
+  (λ failed. let clash : Told (Worked count) [] ≡ Told StoreFailed [] = sym after ∙ failed in absurd cc),
+  pace,
+)
+pace-work (Some keep_fault.Failed) old new turns count answer works stops pace after =
+    ((λ other. absurd (other after)), (λ failed. stops), pace)
+pace-work (Some keep_fault.NoMemory) old new turns count answer works stops pace after = absurd after
+
+pub pace-settle : (stopped : Option KeepFault) (old new : Pace) (count : RecordNo) (answer : Answer)
+    → IfSome stopped (λ fault. StopsInPace fault old None new) → IsInPace new
+    → IsAfterTurns stopped (Settled count) answer → KeepsPace old Settle answer new
+pace-settle None old new count answer stops pace after =
+    ((λ failed. let clash : Told (Settled count) [] ≡ Told StoreFailed [] = sym after ∙ failed in absurd cc), pace)
+pace-settle (Some keep_fault.Failed) old new count answer stops pace after = ((λ failed. stops), pace)
+pace-settle (Some keep_fault.NoMemory) old new count answer stops pace after = absurd after

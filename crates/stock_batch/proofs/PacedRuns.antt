@@ -1,5 +1,5 @@
 -- How a run that keeps the pace goes on, and which lines make its steps.
-use Rattle.std.proofs.Common.{◌≡◌, ℕ, ◌⊎◌, false, List, [], ◌∷◌, ◌++◌, refl, sym, ap, ◌∙◌, subst, inl, inr, Result, Ok, Err, IfOk}
+use Rattle.std.proofs.Common.{◌≡◌, ℕ, ◌⊎◌, false, List, [], ◌∷◌, ◌++◌, refl, sym, ap, ◌∙◌, subst, inl, inr, Result, Ok, Err, IfOk, arith}
 use Rattle.stock_nums.specs.declared.memory.NoMemory as memory
 use Rattle.stock_model.specs.declared.answers.Answer.{Answer}
 use Rattle.stock_model.specs.declared.answers.Answer.TheVariants.{Told}
@@ -52,6 +52,10 @@ module _ (reads : List ℕ → Result Request ReadFault → Type 0) (one : HasOn
             let found : Ok request ≡ Ok other = one text (Ok request) (Ok other) is read_so in
             let found_so : request ≡ other = cc found in
             subst (λ (r : Request). KeepsPace old r answer new) found_so pace;
+        bad = λ short fault read_so.
+            let found : Ok request ≡ Err fault = one text (Ok request) (Err fault) is read_so in
+            absurd cc;
+        long = λ more. absurd (omega (arith, more, fits text line.long stands.long whole));
         calls = calls;
       }
 
@@ -71,6 +75,8 @@ module _ (reads : List ℕ → Result Request ReadFault → Type 0) (one : HasOn
       record {
         step = inr (fits text line.long stands.long whole, inr (f, bad, is, refl));
         keeps = λ short other read_so. let found : Err f ≡ Ok other = one text (Err f) (Ok other) bad read_so in cc;
+        bad = λ short fault read_so. record { known = refl; turns = refl };
+        long = λ more. record { known = refl; turns = refl };
         calls = subst (λ (a : Answer). CallsKeeper old a old) (sym is) (calls-none old (Told (Bad f) []) refl);
       }
 

@@ -1,5 +1,5 @@
 -- Runs over lines in which the worker keeps its pace, and the keeper of the book is called as it must be: what each line does.
-use Rattle.std.specs.Prelude.{ℕ, ◌≡◌, ◌⊎◌, ◌≤◌, Result, Ok, Option, Some, None, List, [], ◌∷◌, ◌++◌, length}
+use Rattle.std.specs.Prelude.{ℕ, ◌≡◌, ◌<◌, ◌≤◌, Result, Ok, Err, Option, Some, None, List, [], ◌∷◌, ◌++◌, length}
 use Rattle.stock_model.specs.declared.deeds.Deed.{Deed}
 use Rattle.stock_model.specs.declared.answers.Answer.{Answer}
 use Rattle.stock_model.specs.declared.answers.Answer.TheVariants.{Told}
@@ -13,14 +13,15 @@ use Rattle.stock_model.specs.Run.{max_line, RunState, Step}
 use Rattle.stock_keeper.specs.Calls.{KeeperState, IsFailed, AreDone}
 use Rattle.stock_keeper.specs.declared.fault.KeepFault.{KeepFault}
 use Rattle.stock_keeper.specs.declared.fault.KeepFault.TheVariants.{Failed, NoMemory}
-use Rattle.repost_worker.specs.Paces.{Pace, IsInPace, IsSamePace, WorksInPace}
+use Rattle.repost_worker.specs.Paces.{Pace, IsInPace, IsSamePace, WorksInPace, StopsInPace}
 use Rattle.repost_worker.specs.Published.{Publishes}
 
--- what a request does to the pace: only turns change it
+-- what a request does to the pace: only turns change it, as many as were asked for or as were made before the store failed
 abbrev pub KeepsPace : Pace → Request → Answer → Pace → Type 0
 KeepsPace old (Post what) answer new = IsSamePace old new
-KeepsPace old (Work turns) answer new = (WorksInPace old turns new ⊎ TellsStoreFailed answer) × IsInPace new
-KeepsPace old Settle answer new = IsInPace new
+KeepsPace old (Work turns) answer new =
+    ((TellsStoreFailed answer → ⊥) → WorksInPace old turns new) × (TellsStoreFailed answer → StopsInPace Failed old (Some turns) new) × IsInPace new
+KeepsPace old Settle answer new = (TellsStoreFailed answer → StopsInPace Failed old None new) × IsInPace new
 KeepsPace old (Report query) answer new = IsSamePace old new
 
 -- one more call was made and it failed, where the answer tells so, and else none
@@ -50,10 +51,13 @@ IsAfterTurns (Some NoMemory) reply answer = ⊥
 abbrev pub state_of : List Deed → RunState
 state_of history = record { history = history }
 
--- one line is answered, and the request that it is keeps the pace
+-- one line is answered, and the request that it is keeps the pace; one that is long, or no request, leaves it as it is. What this
+-- comes to over many lines is told by the laws of work_laws.
 pub record PacedStep (reads : List ℕ → Result Request ReadFault → Type 0) (old : Pace) (line : List ℕ) (answer : Answer) (new : Pace) : Type 0 where
   pub step : Step reads (state_of old.history) line answer (state_of new.history)
   pub keeps : length line ≤ max_line → (request : Request) → reads line (Ok request) → KeepsPace old request answer new
+  pub bad : length line ≤ max_line → (fault : ReadFault) → reads line (Err fault) → IsSamePace old new
+  pub long : max_line < length line → IsSamePace old new
   pub calls : CallsKeeper old answer new
 
 -- the answers to the lines, one after another
