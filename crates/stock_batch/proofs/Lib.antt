@@ -5,3 +5,4 @@ pub mod Parts
 pub mod Batches
 pub mod Ends
 pub mod FiledRuns
+pub mod WorkLines

@@ -2,6 +2,7 @@ pub mod InputParts
 pub mod OpenLines
 pub mod Answers
 pub mod Paces
+pub mod WorkLines
 pub mod Replies
 pub mod Batches
 pub mod Endings

@@ -9,3 +9,4 @@ pub mod open_line;
 pub mod running;
 mod split;
 mod waiting;
+pub mod work_laws;
