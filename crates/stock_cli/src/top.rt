@@ -8,7 +8,7 @@ ghost use Rattle.desk_service.specs.Listening.{heard};
 ghost use Rattle.desk_service.specs.Service.{IsPeerServed};
 ghost use Rattle.stock_words.specs.Words.{IsBatch, IsBatchOver, IsLoad, IsServe};
 ghost use Rattle.stock_ends.specs.declared.end.End.{End};
-ghost use Rattle.stock_ends.specs.Statuses.{status_of, note_text, usage_text, WritesOrFails, CountsNoFault};
+ghost use Rattle.stock_ends.specs.Statuses.{status_of, note_text, usage_text, WritesOrFails, TellsEnd, CountsNoFault};
 ghost use Rattle.stock_batch.specs.Endings.{max_input};
 ghost use Rattle.stock_batch.specs.Filed.{RunsOverShelf};
 ghost use Rattle.stock_batch.specs.Ran.{Ran};
@@ -73,25 +73,28 @@ pub fn stockd<
     ensures nothing_opened { (result.status ≡ 2) ⊎ IsBatch words.now → shelf.new ≡ shelf.old }
     ensures usage { result.status ≡ 2 → WritesOrFails N.written N.faults notes.old notes.new usage_text }
 
-    // A batch ends in one of five ways, each with its status: what was read and written then, and why.
-    ensures run { IsBatch words.now → (end : End) × (result.status ≡ status_of end)
+    // A batch ends in one of five ways, each with its status and its note: what was read and written then, and why.
+    ensures run { IsBatch words.now → (end : End) × TellsEnd N.written N.faults notes.old notes.new result.status end
         × (last : Pace) × Ran S.left S.taken S.faults O.written O.faults input.old input.new output.old output.new first_pace last end }
 
     // So does one over a file that was opened, and its ledger is that of the run; or it could not be opened, and why.
-    ensures over { (path : List ℕ) → IsBatchOver words.now path → (end : End) × (result.status ≡ status_of end)
+    ensures over { (path : List ℕ) → IsBatchOver words.now path → (end : End)
+        × TellsEnd N.written N.faults notes.old notes.new result.status end
         × RunsOverShelf H.Kept.tells H.tells H.plan H.faults H.kept_faults S.left S.taken S.faults O.written O.faults
         shelf.old shelf.new input.old input.new output.old output.new end }
 
     // A load writes the summary of its script, or for want of memory nothing, or where the output fails a front of it. It takes
     // nothing from the input, and the shelf stays.
-    ensures load { (n : ℕ) → IsLoad words.now n → (end : End) × (result.status ≡ status_of end)
+    ensures load { (n : ℕ) → IsLoad words.now n → (end : End)
+        × TellsEnd N.written N.faults notes.old notes.new result.status end
         × IsLoaded O.written O.faults output.old output.new n end }
     ensures load_takes_nothing { (n : ℕ) → IsLoad words.now n → input.new ≡ input.old }
     ensures load_opens_nothing { (n : ℕ) → IsLoad words.now n → shelf.new ≡ shelf.old }
 
     // A service serves desks over a file that was opened, settles, and writes how many records are covered and accepted; or an end
     // comes before, and why. It takes nothing from the input. Nothing else listens.
-    ensures serve { (path : List ℕ) (port desks : ℕ) → IsServe words.now path port desks → (end : End) × (result.status ≡ status_of end)
+    ensures serve { (path : List ℕ) (port desks : ℕ) → IsServe words.now path port desks → (end : End)
+        × TellsEnd N.written N.faults notes.old notes.new result.status end
         × ServesOverShelf H.Kept.tells H.tells H.plan H.faults H.kept_faults
         (heard L.waiting L.hung_up L.accepts L.hang_ups L.faults) O.written O.faults
         (IsPeerServed P.left P.taken P.written P.Source.faults P.ended)
@@ -180,7 +183,7 @@ fn serve_asked<
     notes: &mut N,
 ) -> Finished<L>
     requires desks { (0 < asked.desks) × (asked.desks ≤ MAX_DESK) }
-    ensures serves { (end : End) × (result.status ≡ status_of end)
+    ensures serves { (end : End) × TellsEnd N.written N.faults notes.old notes.new result.status end
         × ServesOverShelf H.Kept.tells H.tells H.plan H.faults H.kept_faults
         (heard L.waiting L.hung_up L.accepts L.hang_ups L.faults) O.written O.faults
         (IsPeerServed P.left P.taken P.written P.Source.faults P.ended)
@@ -192,8 +195,6 @@ fn serve_asked<
         → CountsNoFault (O.faults output.old) (O.faults output.new)
         → (result.status ≡ 0) ⊎ (result.status ≡ 3) ⊎ (result.status ≡ 7) }
     ensures served { result.status ≢ 2 }
-    ensures noted { (end : End) × (result.status ≡ status_of end)
-        × WritesOrFails N.written N.faults notes.old notes.new (note_text end) }
     ensures silent { result.status ≡ 0 → notes.new ≡ notes.old }
     ensures notes_never_fall { NeverFalls (N.faults notes.old) (N.faults notes.new) }
 {

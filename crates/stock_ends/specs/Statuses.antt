@@ -52,3 +52,11 @@ WritesOrFails written faults before after text =
 -- no fault was counted, and the count is not at its end, where it would stay
 abbrev pub CountsNoFault : ℕ → ℕ → Type 0
 CountsNoFault before after = (after ≡ before) × (after < 2 ^ 64 - 1)
+
+-- the status and the notes tell this end by one end, which is the same, or want of memory where a damage could not be noted for want
+-- of it
+pub record TellsEnd {N : Type 0} (written : N → Option (List ℕ)) (faults : N → ℕ) (before after : N) (status : ℕ) (end : End) : Type 0 where
+  pub told : End
+  pub told_as : IsToldAs end told
+  pub status_is : status ≡ status_of told
+  pub noted : WritesOrFails written faults before after (note_text told)

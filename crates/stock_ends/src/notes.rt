@@ -1,8 +1,7 @@
 //! The line that notes how a run ended, and its status.
 ghost use Rattle.std.specs.Prelude.{◌≡◌, ◌≢◌};
 ghost use Rattle.stock_io.specs.Counts.{NeverFalls};
-ghost use Rattle.stock_ends.specs.declared.end.End.{End};
-ghost use Rattle.stock_ends.specs.Statuses.{status_of, note_text, usage_text, IsToldAs, IsNote, WritesOrFails};
+ghost use Rattle.stock_ends.specs.Statuses.{status_of, note_text, usage_text, IsNote, WritesOrFails, TellsEnd};
 
 use crate::damage::{Damage, damage_note};
 use crate::end::End;
@@ -38,8 +37,7 @@ pub fn without_memory<N: Sink>(notes: &mut N) -> u8
 
 /// Notes how a run ended, unless it is done, and answers its status. Where memory is wanting for a note, it ended for that.
 pub fn tell<N: Sink>(alloc: Global, notes: &mut N, end: End) -> u8
-    ensures told { (told : End) × IsToldAs end told × (result ≡ status_of told)
-        × WritesOrFails N.written N.faults notes.old notes.new (note_text told) }
+    ensures told { TellsEnd N.written N.faults notes.old notes.new result end }
     ensures silent { result ≡ 0 → notes.new ≡ notes.old }
     ensures never_falls { NeverFalls (N.faults notes.old) (N.faults notes.new) }
 {
@@ -55,8 +53,7 @@ pub fn tell<N: Sink>(alloc: Global, notes: &mut N, end: End) -> u8
 
 /// Notes a damage, and answers its status; or notes that memory was wanting for that, and answers the status of that.
 fn tell_damage<N: Sink>(alloc: Global, notes: &mut N, damage: &Damage) -> u8
-    ensures told { (told : End) × IsToldAs (End.Damaged damage.now) told × (result ≡ status_of told)
-        × WritesOrFails N.written N.faults notes.old notes.new (note_text told) }
+    ensures told { TellsEnd N.written N.faults notes.old notes.new result (End.Damaged damage.now) }
     ensures some { result ≢ 0 }
     ensures never_falls { NeverFalls (N.faults notes.old) (N.faults notes.new) }
 {

@@ -8,17 +8,7 @@ use Rattle.stock_ends.proofs.Told.{status_not_2}
 use Rattle.stock_cli.proofs.top.serve_asked.Goals as goal
 
 pub returns-clause-serves : goal.returns-clause-serves
-returns-clause-serves g c =
-    let told = c.tell.ensures.told in (
-      told.0,
-      told.2,
-      served-told g.H.Kept.Keeper.tells g.H.Shelf.tells g.H.Shelf.plan g.H.Shelf.faults g.H.Shelf.kept_faults
-          (heard g.L.Listener.waiting g.L.Listener.hung_up g.L.Listener.accepts g.L.Listener.hang_ups g.L.Listener.faults)
-          g.O.Sink.written g.O.Sink.faults
-          (IsPeerServed g.P.Source.left g.P.Source.taken g.P.Sink.written g.P.Source.faults g.P.Link.ended)
-          (IsFresh g.P.Source.taken g.P.Sink.written g.P.Source.faults g.P.Link.ended) c.args.asked.desks
-          _ _ _ _ _ _ _ told.0 told.1 c.serve_over-end.ensures.serves,
-    )
+returns-clause-serves g c = (c.serve_over-end.result.end, c.tell.ensures.told, c.serve_over-end.ensures.serves)
 
 pub returns-clause-complete : goal.returns-clause-complete
 returns-clause-complete g c shelf kept listener output =
@@ -28,13 +18,10 @@ returns-clause-complete g c shelf kept listener output =
     g.O.Sink.written g.O.Sink.faults
     (IsPeerServed g.P.Source.left g.P.Source.taken g.P.Sink.written g.P.Source.faults g.P.Link.ended)
     (IsFresh g.P.Source.taken g.P.Sink.written g.P.Source.faults g.P.Link.ended) c.args.asked.desks
-    _ _ _ _ _ _ _ told.0 told.1 c.serve_over-end.ensures.serves
+    _ _ _ _ _ _ _ told.told told.told_as c.serve_over-end.ensures.serves
     in
-    subst (λ (n : ℕ). (n ≡ 0) ⊎ ((n ≡ 3) ⊎ (n ≡ 7))) (sym told.2)
-    (served-complete _ _ _ _ _ _ _ _ _ _ c.args.asked.desks _ _ _ _ _ _ told.0 serves shelf kept listener output)
+    subst (λ (n : ℕ). (n ≡ 0) ⊎ ((n ≡ 3) ⊎ (n ≡ 7))) (sym told.status_is)
+    (served-complete _ _ _ _ _ _ _ _ _ _ c.args.asked.desks _ _ _ _ _ _ told.told serves shelf kept listener output)
 
 pub returns-clause-served : goal.returns-clause-served
-returns-clause-served g c two = let told = c.tell.ensures.told in status_not_2 told.0 (sym told.2 ∙ two)
-
-pub returns-clause-noted : goal.returns-clause-noted
-returns-clause-noted g c = let told = c.tell.ensures.told in (told.0, told.2, told.3)
+returns-clause-served g c two = let told = c.tell.ensures.told in status_not_2 told.told (sym told.status_is ∙ two)

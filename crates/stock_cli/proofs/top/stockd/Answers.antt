@@ -7,7 +7,7 @@ use Rattle.desk_service.specs.Service.{IsPeerServed}
 use Rattle.stock_words.specs.Words.{Spells, IsFaultOf}
 use Rattle.stock_words.proofs.ServeWords.{one_service}
 use Rattle.stock_words.proofs.Forms.{batch_begins, over_begins, load_begins, serve_begins, load_once}
-use Rattle.stock_ends.specs.Statuses.{status_of}
+use Rattle.stock_ends.specs.Statuses.{TellsEnd}
 use Rattle.stock_ends.specs.declared.end.End.{End}
 use Rattle.stock_ends.specs.declared.end.End.TheVariants.{NoMemory}
 use Rattle.stock_ends.proofs.Told.{status_not_2}
@@ -24,7 +24,7 @@ returns-in-Ok-Batch-clause-words g c =
     let words = map string_bytes c.args.words.now in
     let spells = subst (Spells words) c.in-Ok-Batch.field-0-is c.in-Ok-Batch.ensures.asked in
     let told = c.tell-status.ensures.told in (
-      (λ two. absurd (status_not_2 told.0 (sym told.2 ∙ two))),
+      (λ two. absurd (status_not_2 told.told (sym told.status_is ∙ two))),
       (λ none. absurd (none.0 spells)),
     )
 
@@ -70,6 +70,9 @@ returns-in-Ok-Batch-clause-complete_serve g c path port desks serve shelf kept l
     let spells = subst (Spells words) c.in-Ok-Batch.field-0-is c.in-Ok-Batch.ensures.asked in
     absurd (omega (arith, serve_begins words path port desks serve, batch_begins words spells))
 
+pub returns-in-Ok-Batch-clause-run : goal.returns-in-Ok-Batch-clause-run
+returns-in-Ok-Batch-clause-run g c batch = (c.run-end.result, c.tell-status.ensures.told, c.run-end.ensures.0, c.run-end.ensures.1)
+
 -- `batch` over a file
 
 pub returns-in-Ok-BatchOver-clause-words : goal.returns-in-Ok-BatchOver-clause-words
@@ -77,7 +80,7 @@ returns-in-Ok-BatchOver-clause-words g c =
     let words = map string_bytes c.args.words.now in
     let spells = subst (Spells words) c.in-Ok-BatchOver.field-0-is c.in-Ok-BatchOver.ensures.asked in
     let told = c.tell-status-in-Ok-BatchOver.ensures.told in (
-      (λ two. absurd (status_not_2 told.0 (sym told.2 ∙ two))),
+      (λ two. absurd (status_not_2 told.told (sym told.status_is ∙ two))),
       (λ none. absurd (none.1 _ spells)),
     )
 
@@ -130,7 +133,7 @@ returns-in-Ok-Load-clause-words g c =
     let words = map string_bytes c.args.words.now in
     let spells = subst (Spells words) c.in-Ok-Load.field-0-is c.in-Ok-Load.ensures.asked in
     let told = c.tell-status-in-Ok-Load.ensures.told in (
-      (λ two. absurd (status_not_2 told.0 (sym told.2 ∙ two))),
+      (λ two. absurd (status_not_2 told.told (sym told.status_is ∙ two))),
       (λ none. absurd (none.2 _ spells)),
     )
 
@@ -141,7 +144,7 @@ returns-in-Ok-Load-clause-nothing_taken g c two =
 pub returns-in-Ok-Load-clause-nothing_written : goal.returns-in-Ok-Load-clause-nothing_written
 returns-in-Ok-Load-clause-nothing_written g c two =
     let told = c.tell-status-in-Ok-Load.ensures.told in
-    absurd (status_not_2 told.0 (sym told.2 ∙ two))
+    absurd (status_not_2 told.told (sym told.status_is ∙ two))
 
 pub returns-in-Ok-Load-clause-nothing_opened : goal.returns-in-Ok-Load-clause-nothing_opened
 returns-in-Ok-Load-clause-nothing_opened g c neither =
@@ -150,7 +153,7 @@ returns-in-Ok-Load-clause-nothing_opened g c neither =
 pub returns-in-Ok-Load-clause-usage : goal.returns-in-Ok-Load-clause-usage
 returns-in-Ok-Load-clause-usage g c two =
     let told = c.tell-status-in-Ok-Load.ensures.told in
-    absurd (status_not_2 told.0 (sym told.2 ∙ two))
+    absurd (status_not_2 told.told (sym told.status_is ∙ two))
 
 pub returns-in-Ok-Load-clause-run : goal.returns-in-Ok-Load-clause-run
 returns-in-Ok-Load-clause-run g c batch =
@@ -167,12 +170,11 @@ returns-in-Ok-Load-clause-over g c path over =
 pub returns-in-Ok-Load-clause-load : goal.returns-in-Ok-Load-clause-load
 returns-in-Ok-Load-clause-load g c n load =
     let words = map string_bytes c.args.words.now in
-    let spells = subst (Spells words) c.in-Ok-Load.field-0-is c.in-Ok-Load.ensures.asked in
-    let told = c.tell-status-in-Ok-Load.ensures.told in (
-      told.0,
-      told.2,
-      subst (λ (m : ℕ). IsLoaded g.O.Sink.written g.O.Sink.faults c.args.output.now c.load-end.new.output m told.0) (load_once words _ n spells load)
-          (loaded-told g.O.Sink.written g.O.Sink.faults c.args.output.now c.load-end.new.output _ c.load-end.result told.0 told.1 c.load-end.ensures.loaded),
+    let spells = subst (Spells words) c.in-Ok-Load.field-0-is c.in-Ok-Load.ensures.asked in (
+      c.load-end.result,
+      c.tell-status-in-Ok-Load.ensures.told,
+      subst (λ (m : ℕ). IsLoaded g.O.Sink.written g.O.Sink.faults c.args.output.now c.load-end.new.output m c.load-end.result)
+          (load_once words _ n spells load) c.load-end.ensures.loaded,
     )
 
 pub returns-in-Ok-Load-clause-load_takes_nothing : goal.returns-in-Ok-Load-clause-load_takes_nothing
@@ -216,17 +218,17 @@ returns-in-Ok-Load-clause-complete_over g c path over source output shelf kept f
 pub returns-in-Ok-Load-clause-complete_load : goal.returns-in-Ok-Load-clause-complete_load
 returns-in-Ok-Load-clause-complete_load g c n load none =
     let told = c.tell-status-in-Ok-Load.ensures.told in
-    let loaded = loaded-told g.O.Sink.written g.O.Sink.faults c.args.output.now c.load-end.new.output _ c.load-end.result told.0 told.1
+    let loaded = loaded-told g.O.Sink.written g.O.Sink.faults c.args.output.now c.load-end.new.output _ c.load-end.result told.told told.told_as
     c.load-end.ensures.loaded in
-    elim (loaded-complete g.O.Sink.written g.O.Sink.faults c.args.output.now c.load-end.new.output _ told.0 loaded none) [
-      | inl done ↦ inl (told.2 ∙ done)
-      | inr memory ↦ inr (told.2 ∙ memory)
+    elim (loaded-complete g.O.Sink.written g.O.Sink.faults c.args.output.now c.load-end.new.output _ told.told loaded none) [
+      | inl done ↦ inl (told.status_is ∙ done)
+      | inr memory ↦ inr (told.status_is ∙ memory)
     ]
 
 pub returns-in-Ok-Load-clause-noted : goal.returns-in-Ok-Load-clause-noted
 returns-in-Ok-Load-clause-noted g c known =
     let told = c.tell-status-in-Ok-Load.ensures.told in
-    (told.0, told.2, told.3)
+    (told.told, told.status_is, told.noted)
 
 pub returns-in-Ok-Load-clause-silent : goal.returns-in-Ok-Load-clause-silent
 returns-in-Ok-Load-clause-silent g c =
@@ -294,7 +296,8 @@ returns-in-Ok-Serve-clause-serve g c path port desks serve =
     let words = map string_bytes c.args.words.now in
     let spells = subst (Spells words) c.in-Ok-Serve.field-0-is c.in-Ok-Serve.ensures.asked in
     let same = one_service words _ _ _ _ _ _ spells serve in
-    subst (λ (n : ℕ). (end : End) × (c.serve_asked.result.status ≡ status_of end)
+    subst (λ (n : ℕ). (end : End)
+    × TellsEnd g.N.Sink.written g.N.Sink.faults c.args.notes.now c.serve_asked.new.notes c.serve_asked.result.status end
     × ServesOverShelf g.H.Kept.Keeper.tells g.H.Shelf.tells g.H.Shelf.plan g.H.Shelf.faults g.H.Shelf.kept_faults
     (heard g.L.Listener.waiting g.L.Listener.hung_up g.L.Listener.accepts g.L.Listener.hang_ups g.L.Listener.faults)
     g.O.Sink.written g.O.Sink.faults
@@ -327,7 +330,8 @@ returns-in-Ok-Serve-clause-complete_serve g c path port desks serve shelf kept l
 
 pub returns-in-Ok-Serve-clause-noted : goal.returns-in-Ok-Serve-clause-noted
 returns-in-Ok-Serve-clause-noted g c some =
-    c.serve_asked.ensures.noted
+    let tells = c.serve_asked.ensures.serves.1 in
+    (tells.told, tells.status_is, tells.noted)
 
 -- other words
 
@@ -411,7 +415,12 @@ returns-in-Err-NoMemory-clause-words g c =
 pub returns-in-Err-NoMemory-clause-run : goal.returns-in-Err-NoMemory-clause-run
 returns-in-Err-NoMemory-clause-run g c batch = (
   NoMemory,
-  c.without_memory-status.ensures.status,
+  record {
+    told = NoMemory;
+    told_as = refl;
+    status_is = c.without_memory-status.ensures.status;
+    noted = c.without_memory-status.ensures.noted;
+  },
   first_pace,
   Ran-no_memory g.S.Source.left g.S.Source.taken g.S.Source.faults g.O.Sink.written g.O.Sink.faults c.args.input.now
       c.args.output.now first_pace tt,
@@ -420,20 +429,38 @@ returns-in-Err-NoMemory-clause-run g c batch = (
 pub returns-in-Err-NoMemory-clause-over : goal.returns-in-Err-NoMemory-clause-over
 returns-in-Err-NoMemory-clause-over g c path over = (
   NoMemory,
-  c.without_memory-status.ensures.status,
+  record {
+    told = NoMemory;
+    told_as = refl;
+    status_is = c.without_memory-status.ensures.status;
+    noted = c.without_memory-status.ensures.noted;
+  },
   inl (record { nothing_taken = refl; nothing_written = refl; tables_stay = inl (λ t told. told); cause = tt }),
 )
 
 pub returns-in-Err-NoMemory-clause-serve : goal.returns-in-Err-NoMemory-clause-serve
 returns-in-Err-NoMemory-clause-serve g c path port desks serve = (
   NoMemory,
-  c.without_memory-status.ensures.status,
+  record {
+    told = NoMemory;
+    told_as = refl;
+    status_is = c.without_memory-status.ensures.status;
+    noted = c.without_memory-status.ensures.noted;
+  },
   inl (record { nothing_taken = refl; nothing_written = refl; tables_stay = inl (λ t told. told); cause = tt }),
 )
 
 pub returns-in-Err-NoMemory-clause-load : goal.returns-in-Err-NoMemory-clause-load
-returns-in-Err-NoMemory-clause-load g c n load =
-    (NoMemory, c.without_memory-status.ensures.status, refl)
+returns-in-Err-NoMemory-clause-load g c n load = (
+  NoMemory,
+  record {
+    told = NoMemory;
+    told_as = refl;
+    status_is = c.without_memory-status.ensures.status;
+    noted = c.without_memory-status.ensures.noted;
+  },
+  refl,
+)
 
 pub returns-in-Err-NoMemory-clause-load_takes_nothing : goal.returns-in-Err-NoMemory-clause-load_takes_nothing
 returns-in-Err-NoMemory-clause-load_takes_nothing g c n load =
