@@ -1,11 +1,12 @@
 -- A record's own fault is neither that its keeper failed nor want of memory.
-use Rattle.std.proofs.Common.{◌≡◌, ◌⊎◌, Bool, true, false, List, [], ◌∷◌, Option, Some, None, IfSome, inl, inr, refl, sym, subst, ◌≤◌, arith}
+use Rattle.std.proofs.Common.{◌≡◌, ◌⊎◌, Bool, true, false, List, [], ◌∷◌, ◌++◌, Option, Some, None, IfSome, inl, inr, refl, sym, subst, ◌≤◌, arith}
 use Rattle.std.specs.Prelude.{if◌then◌else◌, is_some}
 use Rattle.std.specs.Option.{option_map, option_or}
 use Rattle.stock_nums.specs.Accounts.{is_store_account}
 use Rattle.stock_nums.specs.Codes.{is_code}
 use Rattle.stock_model.specs.Faults.{fault, fault_but_short, full, short, short_of, voucher_fault, master_fault, lines_fault, targets_fault, first_fault, code_taken, code_shape, account_range, unknown_item, unknown_store, same_store, unknown_target, link_later, repeated_target, over_return, no_basis, over_return_at}
 use Rattle.stock_model.specs.Masters.{item_with, store_with}
+use Rattle.stock_model.specs.declared.deeds.Deed.{Deed}
 use Rattle.stock_model.specs.declared.faults.PostFault.{PostFault}
 use Rattle.stock_model.specs.declared.faults.PostFault.TheVariants.{CodeTaken, CodeShape, AccountRange, UnknownItem, UnknownStore, SameStore, UnknownTarget, LinkLater, RepeatedTarget, OverReturn, NoBasis, Full, Short, KeeperFailed, NoMemory}
 use Rattle.stock_model.specs.VoucherLines.{lines_of}
@@ -15,7 +16,7 @@ use Rattle.stock_model.specs.declared.vouchers.What.TheVariants.{Item, Store, Re
 use Rattle.stock_keeper.specs.Calls.{KeeperState}
 use Rattle.stock_keeper.specs.declared.fault.KeepFault.{KeepFault}
 use Rattle.stock_keeper.specs.declared.fault.KeepFault.TheVariants as keep
-use Rattle.generation_book.specs.Refusals.{refusal_of, IsRefusalOf, IsAfterRefusal}
+use Rattle.generation_book.specs.Refusals.{refusal_of, IsRefusalOf, IsAfterRefusal, HasTried, HasTriedFor}
 use Rattle.generation_book.proofs.Books.{at_once-none}
 
 abbrev pub IsOwn : PostFault → Type 0
@@ -160,3 +161,36 @@ refused-uncalled journal item f keeper (inr is) = uncalled f keeper (own-is jour
 pub refused-by : (journal : List Record) (item : Record) (f : KeepFault) → fault journal item ≡ None → IsRefusalOf journal item (refusal_of f)
 refused-by journal item keep.Failed none = none
 refused-by journal item keep.NoMemory none = at_once-none journal item none
+
+untried : (f : PostFault) (event : Deed) (tried : List Deed) → IsOwn f → HasTriedFor f event tried tried
+untried CodeTaken event tried own = refl
+untried CodeShape event tried own = refl
+untried AccountRange event tried own = refl
+untried (UnknownItem n) event tried own = refl
+untried (UnknownStore n) event tried own = refl
+untried (SameStore n) event tried own = refl
+untried (UnknownTarget n) event tried own = refl
+untried (LinkLater n) event tried own = refl
+untried (RepeatedTarget n) event tried own = refl
+untried (OverReturn n asked left) event tried own = refl
+untried NoBasis event tried own = refl
+untried (Full records entries) event tried own = refl
+untried (Short place item store lacking) event tried own = refl
+untried KeeperFailed event tried own = absurd own
+untried NoMemory event tried own = absurd own
+
+-- what was tried stays where a record is refused for its own fault, or for want of memory before the keeper was called
+pub tried-uncalled : (journal : List Record) (item : Record) (f : PostFault) (event : Deed) (tried : List Deed)
+    → ((f ≡ NoMemory) × (fault_but_short journal item ≡ None)) ⊎ (fault journal item ≡ Some f) → HasTriedFor f event tried tried
+tried-uncalled journal item f event tried (inl memory) =
+    subst (λ (x : PostFault). HasTriedFor x event tried tried) (sym memory.0) (inl refl)
+tried-uncalled journal item f event tried (inr is) = untried f event tried (own-is journal item f is)
+
+-- and one more was tried where the keeper refused it
+pub tried-more : (f : KeepFault) (event : Deed) (old new : List Deed) → new ≡ old ++ event ∷ [] → HasTried f event old new
+tried-more keep.Failed event old new is = is
+tried-more keep.NoMemory event old new is = inr is
+
+pub tried-by : (f : KeepFault) (event : Deed) (old new : List Deed) → new ≡ old ++ event ∷ [] → HasTriedFor (refusal_of f) event old new
+tried-by keep.Failed event old new is = is
+tried-by keep.NoMemory event old new is = inr is

@@ -1,6 +1,7 @@
--- Why a book refuses a record, and what a refusal leaves of its keeper.
-use Rattle.std.specs.Prelude.{◌≡◌, List, Some, None}
+-- Why a book refuses a record, and what a refusal leaves of its keeper and of what was tried.
+use Rattle.std.specs.Prelude.{◌≡◌, ◌⊎◌, List, [], ◌∷◌, ◌++◌, Some, None}
 use Rattle.stock_model.specs.Faults.{fault, fault_but_short}
+use Rattle.stock_model.specs.declared.deeds.Deed.{Deed}
 use Rattle.stock_model.specs.declared.faults.PostFault.{PostFault}
 use Rattle.stock_model.specs.declared.faults.PostFault.TheVariants as post_fault
 use Rattle.stock_model.specs.declared.records.Record.{Record}
@@ -24,3 +25,15 @@ abbrev pub IsAfterRefusal : PostFault → KeeperState → KeeperState → Type 0
 IsAfterRefusal post_fault.KeeperFailed old new = IsRefused Failed old new
 IsAfterRefusal post_fault.NoMemory old new = IsRefused NoMemory old new
 IsAfterRefusal f old new = new ≡ old
+
+-- what was tried since the keeper last did what it was asked for, before and after it refused this, if it was asked at all: for want
+-- of memory it may not have been
+abbrev pub HasTried : KeepFault → Deed → List Deed → List Deed → Type 0
+HasTried Failed event old new = new ≡ old ++ event ∷ []
+HasTried NoMemory event old new = (new ≡ old) ⊎ (new ≡ old ++ event ∷ [])
+
+-- the same where a post was refused so: for its own fault the keeper was not asked
+abbrev pub HasTriedFor : PostFault → Deed → List Deed → List Deed → Type 0
+HasTriedFor post_fault.KeeperFailed event old new = HasTried Failed event old new
+HasTriedFor post_fault.NoMemory event old new = HasTried NoMemory event old new
+HasTriedFor f event old new = new ≡ old

@@ -15,12 +15,13 @@ ghost use Rattle.repost_fetch.specs.Fetched.{IsFetchedOf};
 ghost use Rattle.kept_tables.specs.Kept.{IsKept};
 ghost use Rattle.generation_book.specs.State.{first_book};
 ghost use Rattle.generation_book.specs.Handed.{IsHanded, AreHanded};
-ghost use Rattle.generation_book.specs.Refusals.{refusal_of, IsRefusalOf, IsAfterRefusal};
+ghost use Rattle.generation_book.specs.Refusals.{refusal_of, IsRefusalOf, IsAfterRefusal, HasTried, HasTriedFor};
 
 use crate::covered_heads::covered_heads;
 use crate::events::Event;
 use crate::merging::merged;
 use crate::selecting::count_until;
+use crate::tried::Tried;
 use cost_links::replay;
 use kept_tables::publishing::changes_of;
 use quantity_check::running::Running;
@@ -48,11 +49,12 @@ use voucher_json::record_texts::record_text;
 use voucher_kinds::journal::Journal;
 
 /// The accepted records, the generation that reports are made from, which is the valued movements of the first `covered`
-/// records, and what keeps both. Contracts see its history, and what its keeper tells of its calls; the tables of the keeper are
-/// those of the history, where it tells them.
+/// records, and what keeps both. Contracts see its history, what was tried and refused since the keeper last did what it was asked
+/// for, and what the keeper tells of its calls; the tables of the keeper are those of the history, where it tells them.
 #[derive(Drop)]
 pub struct Book<K: Keeper> {
     keeper: K,
+    tried: Tried,
     /// How many events its history began with.
     opened: usize,
     journal: Journal,
@@ -78,11 +80,12 @@ impl<K: Keeper> Model for Book<K> {
     ghost view = { λ book. record {
       history = deeds book.events.items book.journal;
       opened = book.opened;
+      tried = book.tried.events;
       keeper = record { faults = K.faults book.keeper; plan = K.plan book.keeper; calls = K.calls book.keeper };
     } };
 
     ghost invariant = { λ book. IsBook book.events.items book.journal book.movements.entries book.covered.0 book.rows
-        × IsKept (K.tells book.keeper) (K.may_leave book.keeper) (deeds book.events.items book.journal)
+        × IsKept (K.tells book.keeper) (K.may_leave book.keeper) (deeds book.events.items book.journal) book.tried.events
         × (book.opened ≤ length book.events.items)
         × (book.heads ≡ masters.heads (take book.covered.0 book.journal)) };
 }
@@ -94,6 +97,7 @@ impl Book<Nowhere> {
     {
         Book {
             keeper: Nowhere::new(alloc),
+            tried: Tried::new(),
             opened: 0,
             journal: Journal::new(alloc),
             events: Vec::new(alloc),
@@ -104,17 +108,19 @@ impl Book<Nowhere> {
         }
     }
 
-    /// The same book over a keeper of its history, which is its opening then.
+    /// The same book over a keeper of its history, which is its opening then. A crash leaves just that, so nothing was tried.
     pub fn with_keeper<K: Keeper>(self, keeper: K) -> Book<K>
-        requires kept { IsKept (K.tells keeper) (K.may_leave keeper) self.history }
+        requires kept { IsKept (K.tells keeper) (K.may_leave keeper) self.history [] }
         ensures history { result.history ≡ self.history }
         ensures opened { result.opened ≡ length self.history }
+        ensures tried { result.tried ≡ [] }
         ensures faults { result.keeper.faults ≡ K.faults keeper }
         ensures plan { result.keeper.plan ≡ K.plan keeper }
         ensures calls { result.keeper.calls ≡ K.calls keeper }
     {
         Book {
             keeper,
+            tried: Tried::new(),
             opened: self.events.as_slice().len(),
             journal: self.journal,
             events: self.events,
@@ -143,6 +149,10 @@ impl<K: Keeper> Book<K> {
         ensures opened { self.new.opened ≡ self.old.opened }
         ensures done { OnOk result (IsDone self.old.keeper self.new.keeper) }
         ensures refused { IfErr result (λ f. IsAfterRefusal f self.old.keeper self.new.keeper) }
+
+        // What a crash may leave beside the tables of the history has one of the events that were tried.
+        ensures settled { OnOk result (self.new.tried ≡ []) }
+        ensures tried { IfErr result (λ f. HasTriedFor f (deed.Kept item) self.old.tried self.new.tried) }
         ensures legal { OnOk result (history.IsLegal self.new.history) }
     {
         let entries = match self.new_entries(alloc, &item) {
@@ -158,13 +168,16 @@ impl<K: Keeper> Book<K> {
         if self.movements.reserve(entries.len()).is_err() {
             return Err(PostFault::NoMemory);
         }
+        let tried = self.tried.with_kept(&item);
         let Ok(number) = self.journal.push(item) else {
             return Err(PostFault::NoMemory);
         };
         if let Err(fault) = self.keeper.append(number, text.as_slice()) {
             self.journal.pop();
+            self.tried = tried;
             return Err(refusal_of(fault));
         }
+        self.tried = Tried::new();
         self.events.push_reserved(Event::Kept);
         self.movements.add(entries.as_slice());
         Ok(number)
@@ -258,6 +271,10 @@ impl<K: Keeper> Book<K> {
         ensures opened { self.new.opened ≡ self.old.opened }
         ensures done { OnOk result (IsDone self.old.keeper self.new.keeper) }
         ensures refused { IfErr result (λ f. IsRefused f self.old.keeper self.new.keeper) }
+
+        // As after a post.
+        ensures settled { OnOk result (self.new.tried ≡ []) }
+        ensures tried { IfErr result (λ f. HasTried f (deed.Published n) self.old.tried self.new.tried) }
         ensures legal { OnOk result (history.IsLegal self.new.history) }
     {
         let most = self.movements.timeline().len();
@@ -269,7 +286,11 @@ impl<K: Keeper> Book<K> {
         if self.events.reserve(1).is_err() {
             return Err(KeepFault::NoMemory);
         }
-        self.keeper.publish(n, &changes)?;
+        if let Err(fault) = self.keeper.publish(n, &changes) {
+            self.tried = self.tried.with_published(&n);
+            return Err(fault);
+        }
+        self.tried = Tried::new();
         self.events.push_reserved(Event::Published(n));
         self.covered = n;
         self.rows = rows;
@@ -361,15 +382,16 @@ impl<K: Keeper> Book<K> {
         self.opened
     }
 
-    /// The keeper, for good. A crash leaves its tables, or those with an event that it refused since.
+    /// The keeper, for good. A crash leaves the tables of the history, or those with one of the events that were tried.
     pub fn into_keeper(self) -> K
-        ensures kept { IsKept (K.tells result) (K.may_leave result) self.history }
+        ensures kept { IsKept (K.tells result) (K.may_leave result) self.history self.tried }
         ensures faults { K.faults result ≡ self.keeper.faults }
         ensures plan { K.plan result ≡ self.keeper.plan }
         ensures calls { K.calls result ≡ self.keeper.calls }
     {
         let Book {
             keeper,
+            tried: _,
             opened: _,
             journal: _,
             events: _,

@@ -10,3 +10,4 @@ pub mod logged;
 mod merging;
 mod selecting;
 mod sending;
+mod tried;

@@ -1,5 +1,5 @@
 -- A book of all stored records is opened, or a fault is found in what is stored.
-use Rattle.std.proofs.Common.{◌≡◌, ◌⊎◌, ℕ, pos, List, length, take, inl, inr, refl, sym, ap, ◌∙◌, subst, arith}
+use Rattle.std.proofs.Common.{◌≡◌, ◌⊎◌, ℕ, pos, List, [], length, take, inl, inr, refl, sym, ap, ◌∙◌, subst, arith}
 use Rattle.std.proofs.lemmas.List.{take_all}
 use Rattle.stock_nums.specs.declared.entry.Row.{Row}
 use Rattle.stock_model.specs.History.{records, accepted, covered, covered_records}
@@ -78,7 +78,7 @@ fault-found t NoMemory found = tt
 -- a keeper of which a crash leaves just its tables is one of the history that they are of
 pub kept-opened : (tells may_leave tells' may_leave' : Tables → Type 0) (history : List Deed) (copy : Tables)
     → tables_of history ≡ copy → ((t : Tables) → tells t → copy ≡ t) → Within tells tells' → Within may_leave may_leave'
-    → Within tells may_leave → IsKept tells' may_leave' history
+    → Within tells may_leave → IsKept tells' may_leave' history []
 kept-opened tells may_leave tells' may_leave' history copy opened copied tables_kept crash settled =
     let same : (t : Tables) → tells t → t ≡ tables_of history = λ t told. sym (opened ∙ copied t told) in
     record {

@@ -56,7 +56,7 @@ impl RevaluedBook<Nowhere> {
 
     /// The same book over a keeper of its history, which is its opening then.
     pub fn with_keeper<K: Keeper>(self, keeper: K) -> RevaluedBook<K>
-        requires kept { IsKept (K.tells keeper) (K.may_leave keeper) self.history }
+        requires kept { IsKept (K.tells keeper) (K.may_leave keeper) self.history [] }
         ensures history { result.history ≡ self.history }
         ensures faults { result.keeper.faults ≡ K.faults keeper }
         ensures plan { result.keeper.plan ≡ K.plan keeper }

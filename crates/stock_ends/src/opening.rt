@@ -1,5 +1,6 @@
 //! What a run over a ledger that is kept begins with, and what it leaves.
-ghost use Rattle.std.specs.Prelude.{◌≡◌};
+ghost use Rattle.std.specs.Prelude.{◌≡◌, List};
+ghost use Rattle.stock_model.specs.declared.deeds.Deed.{Deed};
 ghost use Rattle.kept_tables.specs.Kept.{IsKept};
 ghost use Rattle.stock_ends.specs.Openings.{end_of, end_of_refusal};
 
@@ -12,7 +13,7 @@ use stock_keeper::keeper::Keeper;
 
 /// The keeper of a book, for good.
 pub fn keeper_of<K: Keeper>(book: RevaluedBook<K>) -> K
-    ensures kept { IsKept (K.tells result) (K.may_leave result) book.history }
+    ensures kept { (tried : List Deed) × IsKept (K.tells result) (K.may_leave result) book.history tried }
     ensures plan { K.plan result ≡ book.keeper.plan }
     ensures faults { K.faults result ≡ book.keeper.faults }
 {

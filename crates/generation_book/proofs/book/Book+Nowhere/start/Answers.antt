@@ -5,8 +5,8 @@ use Rattle.generation_book.proofs.book.Book+Nowhere.start.Goals as goal
 
 pub invariant_of-result : goal.invariant_of-result
 invariant_of-result c = (
-  rw (c.new-3.ensures.items, c.new-2.ensures, c.new-4.ensures, c.new-5.ensures) IsBook-start,
+  rw (c.new-4.ensures.items, c.new-3.ensures, c.new-5.ensures, c.new-6.ensures) IsBook-start,
   record { told = λ t told. absurd told; left = λ t may. absurd may },
   omega arith,
-  rw c.new-6.ensures refl,
+  rw c.new-7.ensures refl,
 )

@@ -6,6 +6,7 @@ use Rattle.stock_model.specs.declared.records.Record.{Record}
 use Rattle.stock_model.specs.declared.deeds.Deed.{Deed}
 use Rattle.stock_model.specs.declared.deeds.Deed.TheVariants as deed
 use Rattle.stock_model.specs.Faults.{fault}
+use Rattle.stock_model.specs.declared.faults.PostFault.{PostFault}
 use Rattle.std.proofs.lemmas.List.{take-append-le}
 use Rattle.stock_model.specs.History.{records, accepted, IsLegal}
 use Rattle.stock_model.specs.Masters.{heads}
@@ -20,12 +21,12 @@ use Rattle.kept_tables.proofs.KeptRecords.{Follows-next}
 use Rattle.generation_book.specs.State.{BookState}
 use Rattle.generation_book.specs.Book.{deeds}
 use Rattle.generation_book.specs.Handed.{IsHanded}
-use Rattle.generation_book.specs.Refusals.{IsRefusalOf}
+use Rattle.generation_book.specs.Refusals.{IsRefusalOf, HasTriedFor}
 use Rattle.generation_book.specs.declared.events.Event.{Event}
 use Rattle.generation_book.specs.declared.events.Event.TheVariants.{Kept}
 use Rattle.generation_book.proofs.Books.{records-deeds, history-records, IsBook-kept, deeds-kept, legal-kept, put_all-entries, entries-own_places, entries-enough, at_once-none, popped}
 use Rattle.generation_book.proofs.KeptBooks.{kept-appended, kept-unappended}
-use Rattle.generation_book.proofs.OwnFaults.{refused-for, refused-uncalled, refused-by}
+use Rattle.generation_book.proofs.OwnFaults.{refused-for, refused-uncalled, refused-by, tried-uncalled, tried-by}
 use Rattle.generation_book.proofs.book.Book.post.Goals as goal
 
 pub returns-in-Err-clause-fault : goal.returns-in-Err-clause-fault
@@ -33,6 +34,10 @@ returns-in-Err-clause-fault g c = refused-for (records c.args.self.now.history) 
 
 pub returns-in-Err-clause-refused : goal.returns-in-Err-clause-refused
 returns-in-Err-clause-refused g c = refused-uncalled (records c.args.self.now.history) c.args.item c.in-Err.fault c.args.self.now.keeper c.in-Err.ensures.fault
+
+pub returns-in-Err-clause-tried : goal.returns-in-Err-clause-tried
+returns-in-Err-clause-tried g c =
+    tried-uncalled (records c.args.self.now.history) c.args.item c.in-Err.fault (deed.Kept c.args.item) c.args.self.now.tried c.in-Err.ensures.fault
 
 pub returns-in_default-clause-fault : goal.returns-in_default-clause-fault
 returns-in_default-clause-fault g c = at_once-none _ c.args.item c.in-Ok.ensures.sound
@@ -65,7 +70,7 @@ append-requires g c t tells =
     let told : deeds c.self.inside.events.items c.self.inside.journal ≡ c.args.self.now.history = ap (λ (b : BookState). b.history) c.self.view_is in
     let held = history-records _ _ _ _ _ c.args.self.now.history c.self.invariant.0 told in
     let history = c.args.self.now.history in
-    let kept = subst (IsKept (g.K.Keeper.tells c.self.inside.keeper) (g.K.Keeper.may_leave c.self.inside.keeper)) told c.self.invariant.1 in
+    let kept = subst (λ (h : List Deed). IsKept (g.K.Keeper.tells c.self.inside.keeper) (g.K.Keeper.may_leave c.self.inside.keeper) h c.self.inside.tried.events) told c.self.invariant.1 in
     let next : c.in-Ok-push.number.0 ≡ accepted history + 1 =
     omega (arith, c.in-Ok-push.ensures.number, ap length c.in-Ok-push.ensures.kept, length-append c.self.inside.journal (c.args.item ∷ []), ap length held) in
     subst (λ (ts : Tables). Follows ts c.in-Ok-push.number) (sym (kept.told t tells))
@@ -77,19 +82,20 @@ invariant_of-self-in-Err-append g c =
     let held = history-records _ _ _ _ _ c.args.self.now.history c.self.invariant.0 told in
     let none : fault c.self.inside.journal c.args.item ≡ None = subst (λ (records : List Record). fault records c.args.item ≡ None) held c.in-Ok.ensures.sound in
     let history = c.args.self.now.history in
-    let kept = subst (IsKept (g.K.Keeper.tells c.self.inside.keeper) (g.K.Keeper.may_leave c.self.inside.keeper)) told c.self.invariant.1 in
+    let kept = subst (λ (h : List Deed). IsKept (g.K.Keeper.tells c.self.inside.keeper) (g.K.Keeper.may_leave c.self.inside.keeper) h c.self.inside.tried.events) told c.self.invariant.1 in
     let legal = subst IsLegal told c.self.invariant.0.legal in
     let next : c.in-Ok-push.number.0 ≡ accepted history + 1 =
     omega (arith, c.in-Ok-push.ensures.number, ap length c.in-Ok-push.ensures.kept, length-append c.self.inside.journal (c.args.item ∷ []), ap length held) in
     let text = subst (IsHanded (g.K.Keeper.tells c.self.inside.keeper) (g.K.Keeper.may_leave c.self.inside.keeper) c.args.item) (sym c.as_slice.ensures) c.in-Ok-handed_text.ensures in
     let journal : c.pop.new.self ≡ c.self.inside.journal =
     c.pop.ensures ∙ ap (λ (rs : List Record). take (length rs - 1) rs) c.in-Ok-push.ensures.kept ∙ popped c.self.inside.journal c.args.item in
-    let now = kept-unappended history (g.K.Keeper.tells c.self.inside.keeper) (g.K.Keeper.may_leave c.self.inside.keeper)
+    let now = kept-unappended history c.self.inside.tried.events (g.K.Keeper.tells c.self.inside.keeper) (g.K.Keeper.may_leave c.self.inside.keeper)
     (g.K.Keeper.tells c.append.new.self) (g.K.Keeper.may_leave c.append.new.self) kept c.in-Ok-push.number c.args.item c.as_slice.result.now
     next legal text (legal-kept history c.args.item legal c.in-Ok.ensures.sound) c.in-Err-append.ensures.tables_kept c.in-Err-append.ensures.crash in
-    rw (c.reserve.ensures.items, journal, c.reserve-2.ensures.unchanged) (
+    rw (c.reserve.ensures.items, journal, c.reserve-2.ensures.unchanged, c.with_kept-tried.ensures) (
       c.self.invariant.0,
-      subst (IsKept (g.K.Keeper.tells c.append.new.self) (g.K.Keeper.may_leave c.append.new.self)) (sym told) now,
+      subst (λ (h : List Deed). IsKept (g.K.Keeper.tells c.append.new.self) (g.K.Keeper.may_leave c.append.new.self) h
+          (c.self.inside.tried.events ++ deed.Kept c.args.item ∷ [])) (sym told) now,
       c.self.invariant.2,
       c.self.invariant.3,
     )
@@ -98,6 +104,13 @@ pub returns-in-Err-append-clause-fault : goal.returns-in-Err-append-clause-fault
 returns-in-Err-append-clause-fault g c =
     subst (IsRefusalOf (records c.args.self.now.history) c.args.item) (sym c.refusal_of.ensures)
     (refused-by (records c.args.self.now.history) c.args.item c.in-Err-append.fault c.in-Ok.ensures.sound)
+
+pub returns-in-Err-append-clause-tried : goal.returns-in-Err-append-clause-tried
+returns-in-Err-append-clause-tried g c =
+    let before : c.self.inside.tried.events ≡ c.args.self.now.tried = ap (λ (b : BookState). b.tried) c.self.view_is in
+    subst (λ (f : PostFault). HasTriedFor f (deed.Kept c.args.item) c.args.self.now.tried c.with_kept-tried.result.events) (sym c.refusal_of.ensures)
+    (tried-by c.in-Err-append.fault (deed.Kept c.args.item) c.args.self.now.tried c.with_kept-tried.result.events
+    (c.with_kept-tried.ensures ∙ ap (λ (ds : List Deed). ds ++ deed.Kept c.args.item ∷ []) before))
 
 pub add-requires-clause-apart : goal.add-requires-clause-apart
 add-requires-clause-apart g c =
@@ -134,7 +147,7 @@ invariant_of-self-2 g c =
     let new : c.as_slice-2.result.now ≡ entries c.self.inside.journal c.args.item = c.as_slice-2.ensures ∙ c.in-Ok.ensures.entries ∙ ap (λ (records : List Record). entries records c.args.item) held in
     let line : c.reserve-2.new.self.entries ≡ posting_line c.self.inside.journal = c.reserve-2.ensures.unchanged ∙ c.self.invariant.0.posted in
     let history = c.args.self.now.history in
-    let kept = subst (IsKept (g.K.Keeper.tells c.self.inside.keeper) (g.K.Keeper.may_leave c.self.inside.keeper)) told c.self.invariant.1 in
+    let kept = subst (λ (h : List Deed). IsKept (g.K.Keeper.tells c.self.inside.keeper) (g.K.Keeper.may_leave c.self.inside.keeper) h c.self.inside.tried.events) told c.self.invariant.1 in
     let legal = subst IsLegal told c.self.invariant.0.legal in
     let next : c.in-Ok-push.number.0 ≡ accepted history + 1 =
     omega (arith, c.in-Ok-push.ensures.number, ap length c.in-Ok-push.ensures.kept, length-append c.self.inside.journal (c.args.item ∷ []), ap length held) in
@@ -142,13 +155,13 @@ invariant_of-self-2 g c =
     let events = c.push_reserved.ensures.items ∙ ap (λ (es : List Event). es ++ Kept ∷ []) c.reserve.ensures.items in
     let journal = c.in-Ok-push.ensures.kept in
     let all = c.add.ensures.added ∙ put_all-entries c.self.inside.journal c.args.item c.reserve-2.new.self.entries c.as_slice-2.result.now line new in
-    let now = kept-appended history (g.K.Keeper.tells c.self.inside.keeper) (g.K.Keeper.may_leave c.self.inside.keeper)
+    let now = kept-appended history c.self.inside.tried.events (g.K.Keeper.tells c.self.inside.keeper) (g.K.Keeper.may_leave c.self.inside.keeper)
     (g.K.Keeper.tells c.append.new.self) (g.K.Keeper.may_leave c.append.new.self) kept c.in-Ok-push.number c.args.item c.as_slice.result.now
     next legal text c.in_default-append.ensures.made c.in_default-append.ensures.durable in
     let longer = ap (λ (h : List Deed). h ++ deed.Kept c.args.item ∷ []) told in
-    rw (events, journal) (
+    rw (events, journal, c.new-self-inside.ensures) (
       IsBook-kept c.self.inside.events.items c.self.inside.journal c.self.inside.movements.entries c.self.inside.covered.0 c.self.inside.rows c.args.item c.add.new.self.entries c.self.invariant.0 none all,
-      subst (IsKept (g.K.Keeper.tells c.append.new.self) (g.K.Keeper.may_leave c.append.new.self))
+      subst (λ (h : List Deed). IsKept (g.K.Keeper.tells c.append.new.self) (g.K.Keeper.may_leave c.append.new.self) h [])
           (sym (deeds-kept c.self.inside.events.items c.self.inside.journal c.args.item c.self.invariant.0.counted ∙ longer)) now,
       omega (arith, c.self.invariant.2, length-append c.self.inside.events.items (Kept ∷ [])),
       c.self.invariant.3 ∙ ap heads (sym (take-append-le c.self.inside.covered.0 c.self.inside.journal (c.args.item ∷ []) c.self.invariant.0.within)),
