@@ -1,7 +1,7 @@
 //! A listener to which peers with scripts come.
 ghost use Rattle.std.specs.Prelude.{◌≡◌, ◌+◌, ◌<◌, OnOk, OnErr, IfOk};
 ghost use Rattle.stock_io.specs.Counts.{NeverFalls};
-ghost use Rattle.stock_io.specs.Nets.{new_port, new_connection, after_port_fault, after_handing_out, after_taking_back};
+ghost use Rattle.stock_io.specs.Nets.{new_port, new_connection, after_listening, after_port_fault, after_handing_out, after_taking_back};
 
 use crate::script::Script;
 use crate::talker::Talker;
@@ -15,6 +15,7 @@ use stock_io::listener::Listener;
 pub struct Talkers<R> {
     waiting: Vec<Script<R>>,
     hung_up: Vec<Talker<R>>,
+    port: Option<u16>,
     accepts: u64,
     hang_ups: u64,
     faults: u64,
@@ -26,7 +27,7 @@ impl<R> Model for Talkers<R> {
 
     ghost Value = { Port };
 
-    ghost view = { λ s. record { hang_ups = s.hang_ups; outstanding = s.accepts - s.hang_ups; faults = s.faults } };
+    ghost view = { λ s. record { hang_ups = s.hang_ups; outstanding = s.accepts - s.hang_ups; faults = s.faults; number = s.port } };
 
     ghost invariant = { λ s. s.hang_ups ≤ s.accepts };
 }
@@ -39,6 +40,7 @@ impl<R> Talkers<R> {
         Talkers {
             waiting,
             hung_up,
+            port: None,
             accepts: 0,
             hang_ups: 0,
             faults: 0,
@@ -86,13 +88,16 @@ impl<R: Wait + Send + Drop> Listener for Talkers<R> {
 
     ghost faults = { λ s. s.faults };
 
+    ghost listens_to = { λ s. s.number };
+
     ghost no_more_hung_up = { λ s. le-add_right s.hang_ups s.outstanding };
 
-    fn listen(&mut self, _port: u16) -> Result<(), Failed>
+    fn listen(&mut self, port: u16) -> Result<(), Failed>
         ensures never_falls { NeverFalls self.old.faults self.new.faults }
-        ensures after_ok { OnOk result (self.new ≡ self.old) }
+        ensures after_ok { OnOk result (self.new ≡ after_listening port self.old) }
         ensures after_failed { OnErr result (self.new ≡ after_port_fault self.old) }
     {
+        self.port = Some(port);
         Ok(())
     }
 

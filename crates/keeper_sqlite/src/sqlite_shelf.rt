@@ -6,15 +6,19 @@ use crate::sqlite_keeper::SqliteKeeper;
 use crate::standing;
 use sqlite::{Alter, Connection, Error, File, FileStore, Unknown};
 use stock_keeper::fault::KeepFault;
+use stock_keeper::opened_path::OpenedPath;
 use stock_keeper::shelf::Shelf;
 
-/// A shelf whose keepers are files. It tells its faults and those of the keeper that was put back last, and neither
-/// tables nor a plan. A file is locked while its keeper is out. No clause says which file is opened, or what it holds.
+/// A shelf whose keepers are files. It tells its faults and those of the keeper that was put back last, the path that was opened last
+/// and how often one was, and neither tables nor a plan. A file is locked while its keeper is out. No clause says what a file holds,
+/// or that the system opens the one at the path.
 #[derive(Drop)]
 pub struct SqliteShelf {
     rt: HostRuntime,
     faults: u64,
     kept_faults: u64,
+    opened: Option<OpenedPath>,
+    openings: u64,
 }
 
 impl SqliteShelf {
@@ -27,6 +31,8 @@ impl SqliteShelf {
             rt: *rt,
             faults: 0,
             kept_faults: 0,
+            opened: None,
+            openings: 0,
         }
     }
 
@@ -58,11 +64,17 @@ impl Shelf for SqliteShelf {
 
     ghost kept_faults = { λ s. s.kept_faults };
 
+    ghost opened = { λ s. s.opened };
+
+    ghost openings = { λ s. s.openings };
+
     // The file is made where it isn't there. One that another process has open fails at once, and so does one that can't be
     // opened or written, that isn't a database, or that has something in it and not exactly a ledger's tables: nothing is
     // changed there, and no file is left that wasn't there; of another database that a crash left with a log, what stands in
     // the log behind the last commit may be cut. Tables of these names with other columns are refused by `load`.
     fn open_keeper(&mut self, path: &str) -> Result<SqliteKeeper<FileStore<File>>, KeepFault> {
+        self.opened = Some(OpenedPath::of(path));
+        self.openings = self.openings.saturating_add(1);
         counted(opened(&self.rt, path), &mut self.faults)
     }
 

@@ -1,5 +1,5 @@
 -- What contracts see of sockets.
-use Rattle.std.specs.Prelude.{ℕ, ◌+◌, ◌-◌, Bool, true, false}
+use Rattle.std.specs.Prelude.{ℕ, ◌+◌, ◌-◌, Bool, true, false, Option, Some, None}
 use Rattle.stock_io.specs.Counts.{raised}
 
 -- how many bytes a connection gave, how many faults there were in both directions, and whether it was ended
@@ -22,17 +22,22 @@ after_link_fault link = record link { faults = raised link.faults }
 abbrev pub after_ending : Connection → Connection
 after_ending link = record link { ended = true }
 
--- how many peers of a port were hung up, how many it handed out that were not yet, and how many faults there were
+-- how many peers of a port were hung up, how many it handed out that were not yet, how many faults there were, and its number, once
+-- it is listened to
 pub record Port : Type 0 where
   pub hang_ups : ℕ
   pub outstanding : ℕ
   pub faults : ℕ
+  pub number : Option ℕ
 
 -- a port that was not listened to yet
 abbrev pub new_port : Port
-new_port = record { hang_ups = 0; outstanding = 0; faults = 0 }
+new_port = record { hang_ups = 0; outstanding = 0; faults = 0; number = None }
 
--- the port after one more fault, one more peer, and one more that was hung up
+-- the port once it is listened to, and after one more fault, one more peer, and one more that was hung up
+abbrev pub after_listening : ℕ → Port → Port
+after_listening number port = record port { number = Some number }
+
 abbrev pub after_port_fault : Port → Port
 after_port_fault port = record port { faults = raised port.faults }
 

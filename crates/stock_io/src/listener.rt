@@ -1,5 +1,5 @@
 //! Where connections come from.
-ghost use Rattle.std.specs.Prelude.{◌≡◌, ℕ, ◌+◌, ◌<◌, ◌≤◌, Option, List, [], IfOk, OnOk, OnErr, IfSome, false};
+ghost use Rattle.std.specs.Prelude.{◌≡◌, ℕ, ◌+◌, ◌<◌, ◌≤◌, Option, Some, List, [], IfOk, OnOk, OnErr, IfSome, false};
 ghost use Rattle.stock_io.specs.Counts.{Rose, NeverFalls};
 ghost use Rattle.stock_io.specs.Listeners.{HandsOut, HangsUp, IsFresh};
 
@@ -25,12 +25,17 @@ pub trait Listener {
     // How many faults there were.
     ghost faults: { Self → ℕ };
 
+    // The port that it listens to, once it does.
+    ghost listens_to: { Self → Option ℕ };
+
     /// Listens to a port from now on.
     ///
     /// # Errors
     ///
     /// `Failed` where that can't be had: a fault was counted.
     fn listen(&mut self, port: u16) -> Result<(), Failed>
+        ensures listens { OnOk result (listens_to self.new ≡ Some port) }
+        ensures port_kept { OnErr result (listens_to self.new ≡ listens_to self.old) }
         ensures waiting_kept { waiting self.new ≡ waiting self.old }
         ensures hung_up_kept { hung_up self.new ≡ hung_up self.old }
         ensures accepts_kept { accepts self.new ≡ accepts self.old }
@@ -54,6 +59,7 @@ pub trait Listener {
         ensures not_counted { OnErr result (accepts self.new ≡ accepts self.old) }
         ensures hung_up_kept { hung_up self.new ≡ hung_up self.old }
         ensures hang_ups_kept { hang_ups self.new ≡ hang_ups self.old }
+        ensures port_kept { listens_to self.new ≡ listens_to self.old }
         ensures faults_kept { OnOk result (faults self.new ≡ faults self.old) }
         ensures never_falls { NeverFalls (faults self.old) (faults self.new) }
         ensures cause { OnErr result (Rose (faults self.old) (faults self.new)) };
@@ -65,6 +71,7 @@ pub trait Listener {
         ensures counted { hang_ups self.new ≡ hang_ups self.old + 1 }
         ensures waiting_kept { waiting self.new ≡ waiting self.old }
         ensures accepts_kept { accepts self.new ≡ accepts self.old }
+        ensures port_kept { listens_to self.new ≡ listens_to self.old }
         ensures faults_kept { faults self.new ≡ faults self.old };
 
     // No more peers were hung up than were handed out.

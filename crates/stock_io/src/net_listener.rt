@@ -1,7 +1,7 @@
 //! A port of this machine, where connections over sockets come from.
 ghost use Rattle.std.specs.Prelude.{◌≡◌, ◌+◌, ◌<◌, OnOk, OnErr, IfOk};
 ghost use Rattle.stock_io.specs.Counts.{NeverFalls};
-ghost use Rattle.stock_io.specs.Nets.{new_port, new_connection, after_port_fault, after_handing_out, after_taking_back};
+ghost use Rattle.stock_io.specs.Nets.{new_port, new_connection, after_listening, after_port_fault, after_handing_out, after_taking_back};
 
 use crate::failed::Failed;
 use crate::listener::Listener;
@@ -14,6 +14,8 @@ use std::net::{Ipv4Addr, Net, SocketAddr, TcpListener, TcpStream};
 pub struct NetListener<R> {
     rt: R,
     socket: Option<TcpListener>,
+    /// The port that was asked for, once it listens.
+    asked: Option<u16>,
     accepts: u64,
     hang_ups: u64,
     faults: u64,
@@ -25,7 +27,7 @@ impl<R> Model for NetListener<R> {
 
     ghost Value = { Port };
 
-    ghost view = { λ s. record { hang_ups = s.hang_ups; outstanding = s.accepts - s.hang_ups; faults = s.faults } };
+    ghost view = { λ s. record { hang_ups = s.hang_ups; outstanding = s.accepts - s.hang_ups; faults = s.faults; number = s.asked } };
 
     ghost invariant = { λ s. s.hang_ups ≤ s.accepts };
 }
@@ -38,6 +40,7 @@ impl<R> NetListener<R> {
         NetListener {
             rt,
             socket: None,
+            asked: None,
             accepts: 0,
             hang_ups: 0,
             faults: 0,
@@ -82,16 +85,19 @@ impl<R: Net<Listener = TcpListener, Stream = TcpStream>> Listener for NetListene
 
     ghost faults = { λ s. s.faults };
 
+    ghost listens_to = { λ s. s.number };
+
     ghost no_more_hung_up = { λ s. le-add_right s.hang_ups s.outstanding };
 
     fn listen(&mut self, port: u16) -> Result<(), Failed>
         ensures never_falls { NeverFalls self.old.faults self.new.faults }
-        ensures after_ok { OnOk result (self.new ≡ self.old) }
+        ensures after_ok { OnOk result (self.new ≡ after_listening port self.old) }
         ensures after_failed { OnErr result (self.new ≡ after_port_fault self.old) }
     {
         match self.rt.bind(SocketAddr::from((Ipv4Addr::LOCALHOST, port))) {
             Ok(socket) => {
                 self.socket = Some(socket);
+                self.asked = Some(port);
                 Ok(())
             }
             Err(_) => Err(self.fail()),

@@ -1,6 +1,6 @@
 -- What the clauses of keepers and shelves say. Which tables something tells is a fact of tables: it holds of one, or of none
 -- where nothing is told. What a crash may leave is another.
-use Rattle.std.specs.Prelude.{◌≡◌, ◌↔◌, ◌⊎◌, ℕ, List, Option, Contains, Result, Err, IfSome}
+use Rattle.std.specs.Prelude.{◌≡◌, ◌↔◌, ◌⊎◌, ℕ, List, Option, Some, Contains, Result, Err, IfSome}
 use Rattle.stock_io.specs.Counts.{raised}
 use Rattle.stock_keeper.specs.declared.fault.KeepFault.{KeepFault}
 use Rattle.stock_keeper.specs.declared.fault.KeepFault.TheVariants.{Failed}
@@ -33,3 +33,12 @@ TellSame first second = (s t : Tables) → first s → second t → t ≡ s
 -- it holds of no tables
 abbrev pub HoldsOfNone : (Tables → Type 0) → Type 0
 HoldsOfNone told = (t : Tables) → told t → ⊥
+
+-- a keeper was asked for once, at this path
+pub record AsksAt {H : Type 0} (opened : H → Option (List ℕ)) (openings : H → ℕ) (path : List ℕ) (old new : H) : Type 0 where
+  pub path_is : opened new ≡ Some path
+  pub once : openings new ≡ raised (openings old)
+
+-- so one was, or none was, and the shelf is as it was
+abbrev pub AsksAtMost : {H : Type 0} → (H → Option (List ℕ)) → (H → ℕ) → List ℕ → H → H → Type 0
+AsksAtMost opened openings path old new = AsksAt opened openings path old new ⊎ (new ≡ old)

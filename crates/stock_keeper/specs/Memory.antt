@@ -38,31 +38,33 @@ after_failed_call kept images =
 abbrev pub HasTried : Tables → List Tables → List Tables → Type 0
 HasTried image old new = (new ≡ old ++ image ∷ []) ⊎ (new ≡ old)
 
--- a shelf in memory: the keeper, which is none while it is out, the faults of the one that was put back last, and which
--- openings fail
+-- a shelf in memory: the keeper, which is none while it is out, the faults of the one that was put back last, the path at which one
+-- was asked for last, and which openings fail
 pub record PlannedShelf : Type 0 where
   pub kept : Option PlannedKeeper
   pub kept_faults : ℕ
+  pub opened : Option (List ℕ)
   pub openings : Plan
 
 -- the shelf with this keeper before the first opening, of which these fail
 abbrev pub new_shelf : PlannedKeeper → List ℕ → PlannedShelf
-new_shelf kept failing = record { kept = Some kept; kept_faults = 0; openings = new_plan failing }
+new_shelf kept failing = record { kept = Some kept; kept_faults = 0; opened = None; openings = new_plan failing }
 
 -- the keeper as it is handed out: its tables, and its plan from the beginning
 abbrev pub restarted : PlannedKeeper → PlannedKeeper
 restarted kept = new_keeper kept.tables kept.plan.failing
 
--- the shelf after the keeper was handed out, after it wasn't, and once a keeper was put back
-abbrev pub after_opening : PlannedShelf → PlannedShelf
-after_opening shelf = record { kept = None; kept_faults = shelf.kept_faults; openings = after_call shelf.openings }
+-- the shelf after the keeper at this path was handed out, after it wasn't, and once a keeper was put back
+abbrev pub after_opening : List ℕ → PlannedShelf → PlannedShelf
+after_opening path shelf =
+    record { kept = None; kept_faults = shelf.kept_faults; opened = Some path; openings = after_call shelf.openings }
 
-abbrev pub after_failed_opening : PlannedShelf → PlannedShelf
-after_failed_opening shelf = record shelf { openings = after_failure shelf.openings }
+abbrev pub after_failed_opening : List ℕ → PlannedShelf → PlannedShelf
+after_failed_opening path shelf = record shelf { opened = Some path; openings = after_failure shelf.openings }
 
 abbrev pub after_put_back : PlannedShelf → PlannedKeeper → PlannedShelf
 after_put_back shelf kept =
-    record { kept = Some kept; kept_faults = kept.plan.faults; openings = shelf.openings }
+    record { kept = Some kept; kept_faults = kept.plan.faults; opened = shelf.opened; openings = shelf.openings }
 
 -- the tables are those of the keeper, which is not out
 abbrev pub IsOnShelf : Option PlannedKeeper → Tables → Type 0

@@ -8,6 +8,7 @@ pub mod keeper;
 pub mod memory_keeper;
 pub mod memory_shelf;
 pub mod nowhere;
+pub mod opened_path;
 mod sending;
 pub mod shelf;
 pub mod tables;

@@ -8,6 +8,7 @@ ghost use Rattle.stock_keeper.specs.declared.fault.KeepFault.TheVariants as faul
 
 use crate::fault::KeepFault;
 use crate::memory_keeper::MemKeeper;
+use crate::opened_path::OpenedPath;
 use crate::shelf::Shelf;
 use std::marker::Model;
 use stock_io::plan::FailurePlan;
@@ -19,6 +20,7 @@ pub struct MemShelf {
     // None while it is out.
     kept: Option<MemKeeper>,
     kept_faults: u64,
+    opened: Option<OpenedPath>,
     openings: FailurePlan,
 }
 
@@ -27,7 +29,7 @@ impl Model for MemShelf {
 
     ghost Value = { PlannedShelf };
 
-    ghost view = { λ s. record { kept = s.kept; kept_faults = s.kept_faults; openings = s.openings } };
+    ghost view = { λ s. record { kept = s.kept; kept_faults = s.kept_faults; opened = s.opened; openings = s.openings } };
 }
 
 impl MemShelf {
@@ -39,6 +41,7 @@ impl MemShelf {
         MemShelf {
             kept: Some(kept),
             kept_faults: 0,
+            opened: None,
             openings: FailurePlan::new(failing),
         }
     }
@@ -85,16 +88,21 @@ impl Shelf for MemShelf {
 
     ghost kept_faults = { λ s. s.kept_faults };
 
-    fn open_keeper(&mut self, _path: &str) -> Result<MemKeeper, KeepFault>
+    ghost opened = { λ s. s.opened };
+
+    ghost openings = { λ s. s.openings.calls };
+
+    fn open_keeper(&mut self, path: &str) -> Result<MemKeeper, KeepFault>
         ensures never_falls { NeverFalls self.old.openings.faults self.new.openings.faults }
 
         // It fails as planned, and with the keeper out. It takes no memory.
         ensures planned { IsErr result ↔ (NextFails self.old.openings ⊎ (self.old.kept ≡ None)) }
         ensures cause { OnErr result (result ≡ Err fault.Failed) }
         ensures handed_out { IfOk result (λ keeper. IfSome self.old.kept (λ kept. keeper ≡ restarted kept)) }
-        ensures after_ok { OnOk result (self.new ≡ after_opening self.old) }
-        ensures after_failed { OnErr result (self.new ≡ after_failed_opening self.old) }
+        ensures after_ok { OnOk result (self.new ≡ after_opening path.now self.old) }
+        ensures after_failed { OnErr result (self.new ≡ after_failed_opening path.now self.old) }
     {
+        self.opened = Some(OpenedPath::of(path));
         if self.openings.next_fails() {
             return Err(KeepFault::Failed);
         }

@@ -1,6 +1,6 @@
 //! Shelves, which hand keepers out and take them back.
 ghost use Rattle.std.specs.Prelude.{◌≡◌, ℕ, List, Option, Some, Err, OnOk, IfOk, IfSome, OnSome};
-ghost use Rattle.stock_io.specs.Counts.{Rose, NeverFalls};
+ghost use Rattle.stock_io.specs.Counts.{Rose, NeverFalls, raised};
 ghost use Rattle.stock_keeper.specs.Keeping.{Within, TellSame};
 ghost use Rattle.stock_keeper.specs.declared.fault.KeepFault.TheVariants.{Failed};
 ghost use Rattle.stock_keeper.specs.declared.tables.Tables.{Tables};
@@ -25,6 +25,11 @@ pub trait Shelf {
     // How many faults the keeper had that was put back last, and 0 before any.
     ghost kept_faults: { Self → ℕ };
 
+    // The bytes of the path at which a keeper was asked for last, once one was, and how often one was.
+    ghost opened: { Self → Option (List ℕ) };
+
+    ghost openings: { Self → ℕ };
+
     /// Hands out the keeper at this path. It had no fault yet, a crash leaves just its tables, and where the
     /// shelf tells a plan the keeper has it and was not called.
     ///
@@ -41,6 +46,8 @@ pub trait Shelf {
         ensures tables_kept { Within (tells self.old) (tells self.new) }
         ensures plan_kept { IfSome (plan self.new) (λ numbers. plan self.old ≡ Some numbers) }
         ensures kept_faults_kept { kept_faults self.new ≡ kept_faults self.old }
+        ensures opened { opened self.new ≡ Some path.now }
+        ensures counted { openings self.new ≡ raised (openings self.old) }
         ensures faults_kept { OnOk result (faults self.new ≡ faults self.old) }
         ensures never_falls { NeverFalls (faults self.old) (faults self.new) }
         ensures cause { result ≡ Err Failed → Rose (faults self.old) (faults self.new) };
@@ -50,5 +57,7 @@ pub trait Shelf {
         ensures tables { Within (Self.Kept.tells kept) (tells self.new) }
         ensures plan { IfSome (plan self.new) (λ numbers. Self.Kept.plan kept ≡ Some numbers) }
         ensures kept_faults { kept_faults self.new ≡ Self.Kept.faults kept }
+        ensures opened_kept { opened self.new ≡ opened self.old }
+        ensures openings_kept { openings self.new ≡ openings self.old }
         ensures faults_kept { faults self.new ≡ faults self.old };
 }
