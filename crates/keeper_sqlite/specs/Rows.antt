@@ -1,5 +1,5 @@
 -- How records, worths and the head stand in rows.
-use Rattle.std.specs.Prelude.{◌≡◌, List, map, codes, pos, [], ◌∷◌}
+use Rattle.std.specs.Prelude.{◌≡◌, ℤ, List, map, codes, pos, [], ◌∷◌}
 use Rattle.sqlite_value.specs.declared.value.Value.TheVariants.{Int, Text, Blob}
 use Rattle.sqlite_value.specs.Order.{Row, column}
 use Rattle.stock_nums.specs.Places.{side_rank}
@@ -32,3 +32,21 @@ pub record IsWorthOf (row : Row) (w : SpotWorth) : Type 0 where
 -- the rows name the tables of a ledger, in order
 abbrev pub AreLedger : List Row → Type 0
 AreLedger rows = map (λ row. column row 0) rows ≡ Text (codes "head") ∷ Text (codes "records") ∷ Text (codes "worths") ∷ []
+
+-- the columns of a row that a record is read from, and a worth
+abbrev pub record_columns : Row → Row
+record_columns row = column row 0 ∷ column row 1 ∷ []
+
+abbrev pub worth_columns : Row → Row
+worth_columns row = column row 0 ∷ column row 1 ∷ column row 2 ∷ column row 3 ∷ column row 4 ∷ []
+
+-- these are the records of all the rows, in order, and these the worths
+abbrev pub AreRecordsOf : List Row → List StoredRecord → Type 0
+AreRecordsOf rows records = map record_row records ≡ map record_columns rows
+
+abbrev pub AreWorthsOf : List Row → List SpotWorth → Type 0
+AreWorthsOf rows worths = map worth_row worths ≡ map worth_columns rows
+
+-- the row has the version and then how many records are covered
+abbrev pub IsHeadOf : Row → ℤ → ℤ → Type 0
+IsHeadOf row version covered = (column row 0 ≡ Int version) × (column row 1 ≡ Int covered)

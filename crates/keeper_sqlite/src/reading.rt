@@ -4,8 +4,8 @@ ghost use Rattle.sqlite_value.specs.declared.value.Value.TheVariants.{Int};
 ghost use Rattle.sqlite_value.specs.Order.{column};
 ghost use Rattle.stock_nums.specs.Places.{side_rank};
 ghost use Rattle.stock_keeper.specs.Worths.{AreInOrder};
-ghost use Rattle.keeper_sqlite.specs.Rows.{IsRecordOf, IsWorthOf};
-ghost use Rattle.keeper_sqlite.specs.Running.{HasShown};
+ghost use Rattle.keeper_sqlite.specs.Rows.{IsRecordOf, IsWorthOf, IsHeadOf, AreRecordsOf, AreWorthsOf};
+ghost use Rattle.keeper_sqlite.specs.Running.{HasShown, HasShownRow, HasLoaded, WasClean};
 ghost use Rattle.keeper_sqlite.specs.Texts as texts;
 
 use sqlite::{Alter, Connection, Error, ErrorCode, Row, Transaction};
@@ -35,6 +35,7 @@ struct Head {
 pub(crate) fn load<S: Alter>(alloc: Global, conn: &mut Connection<S>) -> Result<Tables, Error>
     requires { conn.old.in_transaction ≡ false }
     ensures ended { conn.new.in_transaction ≡ false }
+    ensures loaded { IfOk result (HasLoaded S.Store conn.old conn.new) }
     ensures in_order { IfOk result (λ copy. AreInOrder copy.worths) }
 {
     let mut tx = conn.transaction();
@@ -54,6 +55,7 @@ pub(crate) fn load<S: Alter>(alloc: Global, conn: &mut Connection<S>) -> Result<
 fn record_rows<S: Alter>(tx: &mut Transaction<'_, S>) -> Result<Vec<Row>, Error>
     ensures same_reference { tx.new.conn.ghost_name ≡ tx.old.conn.ghost_name }
     ensures shown { IfOk result (λ rows. HasShown S.Store texts.select_records tx.old.conn.now tx.new.conn.now rows.items) }
+    ensures clean { WasClean S.Store tx.old.conn.now tx.new.conn.now }
 {
     tx.query_all("SELECT no, body FROM records ORDER BY no", &[])
 }
@@ -62,6 +64,7 @@ fn record_rows<S: Alter>(tx: &mut Transaction<'_, S>) -> Result<Vec<Row>, Error>
 fn worth_rows<S: Alter>(tx: &mut Transaction<'_, S>) -> Result<Vec<Row>, Error>
     ensures same_reference { tx.new.conn.ghost_name ≡ tx.old.conn.ghost_name }
     ensures shown { IfOk result (λ rows. HasShown S.Store texts.select_worths tx.old.conn.now tx.new.conn.now rows.items) }
+    ensures clean { WasClean S.Store tx.old.conn.now tx.new.conn.now }
 {
     tx.query_all(
         "SELECT voucher, line, side, value, share FROM worths ORDER BY voucher, line, side",
@@ -69,17 +72,40 @@ fn worth_rows<S: Alter>(tx: &mut Transaction<'_, S>) -> Result<Vec<Row>, Error>
     )
 }
 
+// The head, by the row that is asked for.
 fn stored_head<S: Alter>(tx: &mut Transaction<'_, S>) -> Result<Head, Error>
     ensures same_reference { tx.new.conn.ghost_name ≡ tx.old.conn.ghost_name }
+    ensures shown { IfOk result (λ head. (row : Row) × HasShownRow S.Store texts.select_head tx.old.conn.now tx.new.conn.now row
+        × IsHeadOf row head.version head.covered) }
+    ensures clean { WasClean S.Store tx.old.conn.now tx.new.conn.now }
 {
-    let row = tx.query_row("SELECT version, covered FROM head ORDER BY id", &[])?;
+    let row = head_row(tx)?;
+    head_of(&row)
+}
+
+// The row of the head.
+fn head_row<S: Alter>(tx: &mut Transaction<'_, S>) -> Result<Row, Error>
+    ensures same_reference { tx.new.conn.ghost_name ≡ tx.old.conn.ghost_name }
+    ensures shown { IfOk result (HasShownRow S.Store texts.select_head tx.old.conn.now tx.new.conn.now) }
+    ensures clean { WasClean S.Store tx.old.conn.now tx.new.conn.now }
+{
+    tx.query_row("SELECT version, covered FROM head ORDER BY id", &[])
+}
+
+// The head that stands in a row.
+fn head_of(row: &Row) -> Result<Head, Error>
+    ensures { IfOk result (λ head. IsHeadOf row.now head.version head.covered) }
+{
     Ok(Head {
         version: row.get(0)?,
         covered: row.get(1)?,
     })
 }
 
-fn records_of(alloc: Global, rows: &[Row]) -> Result<Lines<StoredRecord>, Error> {
+// The records of all these rows.
+fn records_of(alloc: Global, rows: &[Row]) -> Result<Lines<StoredRecord>, Error>
+    ensures { IfOk result (AreRecordsOf rows.now) }
+{
     let mut records = Vec::with_capacity(alloc, rows.len())?;
     for row in rows {
         records.push(record_of(row)?)?;
@@ -98,9 +124,10 @@ fn record_of(row: &Row) -> Result<StoredRecord, Error>
     })
 }
 
-// The worths of these rows, which the database was asked for in order. A table that others made may hold a spot twice.
+// The worths of all these rows, which the database was asked for in order. A table that others made may hold a spot twice.
 fn worths_of(alloc: Global, rows: &[Row]) -> Result<Lines<SpotWorth>, Error>
-    ensures { IfOk result AreInOrder }
+    ensures all { IfOk result (AreWorthsOf rows.now) }
+    ensures in_order { IfOk result AreInOrder }
 {
     let mut worths = Vec::with_capacity(alloc, rows.len())?;
     for row in rows {

@@ -1,9 +1,9 @@
 //! The tables of a ledger, which are made where a database has nothing in it yet.
-ghost use Rattle.std.specs.Prelude.{◌≡◌, ◌↔◌, false, IsTrue, IfOk, codes, []};
+ghost use Rattle.std.specs.Prelude.{◌≡◌, ◌↔◌, false, IsTrue, IfOk, OnOk, codes, []};
 ghost use Rattle.sqlite_value.specs.declared.value.Value.TheVariants.{Text};
 ghost use Rattle.sqlite_value.specs.Order.{column};
 ghost use Rattle.keeper_sqlite.specs.Rows.{AreLedger};
-ghost use Rattle.keeper_sqlite.specs.Running.{HasRun, HasShown};
+ghost use Rattle.keeper_sqlite.specs.Running.{HasRun, HasShown, HasMadeTables, IsReady, WasClean};
 ghost use Rattle.keeper_sqlite.specs.Texts as texts;
 
 use sqlite::types::ValueRef;
@@ -19,6 +19,7 @@ use sqlite::{Alter, Connection, Error, ErrorCode, Row, Transaction};
 pub(crate) fn make_ready<S: Alter>(conn: &mut Connection<S>) -> Result<(), Error>
     requires { conn.old.in_transaction ≡ false }
     ensures ended { conn.new.in_transaction ≡ false }
+    ensures ready { OnOk result (IsReady S.Store conn.old conn.new) }
 {
     if all_names(conn)?.is_empty() {
         return make_tables(conn);
@@ -73,18 +74,21 @@ fn is_named(row: &Row, name: &[u8]) -> bool
 fn make_tables<S: Alter>(conn: &mut Connection<S>) -> Result<(), Error>
     requires { conn.old.in_transaction ≡ false }
     ensures ended { conn.new.in_transaction ≡ false }
+    ensures made { OnOk result (HasMadeTables S.Store conn.old conn.new) }
 {
     let mut tx = conn.transaction();
     make_records(&mut tx)?;
     make_worths(&mut tx)?;
     make_head(&mut tx)?;
     begin_head(&mut tx)?;
-    tx.commit()
+    tx.commit()?;
+    Ok(())
 }
 
 fn make_records<S: Alter>(tx: &mut Transaction<'_, S>) -> Result<usize, Error>
     ensures same_reference { tx.new.conn.ghost_name ≡ tx.old.conn.ghost_name }
     ensures runs { HasRun S.Store texts.make_records [] tx.old.conn.now tx.new.conn.now result }
+    ensures clean { WasClean S.Store tx.old.conn.now tx.new.conn.now }
 {
     tx.execute(
         "CREATE TABLE records(no INTEGER PRIMARY KEY, body BLOB NOT NULL) STRICT",
@@ -95,6 +99,7 @@ fn make_records<S: Alter>(tx: &mut Transaction<'_, S>) -> Result<usize, Error>
 fn make_worths<S: Alter>(tx: &mut Transaction<'_, S>) -> Result<usize, Error>
     ensures same_reference { tx.new.conn.ghost_name ≡ tx.old.conn.ghost_name }
     ensures runs { HasRun S.Store texts.make_worths [] tx.old.conn.now tx.new.conn.now result }
+    ensures clean { WasClean S.Store tx.old.conn.now tx.new.conn.now }
 {
     tx.execute(
         "CREATE TABLE worths(voucher INTEGER NOT NULL, line INTEGER NOT NULL, side INTEGER NOT NULL, value INTEGER NOT NULL, share INTEGER NOT NULL, PRIMARY KEY(voucher, line, side)) STRICT",
@@ -105,6 +110,7 @@ fn make_worths<S: Alter>(tx: &mut Transaction<'_, S>) -> Result<usize, Error>
 fn make_head<S: Alter>(tx: &mut Transaction<'_, S>) -> Result<usize, Error>
     ensures same_reference { tx.new.conn.ghost_name ≡ tx.old.conn.ghost_name }
     ensures runs { HasRun S.Store texts.make_head [] tx.old.conn.now tx.new.conn.now result }
+    ensures clean { WasClean S.Store tx.old.conn.now tx.new.conn.now }
 {
     tx.execute(
         "CREATE TABLE head(id INTEGER PRIMARY KEY CHECK(id = 1), version INTEGER NOT NULL, covered INTEGER NOT NULL) STRICT",
@@ -115,6 +121,7 @@ fn make_head<S: Alter>(tx: &mut Transaction<'_, S>) -> Result<usize, Error>
 fn begin_head<S: Alter>(tx: &mut Transaction<'_, S>) -> Result<usize, Error>
     ensures same_reference { tx.new.conn.ghost_name ≡ tx.old.conn.ghost_name }
     ensures runs { HasRun S.Store texts.begin_head [] tx.old.conn.now tx.new.conn.now result }
+    ensures clean { WasClean S.Store tx.old.conn.now tx.new.conn.now }
 {
     tx.execute(
         "INSERT INTO head(id, version, covered) VALUES(1, 1, 0)",

@@ -1,10 +1,10 @@
-//! A keeper over a database. It tells no tables yet, so no clause says what a publication writes, and of what a load
-//! reads one says only that the worths stand in order.
+//! A keeper over a database. It tells no tables. Its own clauses say which statements a change ran in one transaction, and which
+//! queries showed the rows that a load has its tables from; what these do to a database is what the kit's says of their texts.
 ghost use Rattle.std.specs.Prelude.{◌≡◌, false, true, Err, IfOk, IfErr, OnOk};
 ghost use Rattle.stock_io.specs.Counts.{NeverFalls, raised};
 ghost use Rattle.stock_keeper.specs.declared.fault.KeepFault.TheVariants as fault;
 ghost use Rattle.stock_keeper.specs.Worths.{AreInOrder};
-ghost use Rattle.keeper_sqlite.specs.Running.{HasAppended, HasPublished};
+ghost use Rattle.keeper_sqlite.specs.Running.{HasAppended, HasPublished, HasLoaded, IsReady};
 
 use crate::refusing::counted;
 use crate::{reading, schema, writing};
@@ -41,6 +41,7 @@ impl<S: Alter + Drop> SqliteKeeper<S> {
     ) -> Result<SqliteKeeper<S>, (Error, Connection<S>)>
         requires { conn.in_transaction ≡ false }
         ensures fresh { IfOk result (λ keeper. keeper.faults ≡ 0) }
+        ensures ready { IfOk result (λ keeper. IsReady S.Store conn keeper.conn) }
         ensures ended { IfErr result (λ refused. refused.1.in_transaction ≡ false) }
     {
         match schema::make_ready(&mut conn) {
@@ -114,6 +115,7 @@ impl<S: Alter> Keeper for SqliteKeeper<S> {
     }
 
     fn load(&mut self) -> Result<Tables, KeepFault>
+        ensures loaded { IfOk result (HasLoaded S.Store self.old.conn self.new.conn) }
         ensures in_order { IfOk result (λ copy. AreInOrder copy.worths) }
         ensures faults_kept { OnOk result (self.new.faults ≡ self.old.faults) }
         ensures fault { result ≡ Err fault.Failed → self.new.faults ≡ raised self.old.faults }

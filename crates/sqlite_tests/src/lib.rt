@@ -4,3 +4,5 @@
 
 #[cfg(test)]
 mod sqlite_keepers;
+#[cfg(test)]
+mod sqlite_shelves;
