@@ -57,6 +57,7 @@ pub fn accept_all<
         next.0 desks.passes.items result.passes.items desks.peers.items result.peers.items
         (heard L.waiting L.hung_up L.accepts L.hang_ups L.faults desks.listener)
         (heard L.waiting L.hung_up L.accepts L.hang_ups L.faults result.listener) }
+    ensures port_kept { L.listens_to result.listener ≡ L.listens_to desks.listener }
 {
     let Desks {
         mut listener,

@@ -7,8 +7,9 @@ use stock_io::listener::Listener;
 /// Hangs all these peers up, the last one first.
 pub fn hang_up_all<L: Listener>(mut listener: L, mut peers: Vec<L::Peer>) -> L
     requires outstanding { L.hang_ups listener + vec_len peers ≤ L.accepts listener }
-    ensures { HangsUp (heard L.waiting L.hung_up L.accepts L.hang_ups L.faults listener)
+    ensures hung_up { HangsUp (heard L.waiting L.hung_up L.accepts L.hang_ups L.faults listener)
         (heard L.waiting L.hung_up L.accepts L.hang_ups L.faults result) (reverse peers.items) }
+    ensures port_kept { L.listens_to result ≡ L.listens_to listener }
 {
     match peers.pop() {
         Some(peer) => {

@@ -79,6 +79,7 @@ pub fn serve<K: Keeper + Send, P: Link, L: Listener<Peer = P> + Drop, R: Threads
         desks served.accepted book.history served.book.history book.keeper.faults served.book.keeper.faults
         (heard L.waiting L.hung_up L.accepts L.hang_ups L.faults listener)
         (heard L.waiting L.hung_up L.accepts L.hang_ups L.faults served.listener)) }
+    ensures port_kept { IfOk result (λ served. L.listens_to served.listener ≡ L.listens_to listener) }
     ensures work { IfOk result (λ served. IsWorkOf served.book.history served.build) }
     ensures not_served { IfErr result (λ refused.
         (refused.book ≡ book) × (refused.build ≡ build) × (refused.listener ≡ listener)) }
@@ -139,13 +140,14 @@ fn in_threads<
     requires name { blank.name ≡ N.name }
     requires parts { blank.parts ≡ N.parts }
     requires some_parts { 0 < N.parts }
-    ensures { IsTeamwork
+    ensures teamwork { IsTeamwork
         (IsAttended P.left P.taken P.written P.Source.faults P.ended)
         (IsFresh P.taken P.written P.Source.faults P.ended)
         team.worker.pass team.worker.build result.worker.pass result.worker.build
         team.desks.passes.items result.desks.passes.items result.desks.peers.items
         (heard L.waiting L.hung_up L.accepts L.hang_ups L.faults team.desks.listener)
         (heard L.waiting L.hung_up L.accepts L.hang_ups L.faults result.desks.listener) }
+    ensures port_kept { L.listens_to result.desks.listener ≡ L.listens_to team.desks.listener }
 {
     let closing = Closing::new();
     let shared = &closing;
@@ -163,13 +165,14 @@ fn in_threads<
             requires name { blank.name ≡ N.name }
             requires parts { blank.parts ≡ N.parts }
             requires some_parts { 0 < N.parts }
-            ensures { IsTeamwork
+            ensures teamwork { IsTeamwork
                 (IsAttended P.left P.taken P.written P.Source.faults P.ended)
                 (IsFresh P.taken P.written P.Source.faults P.ended)
                 team.worker.pass team.worker.build result.worker.pass result.worker.build
                 team.desks.passes.items result.desks.passes.items result.desks.peers.items
                 (heard L.waiting L.hung_up L.accepts L.hang_ups L.faults team.desks.listener)
                 (heard L.waiting L.hung_up L.accepts L.hang_ups L.faults result.desks.listener) }
+            ensures port_kept { L.listens_to result.desks.listener ≡ L.listens_to team.desks.listener }
         { in_scope::<_, K, P, L, N, R>(rt, alloc, scope, lock, shared, team, blank) },
     )
 }
@@ -202,13 +205,14 @@ fn in_scope<
     requires name { blank.name ≡ N.name }
     requires parts { blank.parts ≡ N.parts }
     requires some_parts { 0 < N.parts }
-    ensures { IsTeamwork
+    ensures teamwork { IsTeamwork
         (IsAttended P.left P.taken P.written P.Source.faults P.ended)
         (IsFresh P.taken P.written P.Source.faults P.ended)
         team.worker.pass team.worker.build result.worker.pass result.worker.build
         team.desks.passes.items result.desks.passes.items result.desks.peers.items
         (heard L.waiting L.hung_up L.accepts L.hang_ups L.faults team.desks.listener)
         (heard L.waiting L.hung_up L.accepts L.hang_ups L.faults result.desks.listener) }
+    ensures port_kept { L.listens_to result.desks.listener ≡ L.listens_to team.desks.listener }
 {
     let Team { worker, desks } = team;
     let started = worker::start::<E, K, N, R>(rt, alloc, scope, lock, closing, worker, blank);
@@ -232,6 +236,7 @@ fn ended<K: Keeper, L: Listener>(lock: TurnLock<Book<K>>, team: Team<K, L>) -> S
     ensures legal { IsLegal result.book.history }
     ensures hung_up { HangsUp (heard L.waiting L.hung_up L.accepts L.hang_ups L.faults team.desks.listener)
         (heard L.waiting L.hung_up L.accepts L.hang_ups L.faults result.listener) (reverse team.desks.peers.items) }
+    ensures port_kept { L.listens_to result.listener ≡ L.listens_to team.desks.listener }
     ensures build { result.build ≡ team.worker.build }
     ensures accepted { result.accepted ≡ length team.desks.peers.items }
 {

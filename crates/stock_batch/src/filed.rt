@@ -1,6 +1,6 @@
 //! A batch over a ledger that is kept.
 ghost use Rattle.std.specs.Prelude.{◌<◌, length};
-ghost use Rattle.stock_keeper.specs.Keeping.{Within};
+ghost use Rattle.stock_keeper.specs.Keeping.{Within, AsksAtMost};
 ghost use Rattle.stock_batch.specs.Filed.{RunsOverShelf, RunsOverKeeper};
 
 use crate::batch::Batch;
@@ -31,8 +31,11 @@ pub fn run_over<H: Shelf, S: Source, O: Sink>(
     input: &mut S,
     output: &mut O,
 ) -> End
-    ensures { RunsOverShelf H.Kept.tells H.tells H.plan H.faults H.kept_faults S.left S.taken S.faults O.written O.faults
+    ensures runs { RunsOverShelf H.Kept.tells H.tells H.plan H.faults H.kept_faults S.left S.taken S.faults O.written O.faults
         shelf.old shelf.new input.old input.new output.old output.new result }
+
+    // None is opened where memory is wanting before.
+    ensures opens { AsksAtMost H.opened H.openings path.now shelf.old shelf.new }
 {
     let Ok(mut buffer) = vec![in alloc; 0; BUFFER] else {
         return End::NoMemory;

@@ -15,6 +15,8 @@ pub fn put_back<H: Shelf>(shelf: &mut H, keeper: H::Kept) -> PutBack
     ensures plan { IfSome (H.plan shelf.new) (λ numbers. H.Kept.plan keeper ≡ Some numbers) }
     ensures kept_faults { H.kept_faults shelf.new ≡ H.Kept.faults keeper }
     ensures faults_kept { H.faults shelf.new ≡ H.faults shelf.old }
+    ensures opened_kept { H.opened shelf.new ≡ H.opened shelf.old }
+    ensures openings_kept { H.openings shelf.new ≡ H.openings shelf.old }
 {
     shelf.put_back(keeper);
     PutBack(())

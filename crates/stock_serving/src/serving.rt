@@ -4,12 +4,12 @@ ghost use Rattle.stock_nums.specs.declared.limits.TheConstants.{MAX_DESK};
 ghost use Rattle.stock_io.specs.Counts.{NeverFalls};
 ghost use Rattle.stock_io.specs.Listeners.{IsFresh};
 ghost use Rattle.stock_model.specs.History.{IsLegal};
-ghost use Rattle.stock_keeper.specs.Keeping.{Within};
+ghost use Rattle.stock_keeper.specs.Keeping.{Within, AsksAt};
 ghost use Rattle.repost_worker.specs.Paces.{pace_of};
 ghost use Rattle.repost_worker.specs.Turns.{IsWorkOf};
 ghost use Rattle.desk_service.specs.Listening.{heard};
 ghost use Rattle.desk_service.specs.Service.{IsPeerServed};
-ghost use Rattle.stock_serving.specs.Serving.{summary_text, Settles, Leaves, LeavesKept, IsWritten, ServesOverShelf};
+ghost use Rattle.stock_serving.specs.Serving.{summary_text, Settles, Leaves, LeavesKept, IsWritten, ServesOverShelf, ListensTo};
 
 use crate::putting_back::{PutBack, put_back};
 use desk_service::service::{NotServed, Served, serve};
@@ -75,6 +75,8 @@ pub fn serve_over<
         (IsPeerServed P.left P.taken P.written P.Source.faults P.ended)
         (IsFresh P.taken P.written P.Source.faults P.ended) desks
         shelf.old shelf.new listener result.listener output.old output.new result.end }
+    ensures opens { AsksAt H.opened H.openings path.now shelf.old shelf.new }
+    ensures listens { ListensTo L.listens_to L.accepts port listener result.listener }
     ensures shelf_never_falls { NeverFalls (H.faults shelf.old) (H.faults shelf.new) }
     ensures listener_never_falls { NeverFalls (L.faults listener) (L.faults result.listener) }
     ensures output_never_falls { NeverFalls (O.faults output.old) (O.faults output.new) }
@@ -114,6 +116,7 @@ fn serve_kept<K: Keeper + Send, P: Link, L: Listener<Peer = P> + Drop, R: Thread
         (IsPeerServed P.left P.taken P.written P.Source.faults P.ended)
         (IsFresh P.taken P.written P.Source.faults P.ended) desks
         result.summary keeper result.keeper listener result.listener }
+    ensures listens { ListensTo L.listens_to L.accepts port listener result.listener }
     ensures never_falls { NeverFalls (L.faults listener) (L.faults result.listener) }
 {
     match RevaluedBook::begin(alloc, keeper) {
@@ -152,6 +155,7 @@ fn serve_book<K: Keeper + Send, P: Link, L: Listener<Peer = P> + Drop, R: Thread
         (IsFresh P.taken P.written P.Source.faults P.ended) desks result.summary book result.book
         (heard L.waiting L.hung_up L.accepts L.hang_ups L.faults listener)
         (heard L.waiting L.hung_up L.accepts L.hang_ups L.faults result.listener) }
+    ensures listens { ListensTo L.listens_to L.accepts port listener result.listener }
     ensures never_falls { NeverFalls (L.faults listener) (L.faults result.listener) }
 {
     match listener.listen(port) {
@@ -178,6 +182,7 @@ fn serve_peers<K: Keeper + Send, P: Link, L: Listener<Peer = P> + Drop, R: Threa
         (IsFresh P.taken P.written P.Source.faults P.ended) desks result.summary book result.book
         (heard L.waiting L.hung_up L.accepts L.hang_ups L.faults listener)
         (heard L.waiting L.hung_up L.accepts L.hang_ups L.faults result.listener) }
+    ensures port_kept { L.listens_to result.listener ≡ L.listens_to listener }
     ensures never_falls { NeverFalls (L.faults listener) (L.faults result.listener) }
 {
     let (book, build) = book.into_parts();

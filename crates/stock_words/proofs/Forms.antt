@@ -1,5 +1,7 @@
--- The commands begin with bytes of their own, so no words are two of the program's forms; and those of a load tell one number.
+-- The commands begin with bytes of their own, so no words are two of the program's forms; and those of a load tell one number, those
+-- of a batch over a file one path.
 use Rattle.std.proofs.Common.{◌≡◌, ℕ, List, [], ◌∷◌, get_or, inl, inr, sym, ap, ◌∙◌}
+use Rattle.std.proofs.lemmas.List.{append_cancel_left}
 use Rattle.std.specs.Prelude.{codes}
 use Rattle.std.specs.Str.Parse.{digits_value}
 use Rattle.stock_words.specs.ServeWords.{SpellsServe}
@@ -38,3 +40,26 @@ pub load_once : (words : List (List ℕ)) (m n : ℕ) → SpellsLoad words m →
 load_once words m n one other =
     let same : one.0 ≡ other.0 = sym (ap second_word one.1) ∙ ap second_word other.1 in
     sym one.2.told ∙ ap (digits_value 10) same ∙ other.2.told
+
+abbrev third_word : List (List ℕ) → List ℕ
+third_word [] = []
+third_word (word ∷ []) = []
+third_word (word ∷ next ∷ []) = []
+third_word (word ∷ next ∷ third ∷ words) = third
+
+abbrev behind_two : List (List ℕ) → List (List ℕ)
+behind_two [] = []
+behind_two (word ∷ []) = []
+behind_two (word ∷ next ∷ words) = words
+
+-- a batch over a file tells one path
+pub one_path : (words : List (List ℕ)) (path path' : List ℕ) → SpellsBatchOver words path → SpellsBatchOver words path' → path ≡ path'
+one_path words path path' (inl two) (inl other) = sym (ap third_word two.0) ∙ ap third_word other.0
+one_path words path path' (inl two) (inr other) =
+    let same : path ∷ [] ≡ [] = sym (ap behind_two two.0) ∙ ap behind_two other.0 in
+    cc
+one_path words path path' (inr one) (inl other) =
+    let same : [] ≡ path' ∷ [] = sym (ap behind_two one.0) ∙ ap behind_two other.0 in
+    cc
+one_path words path path' (inr one) (inr other) =
+    append_cancel_left (codes "--file=") path path' (sym (ap second_word one.0) ∙ ap second_word other.0)

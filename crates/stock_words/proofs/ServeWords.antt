@@ -149,3 +149,22 @@ one_service words path path' port port' desks desks' one other =
     let word = same_some one.means.desks_word other.means.desks_word
     (sym one.means.desks_named ∙ ap (value_of Desks) settings ∙ other.means.desks_named) in
     sym one.means.desks_are.told ∙ ap (digits_value 10) word ∙ other.means.desks_are.told
+
+-- and one path and one port
+module _ (words : List (List ℕ)) (path path' : List ℕ) (port port' desks desks' : ℕ) (one : SpellsServe words path port desks)
+    (other : SpellsServe words path' port' desks') where
+  same_settings : one.settings ≡ other.settings
+  same_settings =
+      let options : one.options ≡ other.options = ap behind_first (sym one.command ∙ other.command) in
+      one_spelling one.options one.settings other.settings one.spelled
+      (subst (λ (ws : List (List ℕ)). SpellsSettings ws other.settings) (sym options) other.spelled)
+
+  pub one_service_path : path ≡ path'
+  one_service_path =
+      same_some path path' (sym one.means.path_is ∙ ap (value_of File) same_settings ∙ other.means.path_is)
+
+  pub one_service_port : port ≡ port'
+  one_service_port =
+      let word = same_some one.means.port_word other.means.port_word
+      (sym one.means.port_named ∙ ap (value_of Port) same_settings ∙ other.means.port_named) in
+      sym one.means.port_is.told ∙ ap (digits_value 10) word ∙ other.means.port_is.told

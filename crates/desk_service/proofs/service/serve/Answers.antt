@@ -35,7 +35,7 @@ ended-requires-clause-of_lock g c κs within =
     let lock = c.in-Ok-new.made.0.lock in
     let are = opened-passes lock _ history faults c.args.desks _ _ c.in-Ok-new.ensures.lock.0 c.in-Ok-new.ensures.pass c.split_all-pass.ensures.passes in
     let split = opened-split history faults c.args.desks _ _ c.in-Ok-new.ensures.pass c.split_all-pass.ensures.pass in
-    let team = c.in_threads-team.ensures in
+    let team = c.in_threads-team.ensures.teamwork in
     of_lock _ _ _ _ _ _ lock c.args.book.history c.args.book.keeper.faults c.args.desks _ _ _ _ _ _ _ _ _ split are team
 
 pub ended-requires-clause-split : goal.ended-requires-clause-split
@@ -45,7 +45,7 @@ ended-requires-clause-split g c κs within =
     let lock = c.in-Ok-new.made.0.lock in
     let are = opened-passes lock _ history faults c.args.desks _ _ c.in-Ok-new.ensures.lock.0 c.in-Ok-new.ensures.pass c.split_all-pass.ensures.passes in
     let split = opened-split history faults c.args.desks _ _ c.in-Ok-new.ensures.pass c.split_all-pass.ensures.pass in
-    let team = c.in_threads-team.ensures in
+    let team = c.in_threads-team.ensures.teamwork in
     split_is _ _ _ _ _ _ lock c.args.book.history c.args.book.keeper.faults c.args.desks _ _ _ _ _ _ _ _ _ split are team
 
 pub ended-requires-clause-outstanding : goal.ended-requires-clause-outstanding
@@ -55,7 +55,7 @@ ended-requires-clause-outstanding g c κs within =
     let lock = c.in-Ok-new.made.0.lock in
     let are = opened-passes lock _ history faults c.args.desks _ _ c.in-Ok-new.ensures.lock.0 c.in-Ok-new.ensures.pass c.split_all-pass.ensures.passes in
     let split = opened-split history faults c.args.desks _ _ c.in-Ok-new.ensures.pass c.split_all-pass.ensures.pass in
-    let team = c.in_threads-team.ensures in
+    let team = c.in_threads-team.ensures.teamwork in
     outstanding _ _ _ _ _ _ lock c.args.book.history c.args.book.keeper.faults c.args.desks _ _ _ _ _ _ _ _ _ split are team (g.met.L.Listener.no_more_hung_up c.args.listener)
 
 pub returns-clause-served : goal.returns-clause-served
@@ -65,7 +65,7 @@ returns-clause-served g c =
     let lock = c.in-Ok-new.made.0.lock in
     let are = opened-passes lock _ history faults c.args.desks _ _ c.in-Ok-new.ensures.lock.0 c.in-Ok-new.ensures.pass c.split_all-pass.ensures.passes in
     let split = opened-split history faults c.args.desks _ _ c.in-Ok-new.ensures.pass c.split_all-pass.ensures.pass in
-    let team = c.in_threads-team.ensures in
+    let team = c.in_threads-team.ensures.teamwork in
     service_is _ _ _ _ _ _ lock c.args.book.history c.args.book.keeper.faults c.args.desks _ _ _ _ _ _ _ _ _ split are team c.ended.result.book.history c.ended.result.book.keeper.faults c.ended.ensures.closed _
     c.ended.ensures.hung_up c.ended.ensures.legal c.the_ledger_keeps_the_stock.ensures c.ended.result.accepted c.ended.ensures.accepted
 
@@ -76,6 +76,6 @@ returns-clause-work g c =
     let lock = c.in-Ok-new.made.0.lock in
     let are = opened-passes lock _ history faults c.args.desks _ _ c.in-Ok-new.ensures.lock.0 c.in-Ok-new.ensures.pass c.split_all-pass.ensures.passes in
     let split = opened-split history faults c.args.desks _ _ c.in-Ok-new.ensures.pass c.split_all-pass.ensures.pass in
-    let team = c.in_threads-team.ensures in
+    let team = c.in_threads-team.ensures.teamwork in
     subst (IsWorkOf c.ended.result.book.history) (sym c.ended.ensures.build)
     (work_is _ _ _ _ _ _ lock c.args.book.history c.args.book.keeper.faults c.args.desks _ _ _ _ _ _ _ _ _ split are team c.ended.result.book.history c.ended.result.book.keeper.faults c.ended.ensures.closed _ c.ended.ensures.hung_up)

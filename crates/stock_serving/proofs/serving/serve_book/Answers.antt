@@ -1,5 +1,5 @@
 -- The listener listens, or it failed.
-use Rattle.std.proofs.Common.{inl, refl}
+use Rattle.std.proofs.Common.{inl, inr, refl, ◌∙◌}
 use Rattle.stock_io.specs.Listeners.{IsFresh}
 use Rattle.desk_service.specs.Listening.{heard}
 use Rattle.desk_service.specs.Service.{IsPeerServed}
@@ -29,3 +29,9 @@ returns-in-Err-clause-serves g c =
       nothing_kept = refl;
       cause = c.in-Err.ensures.cause;
     })
+
+pub returns-in-Ok-clause-listens : goal.returns-in-Ok-clause-listens
+returns-in-Ok-clause-listens g c = inl (c.serve_peers.ensures.port_kept ∙ c.in-Ok.ensures.listens)
+
+pub returns-in-Err-clause-listens : goal.returns-in-Err-clause-listens
+returns-in-Err-clause-listens g c = inr (c.in-Err.ensures.port_kept, c.listen.ensures.accepts_kept)

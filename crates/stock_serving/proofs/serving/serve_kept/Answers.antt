@@ -1,4 +1,5 @@
 -- The ledger of the keeper was opened.
+use Rattle.std.proofs.Common.{inr, refl}
 use Rattle.stock_io.specs.Listeners.{IsFresh}
 use Rattle.desk_service.specs.Listening.{heard}
 use Rattle.desk_service.specs.Service.{IsPeerServed}
@@ -25,3 +26,6 @@ returns-in-Ok-clause-serves g c =
       faults_are = c.keeper_of.ensures.faults;
       done = c.serve_book-summary.ensures.serves;
     })
+
+pub returns-in-Err-clause-listens : goal.returns-in-Err-clause-listens
+returns-in-Err-clause-listens g c = inr (refl, refl)

@@ -1,5 +1,5 @@
 -- The shelf fails, or the service is that over its keeper.
-use Rattle.std.proofs.Common.{Err, ap, inl, refl}
+use Rattle.std.proofs.Common.{Err, ap, inl, inr, refl, ◌∙◌}
 use Rattle.stock_io.specs.Listeners.{IsFresh}
 use Rattle.desk_service.specs.Listening.{heard}
 use Rattle.desk_service.specs.Service.{IsPeerServed}
@@ -34,3 +34,16 @@ returns-clause-serves g c =
     c.write_summary-end.new.output served.result.summary c.write_summary-end.result opened.ensures.tables opened.ensures.fresh
     opened.ensures.plan opened.ensures.uncalled c.put_back-back.ensures.tables c.put_back-back.ensures.plan c.put_back-back.ensures.kept_faults served.ensures.serves
     c.write_summary-end.ensures.written c.write_summary-end.ensures.end_kept c.write_summary-end.ensures.nothing_written
+
+pub returns-in-Err-clause-opens : goal.returns-in-Err-clause-opens
+returns-in-Err-clause-opens g c = record { path_is = c.open_keeper.ensures.opened; once = c.open_keeper.ensures.counted }
+
+pub returns-in-Err-clause-listens : goal.returns-in-Err-clause-listens
+returns-in-Err-clause-listens g c = inr (refl, refl)
+
+pub returns-clause-opens : goal.returns-clause-opens
+returns-clause-opens g c =
+    record {
+      path_is = c.put_back-back.ensures.opened_kept ∙ c.open_keeper.ensures.opened;
+      once = c.put_back-back.ensures.openings_kept ∙ c.open_keeper.ensures.counted;
+    }

@@ -40,3 +40,9 @@ returns-in-Err-clause-serves g c =
 
 pub returns-in-Err-clause-never_falls : goal.returns-in-Err-clause-never_falls
 returns-in-Err-clause-never_falls g c = omega (arith, ap g.L.Listener.faults c.in-Err.ensures.not_served.2)
+
+pub returns-in-Ok-clause-port_kept : goal.returns-in-Ok-clause-port_kept
+returns-in-Ok-clause-port_kept g c = ap g.L.Listener.listens_to c.settle_served.ensures.listener ∙ c.in-Ok.ensures.port_kept
+
+pub returns-in-Err-clause-port_kept : goal.returns-in-Err-clause-port_kept
+returns-in-Err-clause-port_kept g c = ap g.L.Listener.listens_to c.in-Err.ensures.not_served.2
