@@ -3,6 +3,7 @@ ghost use Rattle.std.specs.Prelude.{◌≡◌, ◌≢◌, ◌+◌, ◌<◌, ◌�
 ghost use Rattle.stock_nums.specs.declared.limits.TheConstants.{MAX_DESK};
 ghost use Rattle.stock_io.specs.Counts.{NeverFalls};
 ghost use Rattle.stock_io.specs.Listeners.{IsFresh};
+ghost use Rattle.stock_keeper.specs.Keeping.{AsksAt, AsksAtMost};
 ghost use Rattle.repost_worker.specs.Paces.{Pace, first_pace};
 ghost use Rattle.desk_service.specs.Listening.{heard};
 ghost use Rattle.desk_service.specs.Service.{IsPeerServed};
@@ -13,7 +14,7 @@ ghost use Rattle.stock_batch.specs.Endings.{max_input};
 ghost use Rattle.stock_batch.specs.Filed.{RunsOverShelf};
 ghost use Rattle.stock_batch.specs.Ran.{Ran};
 ghost use Rattle.stock_load.specs.Loads.{IsLoaded};
-ghost use Rattle.stock_serving.specs.Serving.{ServesOverShelf};
+ghost use Rattle.stock_serving.specs.Serving.{ServesOverShelf, ListensTo};
 
 use std::alloc::Global;
 use std::sync::Wait;
@@ -103,6 +104,14 @@ pub fn stockd<
     ensures serve_takes_nothing { (path : List ℕ) (port desks : ℕ) → IsServe words.now path port desks → input.new ≡ input.old }
     ensures nothing_heard { ((path : List ℕ) (port desks : ℕ) → IsServe words.now path port desks → ⊥) → result.listener ≡ listener }
 
+    // A run or a service over a file asks the shelf for one keeper, at the path of its words, and a service listens to the port of its
+    // words; unless an end came before.
+    ensures over_opens { (path : List ℕ) → IsBatchOver words.now path → AsksAtMost H.opened H.openings path shelf.old shelf.new }
+    ensures serve_opens { (path : List ℕ) (port desks : ℕ) → IsServe words.now path port desks
+        → AsksAtMost H.opened H.openings path shelf.old shelf.new }
+    ensures serve_listens { (path : List ℕ) (port desks : ℕ) → IsServe words.now path port desks
+        → ListensTo L.listens_to L.accepts port listener result.listener }
+
     // Without a fault, and with fewer bytes than are too many, only want of memory keeps it from being done.
     ensures complete { IsBatch words.now
         → CountsNoFault (S.faults input.old) (S.faults input.new)
@@ -189,6 +198,8 @@ fn serve_asked<
         (IsPeerServed P.left P.taken P.written P.Source.faults P.ended)
         (IsFresh P.taken P.written P.Source.faults P.ended) asked.entry.desks
         shelf.old shelf.new listener result.listener output.old output.new end }
+    ensures opens { AsksAt H.opened H.openings asked.entry.path.now shelf.old shelf.new }
+    ensures listens { ListensTo L.listens_to L.accepts asked.entry.port listener result.listener }
     ensures complete { CountsNoFault (H.faults shelf.old) (H.faults shelf.new)
         → CountsNoFault 0 (H.kept_faults shelf.new)
         → CountsNoFault (L.faults listener) (L.faults result.listener)

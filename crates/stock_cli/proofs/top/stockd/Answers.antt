@@ -1,12 +1,13 @@
 -- Each command does what the words ask for, which is nothing else, and no end has the status of other words.
-use Rattle.std.proofs.Common.{◌≡◌, ℕ, map, inl, inr, refl, subst, sym, ◌∙◌, string_bytes, arith}
+use Rattle.std.proofs.Common.{◌≡◌, ℕ, List, map, inl, inr, refl, subst, sym, ◌∙◌, string_bytes, arith}
 use Rattle.stock_io.specs.Listeners.{IsFresh}
+use Rattle.stock_keeper.specs.Keeping.{AsksAt, AsksAtMost}
 use Rattle.repost_worker.specs.Paces.{first_pace}
 use Rattle.desk_service.specs.Listening.{heard}
 use Rattle.desk_service.specs.Service.{IsPeerServed}
 use Rattle.stock_words.specs.Words.{Spells, IsFaultOf}
-use Rattle.stock_words.proofs.ServeWords.{one_service}
-use Rattle.stock_words.proofs.Forms.{batch_begins, over_begins, load_begins, serve_begins, load_once}
+use Rattle.stock_words.proofs.ServeWords.{one_service, one_service_path, one_service_port}
+use Rattle.stock_words.proofs.Forms.{batch_begins, over_begins, load_begins, serve_begins, load_once, one_path}
 use Rattle.stock_ends.specs.Statuses.{TellsEnd}
 use Rattle.stock_ends.specs.declared.end.End.{End}
 use Rattle.stock_ends.specs.declared.end.End.TheVariants.{NoMemory}
@@ -14,7 +15,7 @@ use Rattle.stock_ends.proofs.Told.{status_not_2}
 use Rattle.stock_batch.proofs.Ends.{Ran-no_memory}
 use Rattle.stock_load.specs.Loads.{IsLoaded}
 use Rattle.stock_load.proofs.LoadEnds.{loaded-told, loaded-complete}
-use Rattle.stock_serving.specs.Serving.{ServesOverShelf}
+use Rattle.stock_serving.specs.Serving.{ServesOverShelf, ListensTo}
 use Rattle.stock_cli.proofs.top.stockd.Goals as goal
 
 -- the one word `batch`
@@ -481,3 +482,105 @@ returns-in-Err-NoMemory-clause-complete_load g c n load none =
 pub returns-in-Err-NoMemory-clause-complete_serve : goal.returns-in-Err-NoMemory-clause-complete_serve
 returns-in-Err-NoMemory-clause-complete_serve g c path port desks serve shelf kept listener output =
     inr (inl c.without_memory-status.ensures.status)
+
+-- which file is opened, and which port is listened to
+
+pub returns-in-Ok-Batch-clause-over_opens : goal.returns-in-Ok-Batch-clause-over_opens
+returns-in-Ok-Batch-clause-over_opens g c path over =
+    inr refl
+
+pub returns-in-Ok-Load-clause-over_opens : goal.returns-in-Ok-Load-clause-over_opens
+returns-in-Ok-Load-clause-over_opens g c path over =
+    let words = map string_bytes c.args.words.now in
+    let spells = subst (Spells words) c.in-Ok-Load.field-0-is c.in-Ok-Load.ensures.asked in
+    absurd (omega (arith, over_begins words path over, load_begins words _ spells))
+
+pub returns-in-Ok-Serve-clause-over_opens : goal.returns-in-Ok-Serve-clause-over_opens
+returns-in-Ok-Serve-clause-over_opens g c path over =
+    let words = map string_bytes c.args.words.now in
+    let spells = subst (Spells words) c.in-Ok-Serve.field-0-is c.in-Ok-Serve.ensures.asked in
+    absurd (omega (arith, over_begins words path over, serve_begins words _ _ _ spells))
+
+pub returns-in-Ok-Batch-clause-serve_opens : goal.returns-in-Ok-Batch-clause-serve_opens
+returns-in-Ok-Batch-clause-serve_opens g c path port desks serve =
+    let words = map string_bytes c.args.words.now in
+    let spells = subst (Spells words) c.in-Ok-Batch.field-0-is c.in-Ok-Batch.ensures.asked in
+    absurd (omega (arith, serve_begins words path port desks serve, batch_begins words spells))
+
+pub returns-in-Ok-Batch-clause-serve_listens : goal.returns-in-Ok-Batch-clause-serve_listens
+returns-in-Ok-Batch-clause-serve_listens g c path port desks serve =
+    let words = map string_bytes c.args.words.now in
+    let spells = subst (Spells words) c.in-Ok-Batch.field-0-is c.in-Ok-Batch.ensures.asked in
+    absurd (omega (arith, serve_begins words path port desks serve, batch_begins words spells))
+
+pub returns-in-Ok-BatchOver-clause-serve_opens : goal.returns-in-Ok-BatchOver-clause-serve_opens
+returns-in-Ok-BatchOver-clause-serve_opens g c path port desks serve =
+    let words = map string_bytes c.args.words.now in
+    let spells = subst (Spells words) c.in-Ok-BatchOver.field-0-is c.in-Ok-BatchOver.ensures.asked in
+    absurd (omega (arith, serve_begins words path port desks serve, over_begins words _ spells))
+
+pub returns-in-Ok-BatchOver-clause-serve_listens : goal.returns-in-Ok-BatchOver-clause-serve_listens
+returns-in-Ok-BatchOver-clause-serve_listens g c path port desks serve =
+    let words = map string_bytes c.args.words.now in
+    let spells = subst (Spells words) c.in-Ok-BatchOver.field-0-is c.in-Ok-BatchOver.ensures.asked in
+    absurd (omega (arith, serve_begins words path port desks serve, over_begins words _ spells))
+
+pub returns-in-Ok-Load-clause-serve_opens : goal.returns-in-Ok-Load-clause-serve_opens
+returns-in-Ok-Load-clause-serve_opens g c path port desks serve =
+    let words = map string_bytes c.args.words.now in
+    let spells = subst (Spells words) c.in-Ok-Load.field-0-is c.in-Ok-Load.ensures.asked in
+    absurd (omega (arith, serve_begins words path port desks serve, load_begins words _ spells))
+
+pub returns-in-Ok-Load-clause-serve_listens : goal.returns-in-Ok-Load-clause-serve_listens
+returns-in-Ok-Load-clause-serve_listens g c path port desks serve =
+    let words = map string_bytes c.args.words.now in
+    let spells = subst (Spells words) c.in-Ok-Load.field-0-is c.in-Ok-Load.ensures.asked in
+    absurd (omega (arith, serve_begins words path port desks serve, load_begins words _ spells))
+
+pub returns-in-Ok-BatchOver-clause-over_opens : goal.returns-in-Ok-BatchOver-clause-over_opens
+returns-in-Ok-BatchOver-clause-over_opens g c path over =
+    let words = map string_bytes c.args.words.now in
+    let spells = subst (Spells words) c.in-Ok-BatchOver.field-0-is c.in-Ok-BatchOver.ensures.asked in
+    subst (λ (p : List ℕ). AsksAtMost g.H.Shelf.opened g.H.Shelf.openings p c.args.shelf.now c.run_over-end.new.shelf)
+    (one_path words _ path spells over) c.run_over-end.ensures.opens
+
+pub returns-in-Ok-Serve-clause-serve_opens : goal.returns-in-Ok-Serve-clause-serve_opens
+returns-in-Ok-Serve-clause-serve_opens g c path port desks serve =
+    let words = map string_bytes c.args.words.now in
+    let spells = subst (Spells words) c.in-Ok-Serve.field-0-is c.in-Ok-Serve.ensures.asked in
+    inl (subst (λ (p : List ℕ). AsksAt g.H.Shelf.opened g.H.Shelf.openings p c.args.shelf.now c.serve_asked.new.shelf)
+    (one_service_path words _ path _ port _ desks spells serve) c.serve_asked.ensures.opens)
+
+pub returns-in-Ok-Serve-clause-serve_listens : goal.returns-in-Ok-Serve-clause-serve_listens
+returns-in-Ok-Serve-clause-serve_listens g c path port desks serve =
+    let words = map string_bytes c.args.words.now in
+    let spells = subst (Spells words) c.in-Ok-Serve.field-0-is c.in-Ok-Serve.ensures.asked in
+    subst (λ (p : ℕ). ListensTo g.L.Listener.listens_to g.L.Listener.accepts p c.args.listener c.serve_asked.result.listener)
+    (one_service_port words _ path _ port _ desks spells serve) c.serve_asked.ensures.listens
+
+pub returns-in-Err-Unknown-clause-over_opens : goal.returns-in-Err-Unknown-clause-over_opens
+returns-in-Err-Unknown-clause-over_opens g c path over =
+    let words = map string_bytes c.args.words.now in
+    let nothing = subst (IsFaultOf words) c.in-Err-Unknown.field-0-is c.in-Err-Unknown.ensures.fault in
+    absurd (nothing.1 path over)
+
+pub returns-in-Err-Unknown-clause-serve_opens : goal.returns-in-Err-Unknown-clause-serve_opens
+returns-in-Err-Unknown-clause-serve_opens g c path port desks serve =
+    let words = map string_bytes c.args.words.now in
+    let nothing = subst (IsFaultOf words) c.in-Err-Unknown.field-0-is c.in-Err-Unknown.ensures.fault in
+    absurd (nothing.3 path port desks serve)
+
+pub returns-in-Err-Unknown-clause-serve_listens : goal.returns-in-Err-Unknown-clause-serve_listens
+returns-in-Err-Unknown-clause-serve_listens g c path port desks serve =
+    let words = map string_bytes c.args.words.now in
+    let nothing = subst (IsFaultOf words) c.in-Err-Unknown.field-0-is c.in-Err-Unknown.ensures.fault in
+    absurd (nothing.3 path port desks serve)
+
+pub returns-in-Err-NoMemory-clause-over_opens : goal.returns-in-Err-NoMemory-clause-over_opens
+returns-in-Err-NoMemory-clause-over_opens g c path over = inr refl
+
+pub returns-in-Err-NoMemory-clause-serve_opens : goal.returns-in-Err-NoMemory-clause-serve_opens
+returns-in-Err-NoMemory-clause-serve_opens g c path port desks serve = inr refl
+
+pub returns-in-Err-NoMemory-clause-serve_listens : goal.returns-in-Err-NoMemory-clause-serve_listens
+returns-in-Err-NoMemory-clause-serve_listens g c path port desks serve = inr (refl, refl)
