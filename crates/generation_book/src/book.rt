@@ -1,7 +1,8 @@
 //! The book: records that are kept, and the generation that reports are made from.
 
-ghost use Rattle.std.specs.Prelude.{◌≡◌, ◌⊎◌, ◌<◌, ◌≤◌, [], ◌∷◌, ◌++◌, length, take, drop, filter, IfOk, OnOk, OnErr, IfErr, Some, None};
+ghost use Rattle.std.specs.Prelude.{◌≡◌, ◌⊎◌, ◌<◌, ◌≤◌, List, [], ◌∷◌, ◌++◌, length, take, drop, filter, IfOk, OnOk, OnErr, IfErr, Some, None};
 ghost use Rattle.std.specs.Option.{option_copied};
+ghost use Rattle.stock_model.specs.declared.deeds.Deed.{Deed};
 ghost use Rattle.stock_model.specs.declared.deeds.Deed.TheVariants as deed;
 ghost use Rattle.stock_model.specs.Reports.{need_at, unmet_need, selected, IsSelected};
 ghost use Rattle.stock_model.specs.Entries.{entries};
@@ -108,19 +109,21 @@ impl Book<Nowhere> {
         }
     }
 
-    /// The same book over a keeper of its history, which is its opening then. A crash leaves just that, so nothing was tried.
+    /// The same book over a keeper of its history, which is its opening then. `tried` are the events for which the keeper was
+    /// refused since it last did what it was asked for: a crash leaves the tables of the history, or those with one of these.
     pub fn with_keeper<K: Keeper>(self, keeper: K) -> Book<K>
-        requires kept { IsKept (K.tells keeper) (K.may_leave keeper) self.history [] }
+        ghost tried: { List Deed }
+        requires kept { IsKept (K.tells keeper) (K.may_leave keeper) self.history tried }
         ensures history { result.history ≡ self.history }
         ensures opened { result.opened ≡ length self.history }
-        ensures tried { result.tried ≡ [] }
+        ensures tried { result.tried ≡ tried }
         ensures faults { result.keeper.faults ≡ K.faults keeper }
         ensures plan { result.keeper.plan ≡ K.plan keeper }
         ensures calls { result.keeper.calls ≡ K.calls keeper }
     {
         Book {
             keeper,
-            tried: Tried::new(),
+            tried: Tried::of(),
             opened: self.events.as_slice().len(),
             journal: self.journal,
             events: self.events,

@@ -26,6 +26,14 @@ impl Tried {
     pub(crate) fn new() -> Tried
         ensures { result.events ≡ [] }
     {
+        Tried::of()
+    }
+
+    /// These.
+    pub(crate) fn of() -> Tried
+        ghost events: { List Deed }
+        ensures { result.events ≡ events }
+    {
         Tried {}
     }
 

@@ -1,5 +1,6 @@
 //! A book that is revalued by turns of its own.
 ghost use Rattle.std.specs.Prelude.{◌≡◌, ◌⊎◌, ◌<◌, List, [], ◌∷◌, ◌++◌, IfOk, OnOk, OnErr, IfErr, IfSome, None};
+ghost use Rattle.stock_model.specs.declared.deeds.Deed.{Deed};
 ghost use Rattle.stock_model.specs.declared.deeds.Deed.TheVariants as deed;
 ghost use Rattle.stock_model.specs.Faults.{fault};
 ghost use Rattle.stock_model.specs.History as history;
@@ -54,9 +55,10 @@ impl RevaluedBook<Nowhere> {
         }
     }
 
-    /// The same book over a keeper of its history, which is its opening then.
+    /// The same book over a keeper of its history, which is its opening then, as `Book::with_keeper` makes it.
     pub fn with_keeper<K: Keeper>(self, keeper: K) -> RevaluedBook<K>
-        requires kept { IsKept (K.tells keeper) (K.may_leave keeper) self.history [] }
+        ghost tried: { List Deed }
+        requires kept { IsKept (K.tells keeper) (K.may_leave keeper) self.history tried }
         ensures history { result.history ≡ self.history }
         ensures faults { result.keeper.faults ≡ K.faults keeper }
         ensures plan { result.keeper.plan ≡ K.plan keeper }

@@ -8,12 +8,12 @@ use Rattle.repost_worker.proofs.OpenedBooks.{fault-found, kept-opened}
 use Rattle.repost_worker.proofs.revalued_book.RevaluedBook.begin.Goals as goal
 
 pub with_keeper-requires : goal.with_keeper-requires
-with_keeper-requires g c =
-    record {
-      kept = kept-opened (g.K.Keeper.tells c.args.keeper) (g.K.Keeper.may_leave c.args.keeper) (g.K.Keeper.tells c.load.new.self)
-          (g.K.Keeper.may_leave c.load.new.self) c.in-Ok-opened_from.book.history c.in-Ok.tables c.in-Ok-opened_from.ensures.opened
-          c.in-Ok.ensures.tables c.in-Ok.ensures.tables_kept c.in-Ok.ensures.crash c.requires.settled;
-    }
+with_keeper-requires g c κs lives = (
+  lives,
+  kept-opened (g.K.Keeper.tells c.args.keeper) (g.K.Keeper.may_leave c.args.keeper) (g.K.Keeper.tells c.load.new.self)
+      (g.K.Keeper.may_leave c.load.new.self) c.in-Ok-opened_from.book.history c.in-Ok.tables c.in-Ok-opened_from.ensures.opened
+      c.in-Ok.ensures.tables c.in-Ok.ensures.tables_kept c.in-Ok.ensures.crash c.requires.settled,
+)
 
 pub returns-in-Err-opened_from-clause-fault : goal.returns-in-Err-opened_from-clause-fault
 returns-in-Err-opened_from-clause-fault g c t tells =
