@@ -2,9 +2,10 @@
 use Rattle.std.specs.Prelude.{ℕ, List}
 use Rattle.key_order.specs.declared.change.Change.{Change}
 
--- the changes of movements that enter and of those that leave, each with its units as leaving, and how many more of either fit
+-- the changes of movements that enter and of those that leave, each with its units as leaving, and how many more of each fit
 -- without memory
 pub record RangesState : Type 0 where
   pub entering : List Change
   pub leaving : List Change
-  pub spare : ℕ
+  pub entering_spare : ℕ
+  pub leaving_spare : ℕ

@@ -21,7 +21,7 @@ use stock_nums::place::{Place, Side};
 const MANY_UNITS: u64 = 1 << 52;
 
 /// For each item in each warehouse, the units that entered from 0 in posting order, and so those that left. At most 2^20
-/// movements of each side, and at most one of an item in a warehouse at a place. Contracts see the changes of both sides, and how
+/// movements of each side, and at most one of an item in a warehouse at a place. Contracts see the changes of each side, and how
 /// many more fit without memory.
 #[derive(Drop)]
 pub struct Ranges {
@@ -30,7 +30,6 @@ pub struct Ranges {
 }
 
 impl Model for Ranges {
-    ghost use Rattle.std.specs.Prelude.{min};
     ghost use Rattle.layer_ranges.specs.Layers.{AreLeaving};
     ghost use Rattle.layer_ranges.specs.RangesState.{RangesState};
 
@@ -40,7 +39,8 @@ impl Model for Ranges {
         record {
           entering = ranges.entering.changes;
           leaving = ranges.leaving.changes;
-          spare = min ranges.entering.spare ranges.leaving.spare;
+          entering_spare = ranges.entering.spare;
+          leaving_spare = ranges.leaving.spare;
         } };
 
     ghost invariant = { λ ranges. AreLeaving ranges.entering.changes × AreLeaving ranges.leaving.changes };
@@ -65,24 +65,28 @@ impl Ranges {
         self.entering.len() + self.leaving.len()
     }
 
-    /// Makes room for `n` more movements of either side. The movements stay as they are, and no room is lost.
+    /// Makes room for `n` more movements of each side. The movements stay as they are, and no room is lost.
     pub fn reserve(&mut self, n: usize) -> Result<(), NoMemory>
-        ensures room { OnOk result (n ≤ self.new.spare) }
+        ensures entering_room { OnOk result (n ≤ self.new.entering_spare) }
+        ensures leaving_room { OnOk result (n ≤ self.new.leaving_spare) }
         ensures entering { self.new.entering ≡ self.old.entering }
         ensures leaving { self.new.leaving ≡ self.old.leaving }
-        ensures room_stays { self.old.spare ≤ self.new.spare }
+        ensures entering_room_stays { self.old.entering_spare ≤ self.new.entering_spare }
+        ensures leaving_room_stays { self.old.leaving_spare ≤ self.new.leaving_spare }
     {
         self.entering.reserve(n)?;
         self.leaving.reserve(n)
     }
 
-    /// Gives the room back that nothing stands in: for at most 128 more movements of either side some is left. The movements
-    /// stay as they are. It takes no memory.
+    /// Gives the room back that nothing stands in: for at most 128 more movements of each side some is left. The movements stay
+    /// as they are. It takes no memory.
     pub fn release(&mut self)
         ensures entering { self.new.entering ≡ self.old.entering }
         ensures leaving { self.new.leaving ≡ self.old.leaving }
-        ensures released { self.new.spare ≤ 128 }
-        ensures room { min 2 self.old.spare ≤ self.new.spare }
+        ensures entering_released { self.new.entering_spare ≤ 128 }
+        ensures leaving_released { self.new.leaving_spare ≤ 128 }
+        ensures entering_room { min 2 self.old.entering_spare ≤ self.new.entering_spare }
+        ensures leaving_room { min 2 self.old.leaving_spare ≤ self.new.leaving_spare }
     {
         self.entering.release();
         self.leaving.release();
@@ -90,12 +94,13 @@ impl Ranges {
 
     /// Puts a movement in, where none of its item in its warehouse stands at its place on its side. It takes no memory.
     pub fn insert(&mut self, entry: &Entry)
-        requires room { 0 < self.old.spare }
+        requires room { (0 < self.old.entering_spare) × (0 < self.old.leaving_spare) }
         requires few { length (changes_beside self.old entry.now) < 2 ^ 20 }
         requires apart { HasNoneAt (changes_beside self.old entry.now) (entry_key entry.now) entry.now.place }
         ensures entering { self.new.entering ≡ put_entering self.old.entering entry.now }
         ensures leaving { self.new.leaving ≡ put_leaving self.old.leaving entry.now }
-        ensures room { self.old.spare ≤ self.new.spare + 1 }
+        ensures entering_room { self.old.entering_spare ≤ self.new.entering_spare + 1 }
+        ensures leaving_room { self.old.leaving_spare ≤ self.new.leaving_spare + 1 }
         ensures entering_before { AreLeaving self.old.entering }
         ensures leaving_before { AreLeaving self.old.leaving }
     {
@@ -110,7 +115,8 @@ impl Ranges {
     pub fn remove(&mut self, entry: &Entry)
         ensures entering { self.new.entering ≡ without_entering self.old.entering entry.now }
         ensures leaving { self.new.leaving ≡ without_leaving self.old.leaving entry.now }
-        ensures room { self.old.spare ≤ self.new.spare }
+        ensures entering_room { self.old.entering_spare ≤ self.new.entering_spare }
+        ensures leaving_room { self.old.leaving_spare ≤ self.new.leaving_spare }
     {
         match entry.place.side {
             Side::Enters => take_out(&mut self.entering, entry),

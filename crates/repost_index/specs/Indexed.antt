@@ -30,5 +30,13 @@ pub record CanBeIndexed (line : List Entry) (e : Entry) : Type 0 where
 
 -- so many more movements fit without memory, and the moments of all records that there may be
 pub record HasRoom (more : ℕ) (index : IndexState) : Type 0 where
-  pub movements : more ≤ index.spare
+  pub keys : more ≤ index.keys_spare
+  pub entering : more ≤ index.entering_spare
+  pub leaving : more ≤ index.leaving_spare
   pub dates : MAX_RECORDS ≤ length index.moments + index.dates_spare
+
+-- no more than so many movements fit without memory
+pub record HasNoMoreRoom (most : ℕ) (index : IndexState) : Type 0 where
+  pub keys : index.keys_spare ≤ most
+  pub entering : index.entering_spare ≤ most
+  pub leaving : index.leaving_spare ≤ most

@@ -1,5 +1,5 @@
 //! Where the movements stand that a valuation looks at, and that it makes look again.
-ghost use Rattle.std.specs.Prelude.{◌≡◌, ◌+◌, ◌<◌, ◌≤◌, ◌^◌, ◌↔◌, ◌&&◌, List, [], length, min, Contains, Some, IsNone, IfSome, OnOk};
+ghost use Rattle.std.specs.Prelude.{◌≡◌, ◌+◌, ◌<◌, ◌≤◌, ◌^◌, ◌↔◌, ◌&&◌, List, [], length, min, max, Contains, Some, IsNone, IfSome, OnOk};
 ghost use Rattle.std.specs.List.{find};
 ghost use Rattle.std.specs.Option.{option_map};
 ghost use Rattle.stock_nums.specs.Places.{is_before};
@@ -11,7 +11,7 @@ ghost use Rattle.cost_links.specs.Sources.{entry_place};
 ghost use Rattle.repost_laws.specs.Ranges.{units_in_before, units_out_before};
 ghost use Rattle.repost_laws.specs.Touched.{next_of_key};
 ghost use Rattle.repost_laws.specs.Valuations.{earlier, last_of_key};
-ghost use Rattle.repost_index.specs.Indexed.{AreIndexed, CanBeIndexed, HasRoom};
+ghost use Rattle.repost_index.specs.Indexed.{AreIndexed, CanBeIndexed, HasNoMoreRoom, HasRoom};
 ghost use Rattle.repost_index.specs.Layers.{IsLayerIn, IsLayerOut};
 ghost use Rattle.repost_index.specs.Moments.{IsPlaceOf};
 
@@ -42,7 +42,7 @@ pub struct Index {
 }
 
 impl Model for Index {
-    ghost use Rattle.std.specs.Prelude.{◌-◌, min, vec_len, vec_capacity};
+    ghost use Rattle.std.specs.Prelude.{◌-◌, vec_len, vec_capacity};
     ghost use Rattle.repost_index.specs.IndexState.{IndexState};
 
     ghost Value = { IndexState };
@@ -53,7 +53,9 @@ impl Model for Index {
           entering = index.ranges.entering;
           leaving = index.ranges.leaving;
           moments = index.moments.items;
-          spare = min index.keys.spare index.ranges.spare;
+          keys_spare = index.keys.spare;
+          entering_spare = index.ranges.entering_spare;
+          leaving_spare = index.ranges.leaving_spare;
           dates_spare = vec_capacity index.moments - vec_len index.moments;
         } };
 }
@@ -70,8 +72,8 @@ impl Index {
         }
     }
 
-    /// Makes room for `n` more movements, and for the moments of all records that there may be. What is found stays, and no
-    /// room is lost.
+    /// Makes room for `n` more movements, and for the moments of all records that there may be, and of no more. What is found
+    /// stays, and no room is lost.
     ///
     /// # Errors
     ///
@@ -82,8 +84,12 @@ impl Index {
         ensures entering { self.new.entering ≡ self.old.entering }
         ensures leaving { self.new.leaving ≡ self.old.leaving }
         ensures moments { self.new.moments ≡ self.old.moments }
-        ensures room_stays { self.old.spare ≤ self.new.spare }
+        ensures keys_room_stays { self.old.keys_spare ≤ self.new.keys_spare }
+        ensures entering_room_stays { self.old.entering_spare ≤ self.new.entering_spare }
+        ensures leaving_room_stays { self.old.leaving_spare ≤ self.new.leaving_spare }
         ensures dates_room_stays { self.old.dates_spare ≤ self.new.dates_spare }
+        ensures dates_room { length self.new.moments + self.new.dates_spare
+            ≤ max (length self.old.moments + self.old.dates_spare) MAX_RECORDS }
     {
         self.keys.reserve(n)?;
         self.ranges.reserve(n)?;
@@ -97,8 +103,10 @@ impl Index {
         ensures entering { self.new.entering ≡ self.old.entering }
         ensures leaving { self.new.leaving ≡ self.old.leaving }
         ensures moments { self.new.moments ≡ self.old.moments }
-        ensures released { self.new.spare ≤ 128 }
-        ensures room { min 2 self.old.spare ≤ self.new.spare }
+        ensures released { HasNoMoreRoom 128 self.new }
+        ensures keys_room { min 2 self.old.keys_spare ≤ self.new.keys_spare }
+        ensures entering_room { min 2 self.old.entering_spare ≤ self.new.entering_spare }
+        ensures leaving_room { min 2 self.old.leaving_spare ≤ self.new.leaving_spare }
         ensures dates_room { self.new.dates_spare ≡ self.old.dates_spare }
     {
         self.keys.release();
@@ -113,7 +121,9 @@ impl Index {
         requires few { length line < 2 ^ 20 }
         requires room { HasRoom 1 self.old }
         ensures indexed { AreIndexed (put line entry.now) self.new }
-        ensures room { self.old.spare ≤ self.new.spare + 1 }
+        ensures keys_room { self.old.keys_spare ≤ self.new.keys_spare + 1 }
+        ensures entering_room { self.old.entering_spare ≤ self.new.entering_spare + 1 }
+        ensures leaving_room { self.old.leaving_spare ≤ self.new.leaving_spare + 1 }
         ensures dates_room { MAX_RECORDS ≤ length self.new.moments + self.new.dates_spare }
     {
         self.keys.insert(Change::of(entry));

@@ -1,5 +1,5 @@
 //! The moments of records, by their numbers less 1.
-ghost use Rattle.std.specs.Prelude.{◌≡◌, ◌-◌, ◌<◌, ◌≤◌, ℕ, length, slice_get, vec_len, vec_capacity, OnOk};
+ghost use Rattle.std.specs.Prelude.{◌≡◌, ◌-◌, ◌<◌, ◌≤◌, ℕ, length, max, slice_get, vec_len, vec_capacity, OnOk};
 ghost use Rattle.stock_nums.specs.declared.limits.TheConstants.{MAX_RECORDS};
 ghost use Rattle.repost_index.specs.Moments.{IsMomentPut};
 
@@ -8,13 +8,15 @@ use stock_nums::memory::NoMemory;
 use stock_nums::moment::Moment;
 use stock_nums::numbers::RecordNo;
 
-/// Makes room for the moments of all records that there may be. The moments stay as they are, and no room is lost.
+/// Makes room for the moments of all records that there may be, and of no more. The moments stay as they are, and no room is
+/// lost.
 pub(crate) fn reserve(moments: &mut Vec<Moment>) -> Result<(), NoMemory>
     ensures room { OnOk result (MAX_RECORDS ≤ vec_capacity moments.new) }
     ensures unchanged { moments.new.items ≡ moments.old.items }
     ensures room_stays { vec_capacity moments.old ≤ vec_capacity moments.new }
+    ensures no_more { vec_capacity moments.new ≤ max (vec_capacity moments.old) MAX_RECORDS }
 {
-    Ok(moments.reserve(MAX_RECORDS.saturating_sub(moments.len()))?)
+    Ok(moments.reserve_exact(MAX_RECORDS.saturating_sub(moments.len()))?)
 }
 
 /// Keeps the moment of a record. It takes no memory.

@@ -103,7 +103,12 @@ count-of slots = length-map slots slot_entry
 
 -- where there is room for more, there is for one
 pub room-next : (n : ℕ) (index : IndexState) → 0 < n → HasRoom n index → HasRoom 1 index
-room-next n index some room = record { movements = omega (arith, some, room.movements); dates = room.dates }
+room-next n index some room = record {
+  keys = omega (arith, some, room.keys);
+  entering = omega (arith, some, room.entering);
+  leaving = omega (arith, some, room.leaving);
+  dates = room.dates;
+}
 
 pub few-next : (n i : ℕ) (old new : IndexState) → i < n → ((m : ℕ) → HasRoom (m + 1) old → HasRoom m new) → HasRoom (n - i) old → HasRoom (n - (i + 1)) new
 few-next n i old new within less room =
