@@ -1,5 +1,5 @@
 -- Movements with what was found of each, and the lists by which those that look at one another are found.
-use Rattle.std.specs.Prelude.{ℕ, List, map, filter}
+use Rattle.std.specs.Prelude.{ℕ, ◌≤◌, List, map, filter}
 use Rattle.std.specs.List.Sorted.{IsPermutation}
 use Rattle.stock_nums.specs.declared.cause.Target.{Target}
 use Rattle.stock_nums.specs.declared.entry.Entry.{Entry}
@@ -9,7 +9,7 @@ use Rattle.cost_links.specs.declared.links.Links.{Links}
 use Rattle.repost_frontier.specs.Slots.{slot_entry}
 use Rattle.repost_frontier.specs.declared.slot.Slot.{Slot}
 use Rattle.repost_index.specs.IndexState.{IndexState}
-use Rattle.repost_index.specs.Indexed.{AreIndexed}
+use Rattle.repost_index.specs.Indexed.{AreIndexed, HasNoMoreRoom}
 use Rattle.repost_spread.specs.declared.movements.Movements.{Movements}
 
 -- the movements, in posting order
@@ -33,3 +33,8 @@ pub record AreFoundBy (line : List Entry) (index : IndexState) (links : Links) :
 
 abbrev pub AreKept : Movements → Type 0
 AreKept movements = AreFoundBy (line_of movements) movements.index movements.links
+
+-- no more than so many movements fit without memory
+pub record HaveNoMoreRoom (most : ℕ) (movements : Movements) : Type 0 where
+  pub slots : movements.frontier.spare ≤ most
+  pub index : HasNoMoreRoom most movements.index

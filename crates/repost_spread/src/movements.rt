@@ -11,8 +11,8 @@ ghost use Rattle.cost_links.specs.Charged.{charge_pairs, charged_to};
 ghost use Rattle.repost_frontier.specs.Slots.{is_suspect, as_published, slot_at, with_value};
 ghost use Rattle.repost_laws.specs.Fetches.{AreDated};
 ghost use Rattle.repost_spread.specs.Adding.{put_new, put_all_new};
-ghost use Rattle.repost_index.specs.Indexed.{AreIndexed, CanBeIndexed, HasRoom};
-ghost use Rattle.repost_spread.specs.Movements.{AreKept, entries_of, line_of, slots_of, charged_by};
+ghost use Rattle.repost_index.specs.Indexed.{AreIndexed, CanBeIndexed, HasNoMoreRoom, HasRoom};
+ghost use Rattle.repost_spread.specs.Movements.{AreKept, HaveNoMoreRoom, entries_of, line_of, slots_of, charged_by};
 
 use cost_links::charges::Charge;
 use cost_links::links::Links;
@@ -55,7 +55,8 @@ impl Movements {
         self.frontier.len()
     }
 
-    /// Adds movements, suspect and with nothing found of them, and charges. A refusal changes nothing.
+    /// Adds movements, suspect and with nothing found of them, and charges. Room for at most 128 more is left. A refusal changes
+    /// nothing of what is kept.
     pub fn add(
         &mut self,
         alloc: Global,
@@ -72,6 +73,7 @@ impl Movements {
         ensures line { OnOk result (line_of self.new ≡ put_all (line_of self.old) entries.now) }
         ensures charged { OnOk result ((line : Target) → charged_by self.new line
             ≡ charged_by self.old line + charged_to line (charge_pairs charges.now)) }
+        ensures released { OnOk result (HaveNoMoreRoom 128 self.new) }
         ensures slots_stay { OnErr result ((slots_of self.new) ≡ (slots_of self.old)) }
         ensures charged_stays { OnErr result ((line : Target) → charged_by self.new line ≡ charged_by self.old line) }
     {
@@ -80,8 +82,7 @@ impl Movements {
         self.links.add(alloc, entries, charges)?;
         put_all(&mut self.frontier, &mut self.index, entries);
         // The room was taken for the worst case of all of them.
-        self.frontier.release();
-        self.index.release();
+        give_back(&mut self.frontier, &mut self.index);
         Ok(())
     }
 
@@ -165,4 +166,18 @@ fn put(frontier: &mut Frontier, index: &mut Index, entry: &Entry)
 {
     index.insert(entry);
     frontier.insert(*entry);
+}
+
+// Gives the room back that no movement stands in.
+fn give_back(frontier: &mut Frontier, index: &mut Index)
+    ensures slots { frontier.new.slots ≡ frontier.old.slots }
+    ensures keys { index.new.keys ≡ index.old.keys }
+    ensures entering { index.new.entering ≡ index.old.entering }
+    ensures leaving { index.new.leaving ≡ index.old.leaving }
+    ensures moments { index.new.moments ≡ index.old.moments }
+    ensures released { frontier.new.spare ≤ 128 }
+    ensures index_released { HasNoMoreRoom 128 index.new }
+{
+    frontier.release();
+    index.release();
 }

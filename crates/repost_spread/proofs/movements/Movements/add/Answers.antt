@@ -41,12 +41,12 @@ pub returns-clause-kept : goal.returns-clause-kept
 returns-clause-kept c =
     let was = entries_of c.args.self.now.frontier.slots in
     let es = c.args.entries.now in
-    let there = ap (λ (slots : List Slot). entries_of slots) c.release.ensures.unchanged in
+    let there = ap (λ (slots : List Slot). entries_of slots) c.give_back.ensures.slots in
     let line = there ∙ c.put_all.ensures.line ∙ ap (λ (slots : List Slot). put_all (entries_of slots) es) c.reserve.ensures.unchanged in
     record {
       indexed =
-          subst (λ (l : List Entry). AreIndexed l c.release-2.new.self) (sym there)
-          (AreIndexed-same (entries_of c.put_all.new.frontier.slots) c.put_all.new.index c.release-2.new.self c.release-2.ensures.keys c.release-2.ensures.entering c.release-2.ensures.leaving c.release-2.ensures.moments c.put_all.ensures.indexed);
+          subst (λ (l : List Entry). AreIndexed l c.give_back.new.index) (sym there)
+          (AreIndexed-same (entries_of c.put_all.new.frontier.slots) c.put_all.new.index c.give_back.new.index c.give_back.ensures.keys c.give_back.ensures.entering c.give_back.ensures.leaving c.give_back.ensures.moments c.put_all.ensures.indexed);
       returns = λ target.
           subst (λ (l : List Entry). IsPermutation (returns_to c.add.new.self target) (filter (returns_of target) l)) (sym line)
           (subst (λ (l : List Entry). IsPermutation l (filter (returns_of target) (put_all was es))) (sym (c.in_ok-add.ensures.returns target))
