@@ -1,9 +1,13 @@
-//! A shelf over files refuses what is no database, and leaves it as it was.
+//! A shelf over files refuses what is no database, and leaves it as it was; and closes a database whose keeper is put back.
 
+use keeper_sqlite::sqlite_keeper::SqliteKeeper;
 use keeper_sqlite::sqlite_shelf::SqliteShelf;
+use sqlite::Alter;
 use std::fs;
 use std::test::Fail;
+use stock_keeper::keeper::Keeper;
 use stock_keeper::shelf::Shelf;
+use stock_nums::numbers::RecordNo;
 
 const FOLDER: &str = "sqlite_shelves_test";
 
@@ -37,5 +41,49 @@ fn a_file_of_one_byte_is_refused_and_stays(rt: HostRuntime) -> Result<(), Fail> 
     assert!(rt; fs::read(&rt, PATH)?.as_slice() == b"x".as_slice());
     assert!(rt; !has_log(&rt));
     fs::remove_dir_all(&rt, FOLDER)?;
+    Ok(())
+}
+
+const CLOSED_FOLDER: &str = "sqlite_closed_test";
+
+const CLOSED_PATH: &str = "sqlite_closed_test/ledger";
+
+const BODY: &[u8] = b"a record that stands in the log until the database is closed";
+
+fn adds<S: Alter>(keeper: &mut SqliteKeeper<S>) -> bool {
+    keeper.append(RecordNo(1), BODY).is_ok()
+}
+
+// Whether a keeper of the file adds a record, which stands in the log then, and is put back.
+fn is_added(rt: &HostRuntime, path: &str) -> bool {
+    let mut shelf = SqliteShelf::new(rt);
+    match shelf.open_keeper(path) {
+        Ok(mut keeper) => {
+            let is_added = adds(&mut keeper);
+            shelf.put_back(keeper);
+            is_added
+        }
+        Err(_) => false,
+    }
+}
+
+// Whether these bytes stand in the file.
+fn stands_in(file: &[u8], bytes: &[u8]) -> bool {
+    for at in 0..file.len() {
+        if file[at..].starts_with(bytes) {
+            return true;
+        }
+    }
+    false
+}
+
+// A database that is closed has its log copied into it. One that is only let go has not.
+#[test]
+fn a_keeper_that_is_put_back_is_closed(rt: HostRuntime) -> Result<(), Fail> {
+    let _ = fs::remove_dir_all(&rt, CLOSED_FOLDER);
+    fs::create_dir(&rt, CLOSED_FOLDER)?;
+    assert!(rt; is_added(&rt, CLOSED_PATH));
+    assert!(rt; stands_in(fs::read(&rt, CLOSED_PATH)?.as_slice(), BODY));
+    fs::remove_dir_all(&rt, CLOSED_FOLDER)?;
     Ok(())
 }
