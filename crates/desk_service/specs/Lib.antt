@@ -1,4 +1,5 @@
 pub mod Passes
+pub mod Rests
 pub mod Desks
 pub mod Listening
 pub mod Serving

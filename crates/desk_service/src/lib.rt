@@ -2,7 +2,9 @@
 #![tactic(auto)]
 
 mod accepting;
+mod closing;
 mod desk;
+mod gate;
 mod hanging_up;
 mod passes;
 pub mod service;

@@ -10,13 +10,14 @@ ghost use Rattle.desk_service.specs.Desks.{IsAttended};
 ghost use Rattle.desk_service.specs.Listening.{heard, HangsUp};
 ghost use Rattle.desk_service.specs.Passes.{ArePassesFrom};
 ghost use Rattle.desk_service.specs.Service.{IsService, IsPeerServed};
+ghost use Rattle.desk_service.specs.Serving.{Serving};
 ghost use Rattle.desk_service.specs.Teams.{IsTeamwork};
 
 use crate::accepting::{Desks, accept_all};
+use crate::closing::Closing;
 use crate::hanging_up::hang_up_all;
 use crate::passes::{Split, join_all, split_all};
-use crate::worker;
-use crate::worker::{Closing, Worker};
+use crate::worker::{Worker, work};
 use generation_book::book::Book;
 use repost_build::build::Build;
 use std::alloc::Global;
@@ -24,7 +25,7 @@ use std::marker::Brand;
 use std::sync::Wait;
 use std::sync::ledger::{Blank, Ledger};
 use std::thread;
-use std::thread::{Scope, Threads};
+use std::thread::Threads;
 use stock_io::link::Link;
 use stock_io::listener::Listener;
 use stock_keeper::keeper::Keeper;
@@ -122,7 +123,8 @@ pub fn serve<K: Keeper + Send, P: Link, L: Listener<Peer = P> + Drop, R: Threads
     Ok(ended(lock, team))
 }
 
-// Lets the worker and the desks do their work in threads of their own.
+// Lets the worker and the desks do their work in threads of their own. Where none can be made for the worker, it begins once the desks
+// have ended, and so ends at once.
 fn in_threads<
     K: Keeper + Send,
     P: Link,
@@ -149,79 +151,61 @@ fn in_threads<
         (heard L.waiting L.hung_up L.accepts L.hang_ups L.faults result.desks.listener) }
     ensures port_kept { L.listens_to result.desks.listener ≡ L.listens_to team.desks.listener }
 {
+    let Team { worker, desks } = team;
     let closing = Closing::new();
     let shared = &closing;
-    thread::scope(
-        thread::scope_env(),
+    let (worker, desks) = thread::join(
         rt,
-        move |scope| -> Team<K, L>
-            requires same_lock { team.worker.pass.lock ≡ lock.now.lock }
-            requires zero { team.worker.pass.view.number ≡ 0 }
-            requires work { IsWorkOf (without_makers team.worker.pass.view.seen) team.worker.build }
-            requires passes { ArePassesFrom lock.now.lock 1 team.desks.passes.items }
-            requires numbers { vec_len team.desks.passes ≤ MAX_DESK }
-            requires no_peers { team.desks.peers.items ≡ [] }
-            requires room { vec_len team.desks.passes ≤ vec_capacity team.desks.peers }
-            requires name { blank.name ≡ N.name }
-            requires parts { blank.parts ≡ N.parts }
-            requires some_parts { 0 < N.parts }
-            ensures teamwork { IsTeamwork
-                (IsAttended P.left P.taken P.written P.Source.faults P.ended)
-                (IsFresh P.taken P.written P.Source.faults P.ended)
-                team.worker.pass team.worker.build result.worker.pass result.worker.build
-                team.desks.passes.items result.desks.passes.items result.desks.peers.items
-                (heard L.waiting L.hung_up L.accepts L.hang_ups L.faults team.desks.listener)
-                (heard L.waiting L.hung_up L.accepts L.hang_ups L.faults result.desks.listener) }
-            ensures port_kept { L.listens_to result.desks.listener ≡ L.listens_to team.desks.listener }
-        { in_scope::<_, K, P, L, N, R>(rt, alloc, scope, lock, shared, team, blank) },
-    )
+        || work::<K, N, R>(rt, alloc, lock, shared, worker, blank),
+        ||
+            requires passes { ArePassesFrom lock.now.lock 1 desks.passes.items }
+            requires numbers { vec_len desks.passes ≤ MAX_DESK }
+            requires no_peers { desks.peers.items ≡ [] }
+            requires room { vec_len desks.passes ≤ vec_capacity desks.peers }
+        { attend_all::<K, P, L, R>(rt, alloc, lock, shared, desks) },
+    );
+    Team { worker, desks }
 }
 
-// The same in the threads of a scope.
-fn in_scope<
-    's,
-    E: 's,
-    K: Keeper + Send + 's,
-    P: Link + 's,
-    L: Listener<Peer = P>,
-    N: Ledger + Send + 's,
-    R: Threads + Wait + Sync + 's,
->(
-    rt: &'s R,
+// Serves the peers, each in a thread of its own, and says then that the desks have ended.
+fn attend_all<K: Keeper + Send, P: Link, L: Listener<Peer = P> + Drop, R: Threads + Wait + Sync>(
+    rt: &R,
     alloc: Global,
-    scope: &'s Scope<'s, E>,
-    lock: &'s TurnLock<Book<K>>,
-    closing: &'s Closing,
-    team: Team<K, L>,
-    blank: Blank,
-) -> Team<K, L>
-    requires same_lock { team.worker.pass.lock ≡ lock.now.lock }
-    requires zero { team.worker.pass.view.number ≡ 0 }
-    requires work { IsWorkOf (without_makers team.worker.pass.view.seen) team.worker.build }
-    requires passes { ArePassesFrom lock.now.lock 1 team.desks.passes.items }
-    requires numbers { vec_len team.desks.passes ≤ MAX_DESK }
-    requires no_peers { team.desks.peers.items ≡ [] }
-    requires room { vec_len team.desks.passes ≤ vec_capacity team.desks.peers }
-    requires name { blank.name ≡ N.name }
-    requires parts { blank.parts ≡ N.parts }
-    requires some_parts { 0 < N.parts }
-    ensures teamwork { IsTeamwork
+    lock: &TurnLock<Book<K>>,
+    closing: &Closing,
+    desks: Desks<K, L>,
+) -> Desks<K, L>
+    requires passes { ArePassesFrom lock.now.lock 1 desks.passes.items }
+    requires numbers { vec_len desks.passes ≤ MAX_DESK }
+    requires no_peers { desks.peers.items ≡ [] }
+    requires room { vec_len desks.passes ≤ vec_capacity desks.peers }
+    ensures serving { Serving
         (IsAttended P.left P.taken P.written P.Source.faults P.ended)
         (IsFresh P.taken P.written P.Source.faults P.ended)
-        team.worker.pass team.worker.build result.worker.pass result.worker.build
-        team.desks.passes.items result.desks.passes.items result.desks.peers.items
-        (heard L.waiting L.hung_up L.accepts L.hang_ups L.faults team.desks.listener)
-        (heard L.waiting L.hung_up L.accepts L.hang_ups L.faults result.desks.listener) }
-    ensures port_kept { L.listens_to result.desks.listener ≡ L.listens_to team.desks.listener }
+        1 desks.passes.items result.passes.items [] result.peers.items
+        (heard L.waiting L.hung_up L.accepts L.hang_ups L.faults desks.listener)
+        (heard L.waiting L.hung_up L.accepts L.hang_ups L.faults result.listener) }
+    ensures port_kept { L.listens_to result.listener ≡ L.listens_to desks.listener }
 {
-    let Team { worker, desks } = team;
-    let started = worker::start::<E, K, N, R>(rt, alloc, scope, lock, closing, worker, blank);
-    let desks = accept_all(rt, alloc, scope, lock, DeskNo(1), desks);
+    let desks = thread::scope(
+        thread::scope_env(),
+        rt,
+        move |scope| -> Desks<K, L>
+            requires passes { ArePassesFrom lock.now.lock 1 desks.passes.items }
+            requires numbers { vec_len desks.passes ≤ MAX_DESK }
+            requires no_peers { desks.peers.items ≡ [] }
+            requires room { vec_len desks.passes ≤ vec_capacity desks.peers }
+            ensures serving { Serving
+                (IsAttended P.left P.taken P.written P.Source.faults P.ended)
+                (IsFresh P.taken P.written P.Source.faults P.ended)
+                1 desks.passes.items result.passes.items [] result.peers.items
+                (heard L.waiting L.hung_up L.accepts L.hang_ups L.faults desks.listener)
+                (heard L.waiting L.hung_up L.accepts L.hang_ups L.faults result.listener) }
+            ensures port_kept { L.listens_to result.listener ≡ L.listens_to desks.listener }
+        { accept_all(rt, alloc, scope, lock, DeskNo(1), desks) },
+    );
     closing.close();
-    Team {
-        worker: worker::finish(rt, started),
-        desks,
-    }
+    desks
 }
 
 // Joins the passes, hangs the peers up, and ends the lock.
