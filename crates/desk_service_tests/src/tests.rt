@@ -1,11 +1,14 @@
 //! Peers in memory, which desks serve at once.
-ghost use Rattle.std.specs.Prelude.{All, IfOk};
+ghost use Rattle.std.specs.Prelude.{◌<◌, ◌≤◌, All, IfOk};
 ghost use Rattle.stock_io.specs.Listeners.{IsNewPeer};
+ghost use Rattle.stock_nums.specs.declared.limits.TheConstants.{MAX_DESK};
 
-use desk_service::service::{Served, serve};
+use desk_service::service::serve;
 use repost_worker::revalued_book::RevaluedBook;
 use std::alloc::Global;
+use std::sync::Wait;
 use std::test::Fail;
+use std::thread::Threads;
 use stock_io::memory_link::MemLink;
 use stock_io::memory_listener::MemListener;
 use stock_keeper::nowhere::Nowhere;
@@ -25,12 +28,11 @@ const IS_DONE: &[u8] = b"HTTP/1.1 200 OK\r\n";
 fn peer_of(alloc: Global, request: &[u8]) -> Result<MemLink, NoMemory>
     ensures { IfOk result IsNewPeer }
 {
-    let mut bytes = Lines::new(alloc);
-    for byte in request {
-        bytes.push(*byte)?;
-    }
+    let bytes = Lines::from_vec(request.to_vec(alloc)?);
     MemLink::new(alloc, bytes, 9, 1_000, Lines::new(alloc), Lines::new(alloc))
 }
+
+// The helpers below have no clauses that a caller doesn't want, so that a test carries none of a service's from call to call.
 
 // One peer that posts, and one that asks.
 fn two_peers(alloc: Global) -> Result<Vec<MemLink>, NoMemory>
@@ -42,44 +44,70 @@ fn two_peers(alloc: Global) -> Result<Vec<MemLink>, NoMemory>
     Ok(peers)
 }
 
+// A listener to which they come.
+fn listener_of_two(alloc: Global) -> Result<MemListener, NoMemory> {
+    MemListener::new(alloc, two_peers(alloc)?, Lines::new(alloc))
+}
+
+// What a service leaves: how many peers it accepted and how many records, and its listener.
+#[derive(Drop)]
+struct Ending {
+    accepted: usize,
+    records: RecordNo,
+    listener: MemListener,
+}
+
+// Serves the peers by so many desks; none where memory is wanting.
+fn served<R: Threads + Wait + Sync>(
+    rt: &R,
+    alloc: Global,
+    listener: MemListener,
+    desks: u32,
+) -> Option<Ending>
+    requires { (0 < desks) × (desks ≤ MAX_DESK) }
+{
+    let (book, build) = RevaluedBook::<Nowhere>::start(alloc).into_parts();
+    let Ok(served) = serve(rt, alloc, book, build, listener, desks) else {
+        return None;
+    };
+    Some(Ending {
+        accepted: served.accepted,
+        records: served.book.accepted(),
+        listener: served.listener,
+    })
+}
+
 // Whether all of the request was taken, the request was done, and the connection was ended.
 fn is_answered(peer: &MemLink, request: &[u8]) -> bool {
     peer.taken() == request.len() as u64 && peer.written().starts_with(IS_DONE) && peer.is_ended()
 }
 
+// Whether that is so of the one that posts and of the one that asks, which were hung up in this order.
+fn are_answered(listener: &MemListener) -> bool {
+    match listener.hung_up() {
+        [first, second] => is_answered(first, POSTS_ITEM) && is_answered(second, ASKS_FOR_BALANCE),
+        _ => false,
+    }
+}
+
 #[test]
 fn two_peers_are_served_over_one_book(rt: HostRuntime) -> Result<(), Fail> {
     let alloc = rt.alloc();
-    let listener = MemListener::new(alloc, two_peers(alloc)?, Lines::new(alloc))?;
-    let (book, build) = RevaluedBook::<Nowhere>::start(alloc).into_parts();
-    let Ok(served) = serve(&rt, alloc, book, build, listener, 2) else {
+    let Some(ending) = served(&rt, alloc, listener_of_two(alloc)?, 2) else {
         panic!(rt; "no memory")
     };
-    let Served {
-        book,
-        build: _,
-        listener,
-        accepted,
-    } = served;
-    assert_eq!(rt; (accepted, listener.faults()), (2, 0));
-    assert_eq!(rt; book.accepted(), RecordNo(1));
-    let [first, second] = listener.hung_up() else {
-        panic!(rt; "two peers are hung up")
-    };
-    assert!(rt; is_answered(first, POSTS_ITEM));
-    assert!(rt; is_answered(second, ASKS_FOR_BALANCE));
+    assert!(rt; ending.accepted == 2 && ending.records == RecordNo(1));
+    assert!(rt; ending.listener.faults() == 0 && are_answered(&ending.listener));
     Ok(())
 }
 
 #[test]
 fn a_listener_that_fails_ends_the_service(rt: HostRuntime) -> Result<(), Fail> {
     let alloc = rt.alloc();
-    let listener = MemListener::new(alloc, two_peers(alloc)?, Lines::new(alloc))?;
-    let (book, build) = RevaluedBook::<Nowhere>::start(alloc).into_parts();
-    let Ok(served) = serve(&rt, alloc, book, build, listener, 16) else {
+    let Some(ending) = served(&rt, alloc, listener_of_two(alloc)?, 16) else {
         panic!(rt; "no memory")
     };
-    assert_eq!(rt; (served.accepted, served.listener.faults()), (2, 1));
-    assert_eq!(rt; served.listener.hung_up().len(), 2);
+    assert!(rt; ending.accepted == 2 && ending.listener.faults() == 1);
+    assert!(rt; ending.listener.hung_up().len() == 2);
     Ok(())
 }

@@ -198,6 +198,23 @@ fn serve<R: Wait>(
     (pass, Served { link, end, gave_up })
 }
 
+// Serves this peer at desk 1.
+fn posted<R: Wait>(
+    rt: &R,
+    alloc: Global,
+    lock: &TurnLock<Books>,
+    pass: Pass<Books>,
+    mut peer: MemLink,
+) -> Pass<Books>
+    requires same_lock { pass.lock ≡ lock.now.lock }
+    requires number { pass.view.number ≡ 1 }
+    requires fresh { pass.view.stops ≡ [] }
+    ensures same_lock { result.lock ≡ pass.lock }
+{
+    let Left { pass, end: _ } = serve_desk(rt, alloc, lock, pass, DeskNo(1), &mut peer);
+    pass
+}
+
 // The worker and the desk, each in a thread.
 fn in_threads<L: Ledger + Send, R: Threads + Wait + Sync>(
     rt: &R,
@@ -237,10 +254,7 @@ struct Outcome {
 }
 
 fn link_of(alloc: Global, sends: &[u8]) -> Result<MemLink, NoMemory> {
-    let mut bytes = Lines::new(alloc);
-    for byte in sends {
-        bytes.push(*byte)?;
-    }
+    let bytes = Lines::from_vec(sends.to_vec(alloc)?);
     MemLink::new(
         alloc,
         bytes,
@@ -249,6 +263,27 @@ fn link_of(alloc: Global, sends: &[u8]) -> Result<MemLink, NoMemory> {
         Lines::new(alloc),
         Lines::new(alloc),
     )
+}
+
+fn five_posts(alloc: Global) -> Result<MemLink, NoMemory> {
+    link_of(alloc, POSTS_FIVE)
+}
+
+fn one_post(alloc: Global) -> Result<MemLink, NoMemory> {
+    link_of(alloc, POSTS_ITEM)
+}
+
+fn has_gone_on(gated: &Gated) -> bool {
+    gated.has_waited && !gated.gave_up
+}
+
+// Whether the desk began in time, and its peer's post was done.
+fn is_done(served: &Served) -> bool {
+    !served.gave_up && served.end == End::Closed && served.link.written().starts_with(IS_DONE)
+}
+
+fn covers_six(book: &Books) -> bool {
+    book.accepted() == RecordNo(6) && book.covered() == RecordNo(6)
 }
 
 // Ends the lock.
@@ -273,7 +308,7 @@ fn closed(
 fn worked_beside<L: Ledger + Send, R: Threads + Wait + Sync>(
     rt: &R,
     alloc: Global,
-    mut first: MemLink,
+    first: MemLink,
     second: MemLink,
     blank: Blank,
 ) -> Option<Outcome>
@@ -291,7 +326,7 @@ fn worked_beside<L: Ledger + Send, R: Threads + Wait + Sync>(
     let Ok((pass, two)) = lock.split(pass) else {
         unreachable!()
     };
-    let before = serve_desk(rt, alloc, &lock, one, DeskNo(1), &mut first);
+    let one = posted(rt, alloc, &lock, one, first);
     let notices = Notices::new();
     let worker = Worker { pass, build };
     let desk = Desk {
@@ -301,7 +336,7 @@ fn worked_beside<L: Ledger + Send, R: Threads + Wait + Sync>(
     let ((pass, gated), (two, served)) = in_threads::<L, R>(
         rt, alloc, &lock, &notices, worker, desk, blank,
     );
-    let book = closed(lock, pass, before.pass, two);
+    let book = closed(lock, pass, one, two);
     Some(Outcome {
         gated,
         served,
@@ -312,23 +347,12 @@ fn worked_beside<L: Ledger + Send, R: Threads + Wait + Sync>(
 #[test]
 fn a_worker_that_values_leaves_the_book_to_a_desk(rt: HostRuntime) -> Result<(), Fail> {
     let alloc = rt.alloc();
-    let first = link_of(alloc, POSTS_FIVE)?;
-    let second = link_of(alloc, POSTS_ITEM)?;
+    let (first, second) = (five_posts(alloc)?, one_post(alloc)?);
     let Some(outcome) = worked_beside::<Brand, _>(&rt, alloc, first, second, Blank::new(1)) else {
         panic!(rt; "no memory")
     };
-    let Outcome {
-        gated,
-        served,
-        book,
-    } = outcome;
-    assert!(rt; gated.has_waited && !gated.gave_up, "the worker goes on");
-    assert!(rt; !served.gave_up, "the desk begins");
-    assert_eq!(rt; served.end, End::Closed);
-    assert!(rt; served.link.written().starts_with(IS_DONE));
-    assert_eq!(rt;
-        (book.accepted(), book.covered()),
-        (RecordNo(6), RecordNo(6))
-    );
+    assert!(rt; has_gone_on(&outcome.gated), "the worker goes on");
+    assert!(rt; is_done(&outcome.served), "the desk serves its peer");
+    assert!(rt; covers_six(&outcome.book), "all is published");
     Ok(())
 }
