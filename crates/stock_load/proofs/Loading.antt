@@ -5,7 +5,7 @@ use Rattle.stock_model.specs.InputLines.{lines_of}
 use Rattle.repost_worker.specs.Paces.{Pace, first_pace}
 use Rattle.stock_batch.specs.declared.batch.Batch.{Batch}
 use Rattle.stock_batch.specs.Batches.{StandsFor, GoesOn, WritesOut, HasTaken, TakesMore}
-use Rattle.stock_load.specs.LoadScript.{head_lines, first_receipt, opening_lines, voucher_line, work_line, voucher_lines, last_lines, load_script}
+use Rattle.load_script.specs.LoadScript.{head_lines, first_receipt, opening_lines, voucher_line, work_line, voucher_lines, last_lines, load_script}
 use Rattle.stock_load.specs.Loads.{LeadsBy, Leads}
 use Rattle.stock_batch.specs.Replies.{Answered}
 

@@ -1,2 +1,1 @@
-pub mod LoadScript
 pub mod Loads

@@ -14,7 +14,7 @@ use Rattle.stock_model.specs.Sheets.{balance}
 use Rattle.valuation_report.specs.BalanceSums.{sums_of}
 use Rattle.valuation_report.specs.declared.balance_sums.BalanceSums.{BalanceSums}
 use Rattle.repost_worker.specs.Paces.{Pace, first_pace}
-use Rattle.stock_load.specs.LoadScript.{load_script}
+use Rattle.load_script.specs.LoadScript.{load_script}
 use Rattle.stock_batch.specs.Replies.{Answered}
 use Rattle.stock_ends.specs.declared.end.End.{End}
 use Rattle.stock_ends.specs.declared.end.End.TheVariants.{Done, NoMemory, WriteFailed}

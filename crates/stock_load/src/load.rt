@@ -3,12 +3,12 @@ ghost use Rattle.std.specs.Prelude.{◌≡◌, ◌≤◌, ℕ, List, ◌++◌, I
 ghost use Rattle.stock_io.specs.Counts.{NeverFalls};
 ghost use Rattle.repost_worker.specs.Paces.{first_pace};
 ghost use Rattle.stock_batch.specs.Batches.{HasTaken, TakesMore};
-ghost use Rattle.stock_load.specs.LoadScript.{opening_lines, voucher_line, work_line, last_lines};
+ghost use Rattle.load_script.specs.LoadScript.{opening_lines, voucher_line, work_line, last_lines};
 ghost use Rattle.stock_load.specs.Loads.{whole_balance, summary_text, LeadsBy, Leads, IsSummaryOf, IsLoaded};
 ghost use Rattle.stock_words.specs.declared.words.TheConstants.{MAX_LOAD};
 
-use crate::load_script::{first_receipt, head_lines, last_lines, voucher_line, work_line};
 use generation_book::book::Book;
+use load_script::lines::{first_receipt, head_lines, last_lines, voucher_line, work_line};
 use repost_worker::revalued_book::RevaluedBook;
 use std::alloc::Global;
 use stock_batch::batch::Batch;

@@ -2,7 +2,7 @@
 use Rattle.std.proofs.Common.{◌≡◌, ◌++◌, ℕ, sym, subst, arith}
 use Rattle.repost_worker.specs.Paces.{Pace, first_pace}
 use Rattle.stock_batch.specs.Batches.{HasTaken}
-use Rattle.stock_load.specs.LoadScript.{opening_lines, voucher_lines}
+use Rattle.load_script.specs.LoadScript.{opening_lines, voucher_lines}
 use Rattle.stock_load.specs.Loads.{Leads}
 use Rattle.stock_load.proofs.Loading.{HasTaken-none, HasTaken-more, Leads-all}
 use Rattle.stock_load.proofs.load.answer_script.Goals as goal

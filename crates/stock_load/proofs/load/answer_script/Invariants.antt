@@ -2,7 +2,7 @@
 use Rattle.std.proofs.Common.{◌++◌}
 use Rattle.repost_worker.specs.Paces.{first_pace}
 use Rattle.stock_batch.specs.Batches.{HasTaken}
-use Rattle.stock_load.specs.LoadScript.{opening_lines, voucher_lines}
+use Rattle.load_script.specs.LoadScript.{opening_lines, voucher_lines}
 use Rattle.stock_load.proofs.load.answer_script.Given as goal
 
 abbrev pub invariant-loop-done : goal.invariant-loop-done

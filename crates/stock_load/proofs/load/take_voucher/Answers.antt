@@ -2,7 +2,7 @@
 use Rattle.std.proofs.Common.{List, ℕ, subst, ◌∙◌}
 use Rattle.std.proofs.lemmas.Result.{on_ok_weaker}
 use Rattle.stock_batch.specs.Batches.{TakesMore}
-use Rattle.stock_load.specs.LoadScript.{voucher_line, work_line}
+use Rattle.load_script.specs.LoadScript.{voucher_line, work_line}
 use Rattle.stock_load.proofs.Loading.{TakesMore-trans}
 use Rattle.stock_load.proofs.load.take_voucher.Goals as goal
 

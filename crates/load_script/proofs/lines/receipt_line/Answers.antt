@@ -2,7 +2,7 @@
 use Rattle.std.proofs.Common.{◌+◌, ◌%◌, ◌++◌, ◌∙◌, codes}
 use Rattle.std.specs.Prelude.{decimal}
 use Rattle.std.proofs.lemmas.Result.{IfOk-weaker}
-use Rattle.stock_load.proofs.load_script.receipt_line.Goals as goal
+use Rattle.load_script.proofs.lines.receipt_line.Goals as goal
 
 pub returns : goal.returns
 returns c =

@@ -1,13 +1,13 @@
 //! The lines of the script that `load` answers, each with its line feed.
 ghost use Rattle.std.specs.Prelude.{◌≡◌, ◌≤◌, IfOk, string_bytes};
-ghost use Rattle.stock_load.specs.LoadScript.{first_units, first_receipt, two_digits, moment_of, item_of, issue_line, transfer_line, receipt_line, voucher_line, work_line, head_lines, last_lines};
+ghost use Rattle.load_script.specs.LoadScript.{first_units, first_receipt, two_digits, moment_of, item_of, issue_line, transfer_line, receipt_line, voucher_line, work_line, head_lines, last_lines};
 ghost use Rattle.stock_words.specs.declared.words.TheConstants.{MAX_LOAD};
 
 use std::alloc::{AllocError, Global};
 
-/// Two items and two warehouses.
+/// Two items and two warehouses: four lines.
 #[tactic(auto, unfolding(crate::specs::LoadScript::head_lines))]
-pub(crate) fn head_lines() -> &'static str
+pub fn head_lines() -> &'static str
     ensures { result.now ≡ head_lines }
 {
     "{\"do\":\"item\",\"code\":\"L1\",\"method\":\"fifo\"}\n\
@@ -16,8 +16,12 @@ pub(crate) fn head_lines() -> &'static str
      {\"do\":\"store\",\"code\":\"S2\",\"account\":101}\n"
 }
 
-/// The first receipt: so many units of each item come into each warehouse, for 10 each. The only error is want of memory.
-pub(crate) fn first_receipt(alloc: Global, count: u32) -> Result<String, AllocError>
+/// The first receipt: `count` units of each item come into each warehouse, for 10 minor units each.
+///
+/// # Errors
+///
+/// `AllocError`: memory was wanting.
+pub fn first_receipt(alloc: Global, count: u32) -> Result<String, AllocError>
     requires { count ≤ MAX_LOAD }
     ensures { IfOk result (λ text. string_bytes text ≡ first_receipt count) }
 {
@@ -44,9 +48,13 @@ fn first_units(alloc: Global, item: &str, store: &str, count: u32) -> Result<Str
     )
 }
 
-/// The voucher with this number, from 1. The only error is want of memory.
+/// The voucher with this number, from 1. Of four vouchers two are issues, one is a transfer and one a receipt.
+///
+/// # Errors
+///
+/// `AllocError`: memory was wanting.
 #[tactic(auto, unfolding(crate::specs::LoadScript::voucher_line))]
-pub(crate) fn voucher_line(alloc: Global, number: u32) -> Result<String, AllocError>
+pub fn voucher_line(alloc: Global, number: u32) -> Result<String, AllocError>
     requires { number ≤ MAX_LOAD }
     ensures { IfOk result (λ text. string_bytes text ≡ voucher_line number) }
 {
@@ -114,9 +122,9 @@ fn item_of(number: u32) -> &'static str
     if number / 4 % 2 == 0 { "L1" } else { "L2" }
 }
 
-/// What comes after a voucher: a thousand turns of a worker after each thousandth.
+/// What comes after the voucher with this number: a thousand turns of a worker after each thousandth, and else nothing.
 #[tactic(auto, unfolding(crate::specs::LoadScript::work_line))]
-pub(crate) fn work_line(number: u32) -> &'static str
+pub fn work_line(number: u32) -> &'static str
     ensures { result.now ≡ work_line number }
 {
     if number % 1000 == 0 {
@@ -126,9 +134,9 @@ pub(crate) fn work_line(number: u32) -> &'static str
     }
 }
 
-/// All is published, and shown.
+/// What comes after all vouchers: all is published, and shown.
 #[tactic(auto, unfolding(crate::specs::LoadScript::last_lines))]
-pub(crate) fn last_lines() -> &'static str
+pub fn last_lines() -> &'static str
     ensures { result.now ≡ last_lines }
 {
     "{\"do\":\"settle\"}\n{\"do\":\"report\",\"of\":\"balance\"}\n"

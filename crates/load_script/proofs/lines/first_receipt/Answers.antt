@@ -1,8 +1,8 @@
 -- The four lines of the receipt are as they should be.
 use Rattle.std.proofs.Common.{◌++◌, ◌∙◌, codes}
 use Rattle.std.proofs.lemmas.Result.{IfOk-weaker}
-use Rattle.stock_load.specs.LoadScript.{first_receipt}
-use Rattle.stock_load.proofs.load_script.first_receipt.Goals as goal
+use Rattle.load_script.specs.LoadScript.{first_receipt}
+use Rattle.load_script.proofs.lines.first_receipt.Goals as goal
 
 pub returns : goal.returns
 unfolding first_receipt
