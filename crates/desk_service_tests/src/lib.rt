@@ -4,6 +4,8 @@
 #[cfg(test)]
 mod script;
 #[cfg(test)]
+mod served;
+#[cfg(test)]
 mod signals;
 #[cfg(test)]
 mod talker;

@@ -1,17 +1,12 @@
 //! Peers in memory, which desks serve at once.
-ghost use Rattle.std.specs.Prelude.{◌<◌, ◌≤◌, All, IfOk};
+ghost use Rattle.std.specs.Prelude.{All, IfOk};
 ghost use Rattle.stock_io.specs.Listeners.{IsNewPeer};
-ghost use Rattle.stock_nums.specs.declared.limits.TheConstants.{MAX_DESK};
 
-use desk_service::service::serve;
-use repost_worker::revalued_book::RevaluedBook;
+use crate::served::served;
 use std::alloc::Global;
-use std::sync::Wait;
 use std::test::Fail;
-use std::thread::Threads;
 use stock_io::memory_link::MemLink;
 use stock_io::memory_listener::MemListener;
-use stock_keeper::nowhere::Nowhere;
 use stock_nums::lines::Lines;
 use stock_nums::memory::NoMemory;
 use stock_nums::numbers::RecordNo;
@@ -47,34 +42,6 @@ fn two_peers(alloc: Global) -> Result<Vec<MemLink>, NoMemory>
 // A listener to which they come.
 fn listener_of_two(alloc: Global) -> Result<MemListener, NoMemory> {
     MemListener::new(alloc, two_peers(alloc)?, Lines::new(alloc))
-}
-
-// What a service leaves: how many peers it accepted and how many records, and its listener.
-#[derive(Drop)]
-struct Ending {
-    accepted: usize,
-    records: RecordNo,
-    listener: MemListener,
-}
-
-// Serves the peers by so many desks; none where memory is wanting.
-fn served<R: Threads + Wait + Sync>(
-    rt: &R,
-    alloc: Global,
-    listener: MemListener,
-    desks: u32,
-) -> Option<Ending>
-    requires { (0 < desks) × (desks ≤ MAX_DESK) }
-{
-    let (book, build) = RevaluedBook::<Nowhere>::start(alloc).into_parts();
-    let Ok(served) = serve(rt, alloc, book, build, listener, desks) else {
-        return None;
-    };
-    Some(Ending {
-        accepted: served.accepted,
-        records: served.book.accepted(),
-        listener: served.listener,
-    })
 }
 
 // Whether all of the request was taken, the request was done, and the connection was ended.

@@ -19,8 +19,10 @@ use std::sync::ledger::{Blank, Ledger};
 use std::test::Fail;
 use std::thread;
 use std::thread::Threads;
+use stock_io::link::Link;
 use stock_io::memory_link::MemLink;
 use stock_keeper::fault::KeepFault;
+use stock_keeper::keeper::Keeper;
 use stock_keeper::nowhere::Nowhere;
 use stock_nums::lines::Lines;
 use stock_nums::memory::NoMemory;
@@ -176,6 +178,24 @@ fn work<L: Ledger, R: Wait>(
     (pass, gated)
 }
 
+// Serves the peer of the link. It stands for any book and link, so that no caller carries the clauses of a session at those in memory.
+fn attended<K: Keeper, P: Link, R: Wait>(
+    rt: &R,
+    alloc: Global,
+    lock: &TurnLock<Book<K>>,
+    number: DeskNo,
+    pass: Pass<Book<K>>,
+    link: &mut P,
+) -> Left<K>
+    requires same_lock { pass.lock ≡ lock.now.lock }
+    requires number { number.0 ≡ pass.view.number }
+    requires desk { number.0 ≤ MAX_DESK }
+    requires fresh { pass.view.stops ≡ [] }
+    ensures same_lock { result.pass.lock ≡ pass.lock }
+{
+    serve_desk(rt, alloc, lock, pass, number, link)
+}
+
 // Serves the desk's peer, once the worker has valued a movement.
 fn serve<R: Wait>(
     rt: &R,
@@ -193,26 +213,9 @@ fn serve<R: Wait>(
 {
     let Desk { pass, mut link } = desk;
     let gave_up = !notices.valuing.is_set_in_time(rt);
-    let Left { pass, end } = serve_desk(rt, alloc, lock, pass, number, &mut link);
+    let Left { pass, end } = attended(rt, alloc, lock, number, pass, &mut link);
     notices.served.set();
     (pass, Served { link, end, gave_up })
-}
-
-// Serves this peer at desk 1.
-fn posted<R: Wait>(
-    rt: &R,
-    alloc: Global,
-    lock: &TurnLock<Books>,
-    pass: Pass<Books>,
-    mut peer: MemLink,
-) -> Pass<Books>
-    requires same_lock { pass.lock ≡ lock.now.lock }
-    requires number { pass.view.number ≡ 1 }
-    requires fresh { pass.view.stops ≡ [] }
-    ensures same_lock { result.lock ≡ pass.lock }
-{
-    let Left { pass, end: _ } = serve_desk(rt, alloc, lock, pass, DeskNo(1), &mut peer);
-    pass
 }
 
 // The worker and the desk, each in a thread.
@@ -308,7 +311,7 @@ fn closed(
 fn worked_beside<L: Ledger + Send, R: Threads + Wait + Sync>(
     rt: &R,
     alloc: Global,
-    first: MemLink,
+    mut first: MemLink,
     second: MemLink,
     blank: Blank,
 ) -> Option<Outcome>
@@ -326,7 +329,7 @@ fn worked_beside<L: Ledger + Send, R: Threads + Wait + Sync>(
     let Ok((pass, two)) = lock.split(pass) else {
         unreachable!()
     };
-    let one = posted(rt, alloc, &lock, one, first);
+    let before = attended(rt, alloc, &lock, DeskNo(1), one, &mut first);
     let notices = Notices::new();
     let worker = Worker { pass, build };
     let desk = Desk {
@@ -336,7 +339,7 @@ fn worked_beside<L: Ledger + Send, R: Threads + Wait + Sync>(
     let ((pass, gated), (two, served)) = in_threads::<L, R>(
         rt, alloc, &lock, &notices, worker, desk, blank,
     );
-    let book = closed(lock, pass, one, two);
+    let book = closed(lock, pass, before.pass, two);
     Some(Outcome {
         gated,
         served,
