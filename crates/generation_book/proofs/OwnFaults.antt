@@ -1,5 +1,5 @@
 -- A record's own fault is neither that its keeper failed nor want of memory.
-use Rattle.std.proofs.Common.{◌≡◌, ◌⊎◌, ℕ, Bool, true, false, List, [], ◌∷◌, ◌++◌, Option, Some, None, IfSome, inl, inr, refl, sym, subst, ◌≤◌, arith}
+use Rattle.std.proofs.Common.{◌≡◌, ◌⊎◌, ℕ, Bool, true, false, List, [], ◌∷◌, ◌++◌, Option, Some, None, IfSome, inl, inr, refl, sym, subst}
 use Rattle.std.specs.Prelude.{if◌then◌else◌, is_some}
 use Rattle.std.specs.Option.{option_map, option_or}
 use Rattle.stock_nums.specs.Accounts.{is_store_account}
@@ -153,9 +153,7 @@ refused-for journal item f (inr is) = by_fault journal item f (own-is journal it
 
 pub refused-uncalled : (journal : List Record) (item : Record) (f : PostFault) (keeper : KeeperState)
     → ((f ≡ NoMemory) × (fault_but_short journal item ≡ None)) ⊎ (fault journal item ≡ Some f) → IsAfterRefusal f keeper keeper
-refused-uncalled journal item f keeper (inl memory) =
-    let same : keeper.faults ≤ keeper.faults = omega arith in
-    subst (λ (x : PostFault). IsAfterRefusal x keeper keeper) (sym memory.0) same
+refused-uncalled journal item f keeper (inl memory) = subst (λ (x : PostFault). IsAfterRefusal x keeper keeper) (sym memory.0) (inl refl)
 refused-uncalled journal item f keeper (inr is) = uncalled f keeper (own-is journal item f is)
 
 -- a record without a fault is refused for its keeper, or for want of memory

@@ -4,6 +4,7 @@ use Rattle.std.specs.Prelude.{All}
 use Rattle.std.proofs.lemmas.List.Elements.{All-nil, All-cons}
 use Rattle.stock_model.specs.declared.deeds.Deed.{Deed}
 use Rattle.stock_model.specs.declared.deeds.Deed.TheVariants as deed
+use Rattle.stock_keeper.proofs.Calls.{never_falls-refused}
 use Rattle.stock_keeper.specs.Calls.{KeeperState, IsRefused, AreDone}
 use Rattle.stock_keeper.specs.declared.fault.KeepFault.{KeepFault}
 use Rattle.stock_keeper.specs.declared.fault.KeepFault.TheVariants.{Failed, NoMemory}
@@ -61,8 +62,7 @@ no_fault-done (x ∷ xs) old new done = no_fault-done xs done.0 new done.2 ∙ d
 pub never_falls : (r : Result Turned KeepFault) (old new : KeeperState) → IfOk r (λ turned. AreDone (publications turned) old new)
     → IfErr r (λ fault. IsRefused fault old new) → old.faults ≤ new.faults
 never_falls (Ok turned) old new done refused = omega (arith, no_fault-done (publications turned) old new done)
-never_falls (Err Failed) old new done refused = refused.never_falls
-never_falls (Err NoMemory) old new done refused = refused
+never_falls (Err fault) old new done refused = never_falls-refused fault old new refused
 
 -- what the lock handed out: all that the pass had seen and more, and none of that is of pass 0
 pub record IsHanded (pass : View Deed) (history : List Deed) : Type 0 where

@@ -1,6 +1,6 @@
 -- What contracts see of a keeper beside its tables: its faults, and where it tells a plan, which of its calls fail and how many
 -- there were. And what calls make of that.
-use Rattle.std.specs.Prelude.{◌≡◌, ℕ, List, [], ◌∷◌, Option, Some, IfSome, OnSome, Contains}
+use Rattle.std.specs.Prelude.{◌≡◌, ◌⊎◌, ℕ, List, [], ◌∷◌, Option, Some, IfSome, OnSome, Contains}
 use Rattle.stock_io.specs.Counts.{Rose, NeverFalls, raised}
 use Rattle.stock_keeper.specs.declared.fault.KeepFault.{KeepFault}
 use Rattle.stock_keeper.specs.declared.fault.KeepFault.TheVariants.{Failed, NoMemory}
@@ -35,10 +35,10 @@ pub record IsFailed (old new : KeeperState) : Type 0 where
   pub planned : IsPlanned old
   pub count : IsCounted old new
 
--- one call was made, which was refused so
+-- one call was made, which was refused so; for want of memory none may have been made, and then all is as it was
 abbrev pub IsRefused : KeepFault → KeeperState → KeeperState → Type 0
 IsRefused Failed old new = IsFailed old new
-IsRefused NoMemory old new = NeverFalls old.faults new.faults
+IsRefused NoMemory old new = (new ≡ old) ⊎ (NeverFalls old.faults new.faults × IsCounted old new)
 
 -- one call was made for each of these, and all did what they were asked for
 abbrev pub AreDone : {T : Type 0} → List T → KeeperState → KeeperState → Type 0
