@@ -1,5 +1,6 @@
 pub mod Bounds
 pub mod LineEntries
+pub mod LiveEntries
 pub mod Distinct
 pub mod PostingLine
 pub mod Histories

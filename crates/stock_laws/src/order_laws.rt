@@ -1,9 +1,9 @@
 //! Laws of the definitions.
-ghost use Rattle.std.specs.Prelude.{◌≡◌, List};
+ghost use Rattle.std.specs.Prelude.{◌≡◌, List, [], ◌∷◌, ◌++◌, filter};
 ghost use Rattle.std.specs.List.Sorted.{IsPermutation};
 ghost use Rattle.stock_nums.specs.declared.entry.Entry.{Entry};
 ghost use Rattle.stock_model.specs.declared.records.Record.{Record};
-ghost use Rattle.stock_model.specs.Entries.{all_entries};
+ghost use Rattle.stock_model.specs.Entries.{entries, is_spared, all_entries};
 ghost use Rattle.stock_model.specs.Formulas.{HaveOneFormula};
 ghost use Rattle.stock_model.specs.InOrder.{IsInPostingOrder};
 ghost use Rattle.stock_model.specs.PostingOrder.{posting_line};
@@ -13,6 +13,11 @@ pub fn posting_line_is_the_order()
     ensures in_order { (journal : List Record) → IsInPostingOrder (posting_line journal) }
     ensures complete { (journal : List Record) → IsPermutation (all_entries journal) (posting_line journal) }
     ensures only { (journal : List Record) (line : List Entry) → IsPermutation (all_entries journal) line → IsInPostingOrder line → line ≡ posting_line journal }
+{}
+
+/// One more record takes away the movements of the records that it takes back, and brings its own.
+pub fn one_more_record()
+    ensures { (journal : List Record) (item : Record) → all_entries (journal ++ item ∷ []) ≡ filter (is_spared item) (all_entries journal) ++ entries journal item }
 {}
 
 /// Of the movements of a journal, all of one item have one cost formula (IAS 2.25).
