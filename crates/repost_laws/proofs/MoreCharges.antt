@@ -16,6 +16,7 @@ use Rattle.stock_model.specs.declared.records.Record.{Record}
 use Rattle.stock_model.specs.declared.vouchers.Basis.{Basis}
 use Rattle.stock_model.specs.declared.vouchers.What.{What}
 use Rattle.stock_model.specs.declared.vouchers.What.TheVariants.{Item, Store, Receipt, Issue, Transfer, CustomerReturn, SupplierReturn, Landed}
+use Rattle.stock_model.proofs.Growth.{all_charged-all}
 use Rattle.stock_model.proofs.NoFaults.{NoFaults, NoFaults-from}
 use Rattle.stock_model.proofs.Numbered.{Fails, first_line-none}
 use Rattle.stock_model.proofs.Pairwise.{Each}
@@ -115,9 +116,9 @@ pub added-longer : (journal more : List Record) (line : Target) → AreSound jou
     → added (journal ++ more) line ≡ added journal line + charged_to line (charges_after journal more)
 added-longer journal more line sound =
     let all = journal ++ more in
-    let parts = ap (charged_to line) (flat_map-append (record_charged all) journal more)
+    let parts = ap (charged_to line) (all_charged-all all ∙ flat_map-append (record_charged all) journal more)
     ∙ charged_to-append line (flat_map (record_charged all) journal) (flat_map (record_charged all) more) in
-    let before = ap (charged_to line) (charges-longer [] journal more sound) in
+    let before = ap (charged_to line) (charges-longer [] journal more sound ∙ sym (all_charged-all journal)) in
     omega (arith, parts, before)
 
 -- so other lines have the sum of charges that they had
