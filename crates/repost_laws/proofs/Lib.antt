@@ -3,7 +3,7 @@ pub mod EarlierOnes
 pub mod FoundRows
 pub mod LocalRows
 pub mod Filtered
-pub mod LongerLines
+pub mod ChangedLines
 pub mod Spreading
 pub mod Turns
 pub mod TurnCounts

@@ -22,7 +22,7 @@ use Rattle.repost_laws.specs.Valuations.{Valued, Found, nothing_found, worth_of,
 use Rattle.repost_laws.specs.WholeBuilds.{worth_at, IsWorthInRange, IsBuildOf, none_suspect, none_valued}
 use Rattle.repost_laws.proofs.FirstSuspect.{first-can}
 use Rattle.repost_laws.proofs.LocalRows.{found_rows-replay}
-use Rattle.repost_laws.proofs.LongerLines.{IsBuilt-fetch}
+use Rattle.repost_laws.proofs.ChangedLines.{IsBuilt-fetch}
 use Rattle.repost_laws.proofs.MoreRecords.{IsFetch-more}
 use Rattle.repost_laws.proofs.SincePublished.{IsSincePublished-start, IsSincePublished-fetch, IsSincePublished-turn, replay-left}
 use Rattle.repost_laws.proofs.TurnCounts.{AreAhead-turn, AreFew-start, AreFew-fetch, AreFew-turn}
