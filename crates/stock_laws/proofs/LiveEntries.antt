@@ -48,13 +48,13 @@ module _ {X : Type 0} (P : X → Type 0) where
   filter-passes p passes (x ∷ xs) all =
       ap (λ (b : Bool). cond b (x ∷ filter p xs) (filter p xs)) (passes x all.0) ∙ ap (λ (ys : List X). x ∷ ys) (filter-passes p passes xs all.1)
 
-  filter-fails : (p : X → Bool) → ((x : X) → P x → p x ≡ false) → (xs : List X) → Each P xs → filter p xs ≡ []
+  pub filter-fails : (p : X → Bool) → ((x : X) → P x → p x ≡ false) → (xs : List X) → Each P xs → filter p xs ≡ []
   filter-fails p fails [] all = refl
   filter-fails p fails (x ∷ xs) all =
       ap (λ (b : Bool). cond b (x ∷ filter p xs) (filter p xs)) (fails x all.0) ∙ filter-fails p fails xs all.1
 
   -- a test that is passed where two others are, keeps what the one and then the other keeps
-  filter-parts : (p q both : X → Bool) → ((x : X) → P x → both x ≡ (p x && q x)) → (xs : List X) → Each P xs → filter both xs ≡ filter q (filter p xs)
+  pub filter-parts : (p q both : X → Bool) → ((x : X) → P x → both x ≡ (p x && q x)) → (xs : List X) → Each P xs → filter both xs ≡ filter q (filter p xs)
   filter-parts p q both parts [] all = refl
   filter-parts p q both parts (x ∷ xs) all =
       let rest = filter-parts p q both parts xs all.1 in
@@ -71,7 +71,7 @@ Each-filter P p (x ∷ xs) all =
       | false ↦ Each-filter P p xs all.1
     ]
 
-Precedes-filter : {X : Type 0} (R : X → X → Type 0) (x : X) (p : X → Bool) (xs : List X) → Precedes R x xs → Precedes R x (filter p xs)
+pub Precedes-filter : {X : Type 0} (R : X → X → Type 0) (x : X) (p : X → Bool) (xs : List X) → Precedes R x xs → Precedes R x (filter p xs)
 Precedes-filter R x p [] all = tt
 Precedes-filter R x p (y ∷ ys) all =
     elim (p y) as (λ b. Precedes R x (cond b (y ∷ filter p ys) (filter p ys))) [
@@ -79,7 +79,7 @@ Precedes-filter R x p (y ∷ ys) all =
       | false ↦ Precedes-filter R x p ys all.1
     ]
 
-Pairwise-filter : {X : Type 0} (R : X → X → Type 0) (p : X → Bool) (xs : List X) → Pairwise R xs → Pairwise R (filter p xs)
+pub Pairwise-filter : {X : Type 0} (R : X → X → Type 0) (p : X → Bool) (xs : List X) → Pairwise R xs → Pairwise R (filter p xs)
 Pairwise-filter R p [] all = tt
 Pairwise-filter R p (x ∷ xs) all =
     elim (p x) as (λ b. Pairwise R (cond b (x ∷ filter p xs) (filter p xs))) [
