@@ -9,9 +9,12 @@ pub mod Turns
 pub mod TurnCounts
 pub mod JournalFronts
 pub mod MoreCharges
+pub mod ChangedCharges
 pub mod MoreRecords
+pub mod ChangedJournals
 pub mod MoreMovements
 pub mod SincePublished
+pub mod SinceChanges
 pub mod FirstSuspect
 pub mod NextOnes
 pub mod RangePieces

@@ -45,7 +45,7 @@ weights-longer journal more basis (target ∷ targets) known =
     ∙ ap (λ (ws : List ℕ). weight journal basis target ∷ ws) (weights-longer journal more basis targets known.1)
 
 -- and so is what a voucher charges that had no fault
-charged-longer : (journal more : List Record) (what : What) → NoFaults journal what → charged (journal ++ more) what
+pub charged-longer : (journal more : List Record) (what : What) → NoFaults journal what → charged (journal ++ more) what
     ≡ charged journal what
 charged-longer journal more (Item code method) sound = refl
 charged-longer journal more (Store code account) sound = refl
@@ -86,7 +86,7 @@ zip-none line (target ∷ targets) (n ∷ ns) none =
     charged_to-cons line target n (zip targets ns) ∙ ap (λ (b : Bool). cond b n 0 + charged_to line (zip targets ns)) other.0 in
     omega (arith, own, zip-none line targets ns other.1)
 
-charged-none : (journal : List Record) (what : What) (line : Target) → list_any (is_the_line line) (landed_lines what) ≡ false
+pub charged-none : (journal : List Record) (what : What) (line : Target) → list_any (is_the_line line) (landed_lines what) ≡ false
     → charged_to line (charged journal what) ≡ 0
 charged-none journal (Item code method) line none = refl
 charged-none journal (Store code account) line none = refl

@@ -77,10 +77,10 @@ pub known-in_line : (journal : List Record) (e : Entry) → AreSound journal →
 known-in_line journal e sound held = Each-Contains (IsOfRecord journal) (all_entries journal) e (entries-known journal sound)
     (of_line journal e held)
 
-old-number : (n : ℕ) (e : Entry) → is_old n e ≡ true → e.place.voucher.0 ≤ n
+pub old-number : (n : ℕ) (e : Entry) → is_old n e ≡ true → e.place.voucher.0 ≤ n
 old-number n e is = grind (arith, nat_tests)
 
-is_old-from : (n : ℕ) (e : Entry) → e.place.voucher.0 ≤ n → is_old n e ≡ true
+pub is_old-from : (n : ℕ) (e : Entry) → e.place.voucher.0 ≤ n → is_old n e ≡ true
 is_old-from n e few = grind (arith, nat_tests)
 
 -- the old movements stand as they stood
@@ -120,7 +120,7 @@ in_line-old journal e sound held =
     is_old-from (length journal) e (what_at-within journal e.place.voucher.0 known.what known.held)
 
 -- what an old movement returns is of a line of an old record
-old_line : (journal : List Record) (n : ℕ) (e : Entry) (cause : Cause) → KnowsTarget journal e cause → e.place.voucher.0 ≤ n
+pub old_line : (journal : List Record) (n : ℕ) (e : Entry) (cause : Cause) → KnowsTarget journal e cause → e.place.voucher.0 ≤ n
     → IsOfOldLine n cause
 old_line journal n e (Receipt amount) knows few = tt
 old_line journal n e (Issue sold) knows few = tt

@@ -51,7 +51,7 @@ module _ {X : Type 0} (P : X → Type 0) where
       by_cases false h rest = rest h
 
 -- those that pass
-Each-passes : {X : Type 0} (p : X → Bool) (xs : List X) → Each (λ x. p x ≡ true) (filter p xs)
+pub Each-passes : {X : Type 0} (p : X → Bool) (xs : List X) → Each (λ x. p x ≡ true) (filter p xs)
 Each-passes p [] = tt
 Each-passes p (x ∷ xs) = by_cases (p x) refl (Each-passes p xs)
   where

@@ -136,6 +136,17 @@ pub record IsSincePublished (n : ℕ) (published : Found) (line : List Entry) (f
   pub kept : (place : Place) → valued place ≡ false → found place ≡ published place
   pub later : (e : Entry) → Contains line e → is_new n e ≡ true → suspects e.place ≡ false → valued e.place ≡ true
 
+-- the same where movements may go: what is found of those of the first n records that were not valued since is what was
+-- published
+pub record IsSince (n : ℕ) (published : Found) (line : List Entry) (found : Found) (suspects : Suspects)
+    (valued : ValuedSince) : Type 0 where
+  pub kept : (e : Entry) → Contains line e → is_old n e ≡ true → valued e.place ≡ false → found e.place ≡ published e.place
+  pub later : (e : Entry) → Contains line e → is_new n e ≡ true → suspects e.place ≡ false → valued e.place ≡ true
+
+-- the row is of a movement that does not go
+abbrev pub is_row_left : (ℕ → Bool) → Row → Bool
+is_row_left gone row = is_left gone row.entry
+
 -- the row is of a movement that was not valued since
 abbrev pub is_as_published : ValuedSince → Row → Bool
 is_as_published valued row = not (valued row.entry.place)
