@@ -23,4 +23,5 @@ pub mod LooksTouched
 pub mod LooksLeft
 pub mod LooksStarted
 pub mod InOrderFound
+pub mod NothingGone
 pub mod WholeSteps
