@@ -6,4 +6,3 @@ pub mod Ranges
 pub mod WholeBuilds
 pub mod Fetches
 pub mod Looks
-pub mod Changes
