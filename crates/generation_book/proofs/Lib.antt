@@ -3,4 +3,3 @@ pub mod Filters
 pub mod ChangedRows
 pub mod OwnFaults
 pub mod KeptBooks
-pub mod Following

@@ -3,4 +3,3 @@ pub mod Book
 pub mod Merged
 pub mod Refusals
 pub mod Handed
-pub mod Follows

@@ -1,3 +1,2 @@
-pub mod Later
 pub mod Services
 pub mod ServedRuns
