@@ -1,7 +1,9 @@
 -- What a refusal leaves of the keeper's count of faults.
 use Rattle.std.proofs.Common.{◌≡◌, List, refl, sym, ap, subst, arith, Result, Ok, Err, IfOk}
 use Rattle.stock_io.specs.Counts.{NeverFalls}
+use Rattle.stock_keeper.proofs.Calls as calls
 use Rattle.stock_keeper.specs.Calls.{KeeperState}
+use Rattle.stock_keeper.specs.declared.fault.KeepFault.TheVariants as keep
 use Rattle.stock_nums.specs.declared.memory.NoMemory as memory
 use Rattle.stock_model.specs.PostReplies.{refusal}
 use Rattle.stock_model.specs.declared.answers.Answer.{Answer}
@@ -28,7 +30,7 @@ never_falls-refused NoBasis old new after = omega (arith, ap (λ k. k.faults) af
 never_falls-refused (Full held entries) old new after = omega (arith, ap (λ k. k.faults) after)
 never_falls-refused (Short place item store lacking) old new after = omega (arith, ap (λ k. k.faults) after)
 never_falls-refused KeeperFailed old new after = after.never_falls
-never_falls-refused NoMemory old new after = after
+never_falls-refused NoMemory old new after = calls.never_falls-refused keep.NoMemory old new after
 
 counts : (answer : Answer) (f : PostFault) (old new : KeeperState) → IsAfterRefusal f old new → store_failures answer ≡ 0
     → CountsFailure answer old.faults new.faults

@@ -3,6 +3,7 @@ ghost use Rattle.std.specs.Prelude.{◌≡◌, ◌≤◌, IfOk, OnErr, IsTrue};
 ghost use Rattle.stock_io.specs.Counts.{NeverFalls};
 ghost use Rattle.stock_nums.specs.declared.limits.TheConstants.{MAX_DESK};
 ghost use Rattle.stock_model.specs.Limits.{is_within_limits};
+ghost use Rattle.generation_book.specs.Follows.{start_of, Follows};
 ghost use Rattle.book_answers.specs.Answers.{HasText, ShowsKeptStock};
 ghost use Rattle.book_answers.specs.Posts.{Posts, CountsFailure};
 
@@ -35,6 +36,7 @@ pub fn post<K: Keeper>(
     ensures keeps { IfOk result ShowsKeptStock }
     ensures faults { IfOk result (λ answer. CountsFailure answer book.old.keeper.faults book.new.keeper.faults) }
     ensures unchanged { OnErr result (book.new.history ≡ book.old.history) }
+    ensures follows { Follows (start_of book.old) book.new }
     ensures never_falls { OnErr result (NeverFalls book.old.keeper.faults book.new.keeper.faults) }
 {
     match book.post(alloc, Record { desk, what }) {

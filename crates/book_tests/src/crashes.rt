@@ -1,4 +1,4 @@
-//! A ledger is opened again from each of the tables that a crash may leave.
+//! A ledger is opened again from each of the tables that a crash may leave, and a book counts the calls of its keeper.
 
 use crate::records::{ITEM, RECEIPT, SALE, STORE, record};
 use repost_worker::opening::NotOpened;
@@ -71,16 +71,16 @@ fn into_keeper<K: Keeper>(book: RevaluedBook<K>) -> K {
     book.into_book().into_keeper()
 }
 
-// Opens the ledger of the shelf, takes the first steps over it, and puts its keeper back. Answers what it has then, or none where
-// it was not opened.
-fn run<H: Shelf>(alloc: Global, shelf: &mut H, steps: usize) -> Option<Shape> {
+// Opens the ledger of the shelf, takes the first steps over it, and puts its keeper back. Answers what it has then, and how many
+// calls the book counts; or none where it was not opened.
+fn run<H: Shelf>(alloc: Global, shelf: &mut H, steps: usize) -> Option<(Shape, u64)> {
     let keeper = shelf.open_keeper("ledger").ok()?;
     match RevaluedBook::begin(alloc, keeper) {
         Ok(mut book) => {
             let are_read = take_steps(alloc, &mut book, steps);
-            let shape = shape(&book);
+            let told = (shape(&book), book.book().calls());
             shelf.put_back(into_keeper(book));
-            if are_read { Some(shape) } else { None }
+            if are_read { Some(told) } else { None }
         }
         Err(NotOpened { fault: _, keeper }) => {
             shelf.put_back(keeper);
@@ -113,7 +113,8 @@ fn kept_after(alloc: Global, failing: &[u64], steps: usize) -> Option<MemKeeper>
 fn opened_after_crash(alloc: Global, keeper: MemKeeper, pick: usize) -> Option<Shape> {
     let left = keeper.crash(pick).ok()?;
     let mut shelf = MemShelf::new(left, Lines::new(alloc));
-    run(alloc, &mut shelf, 0)
+    let (shape, _calls) = run(alloc, &mut shelf, 0)?;
+    Some(shape)
 }
 
 // Which calls of a new ledger's keeper fail, and how many steps are taken; what the ledgers have that the refused calls would have
@@ -168,5 +169,26 @@ fn a_ledger_opens_from_all_that_a_crash_leaves(rt: HostRuntime) {
             "after {} steps",
             crash.1
         );
+    }
+}
+
+// Whether the book of a new ledger counts so many calls after so many steps, where the call with number 6 fails.
+fn counts(alloc: Global, steps: usize, calls: u64) -> bool {
+    match new_keeper(alloc, &[6]) {
+        Ok(keeper) => {
+            let mut shelf = MemShelf::new(keeper, Lines::new(alloc));
+            matches!(run(alloc, &mut shelf, steps), Some((_, counted)) if counted == calls)
+        }
+        Err(NoMemory) => false,
+    }
+}
+
+// How many calls there were after so many steps: the load, four posts, a publication that fails, a post and a publication.
+const CALLS: &[(usize, u64)] = &[(0, 1), (4, 5), (5, 6), (6, 7), (7, 8)];
+
+#[test]
+fn a_book_counts_the_calls_of_its_keeper(rt: HostRuntime) {
+    for (steps, calls) in CALLS {
+        assert!(rt; counts(rt.alloc(), *steps, *calls), "after {steps} steps");
     }
 }

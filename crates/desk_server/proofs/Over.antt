@@ -15,6 +15,8 @@ use Rattle.stock_model.specs.Reports.{report, report_by, need_at}
 use Rattle.stock_nums.specs.declared.numbers.RecordNo.{RecordNo}
 use Rattle.stock_io.specs.Counts.{NeverFalls}
 use Rattle.generation_book.specs.State.{BookState}
+use Rattle.generation_book.specs.Follows.{start_of, Follows}
+use Rattle.generation_book.proofs.Following.{follows-itself}
 use Rattle.session_laws.specs.Answers.{IsAnswer}
 use Rattle.session_laws.specs.Exchanges.{store_failures}
 use Rattle.session_laws.specs.Sentences.{AcceptsNone}
@@ -29,34 +31,35 @@ use Rattle.desk_server.specs.declared.answering.Answered.TheVariants.{Whole, Unt
 module _ (desk : ℕ) (request : Request) (close : Bool) (old new : BookState) where
   -- nothing was kept, and memory was wanting
   pub over-no_memory : (response : List ℕ) → new.history ≡ old.history → NeverFalls old.keeper.faults new.keeper.faults
-      → response ≡ response_to (Told MemoryFailed []) close → AnswersOver desk request close old new response
-  over-no_memory response same never_falls text = record {
+      → Follows (start_of old) new → response ≡ response_to (Told MemoryFailed []) close → AnswersOver desk request close old new response
+  over-no_memory response same never_falls follows text = record {
     answer = Told MemoryFailed [];
     kept = [];
     answers = inl (refl, refl);
     grows = same ∙ sym (append-nil old.history);
     faults = record { never_falls = never_falls; failed = λ _. omega (arith, never_falls) };
+    follows = follows;
     response_is = text;
   }
 
   -- nothing was kept, and the answer is told, or memory is wanting for that
   pub over-told : (answer : Answer) (kept : List Deed) → IsAnswer desk old.history request answer kept → kept ≡ []
       → new.history ≡ old.history ++ kept → CountsFailure answer old.keeper.faults new.keeper.faults
-      → AnswersOnceTold desk request close old new (Untold answer)
-  over-told answer kept answers none grows faults response told =
+      → Follows (start_of old) new → AnswersOnceTold desk request close old new (Untold answer)
+  over-told answer kept answers none grows faults follows response told =
       ⊎_elim
       (λ (text : response ≡ response_to answer close).
-      record { answer = answer; kept = kept; answers = inr answers; grows = grows; faults = faults; response_is = text })
+      record { answer = answer; kept = kept; answers = inr answers; grows = grows; faults = faults; follows = follows; response_is = text })
       (λ (no_memory : response ≡ response_to (Told MemoryFailed []) close).
-      over-no_memory response (grows ∙ ap (λ (k : List Deed). old.history ++ k) none ∙ append-nil old.history) faults.never_falls no_memory)
+      over-no_memory response (grows ∙ ap (λ (k : List Deed). old.history ++ k) none ∙ append-nil old.history) faults.never_falls follows no_memory)
       told
 
   -- what was told is what was kept
   pub over-accepted : (what : What) (answer : Answer) (n next : RecordNo) (response : List ℕ) → request ≡ Post what
       → Posts desk old.history what answer new.history → CountsFailure answer old.keeper.faults new.keeper.faults
-      → answer ≡ Told (Accepted n) [] → (n.0 ≡ accepted old.history + 1 → next ≡ n)
+      → Follows (start_of old) new → answer ≡ Told (Accepted n) [] → (n.0 ≡ accepted old.history + 1 → next ≡ n)
       → response ≡ response_to (Told (Accepted next) []) close → AnswersOver desk request close old new response
-  over-accepted what answer n next response asked posts faults is same text =
+  over-accepted what answer n next response asked posts faults follows is same text =
       ⊎_elim
       (λ (one : KeepsOne desk old.history (Post what) answer posts.kept).
       let number : Told (Accepted n) [] ≡ Told (Accepted (record { 0 = accepted old.history + 1 })) [] = sym is ∙ one.told in
@@ -68,6 +71,7 @@ module _ (desk : ℕ) (request : Request) (close : Bool) (old new : BookState) w
         answers = inr (subst (λ (r : Request). IsAnswer desk old.history r answer posts.kept) (sym asked) posts.posted);
         grows = posts.grows;
         faults = faults;
+        follows = follows;
         response_is = text ∙ ap (λ (r : RecordNo). response_to (Told (Accepted r) []) close) next_is
             ∙ ap (λ (a : Answer). response_to a close) (sym is);
       })
@@ -76,8 +80,8 @@ module _ (desk : ℕ) (request : Request) (close : Bool) (old new : BookState) w
 
   pub over-not_accepted : (what : What) (answer : Answer) → request ≡ Post what
       → Posts desk old.history what answer new.history → CountsFailure answer old.keeper.faults new.keeper.faults
-      → AcceptsNone answer → AnswersOnceTold desk request close old new (Untold answer)
-  over-not_accepted what answer asked posts faults none =
+      → Follows (start_of old) new → AcceptsNone answer → AnswersOnceTold desk request close old new (Untold answer)
+  over-not_accepted what answer asked posts faults follows none =
       over-told answer posts.kept
       (subst (λ (r : Request). IsAnswer desk old.history r answer posts.kept) (sym asked) posts.posted)
       (⊎_elim
@@ -85,7 +89,7 @@ module _ (desk : ℕ) (request : Request) (close : Bool) (old new : BookState) w
       absurd (none (record { 0 = accepted old.history + 1 }) one.told))
       (λ (nothing : KeepsNothing answer posts.kept). nothing.nothing)
       (answer-cases desk old.history answer posts.kept (Post what) posts.posted))
-      posts.grows faults
+      posts.grows faults follows
 
 -- a report keeps nothing
 no_failure : (met : Need) (history : List Deed) (query : Query) → store_failures (report_by met history query) ≡ 0
@@ -101,6 +105,7 @@ over-report desk query close book answer is =
       never_falls = omega arith;
       failed = λ _. omega (arith, ap store_failures is, no_failure (need_at book.history query) book.history query);
     })
+    (follows-itself book)
 
 -- what the response may come to: there is always one
 pub told-first : Answered → Bool → List ℕ

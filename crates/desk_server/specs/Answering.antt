@@ -8,6 +8,7 @@ use Rattle.stock_model.specs.declared.replies.Reply.TheVariants.{Accepted, Memor
 use Rattle.stock_model.specs.declared.requests.Request.{Request}
 use Rattle.stock_model.specs.declared.requests.Request.TheVariants.{Post, Work, Settle, Report}
 use Rattle.generation_book.specs.State.{BookState}
+use Rattle.generation_book.specs.Follows.{start_of, Follows}
 use Rattle.session_laws.specs.Answers.{IsAnswer, LacksMemory}
 use Rattle.session_laws.specs.Sentences.{AcceptsNone}
 use Rattle.book_answers.specs.Answers.{HasText}
@@ -37,6 +38,7 @@ pub record AnswersOver (desk : ℕ) (request : Request) (close : Bool) (old new 
   pub answers : LacksMemory answer kept ⊎ IsAnswer desk old.history request answer kept
   pub grows : new.history ≡ old.history ++ kept
   pub faults : CountsFailure answer old.keeper.faults new.keeper.faults
+  pub follows : Follows (start_of old) new
   pub response_is : response ≡ response_to answer close
 
 -- the answer whose response is still to be made has a text

@@ -44,6 +44,10 @@ module _ {E : Type 0} where
   joined_all-first_faults view [] = refl
   joined_all-first_faults view (pass ∷ passes) = joined_all-first_faults view passes
 
+  pub joined_all-start : (view : View E) (passes : List (PassView E)) → (joined_all view passes).start ≡ view.start
+  joined_all-start view [] = refl
+  joined_all-start view (pass ∷ passes) = joined_all-start view passes
+
   joined_all-made : (view : View E) (passes : List (PassView E)) → (joined_all view passes).made ≡ view.made
   joined_all-made view [] = refl
   joined_all-made view (pass ∷ passes) = joined_all-made view passes

@@ -6,6 +6,7 @@ use Rattle.std.proofs.lemmas.List.Elements.{All-nil, All-cons, All-head, All-tai
 use Rattle.atomic_table.specs.Seated.{TableId}
 use Rattle.turn_lock.specs.Passes.{PassView}
 use Rattle.turn_lock.specs.Views.{opened, split_left, split_right, joined_view}
+use Rattle.turn_lock.specs.declared.view.Start.{Start}
 use Rattle.turn_lock.specs.declared.view.View.{View}
 use Rattle.desk_service.specs.Passes.{fresh, passes_from, ArePassesFrom, joined_all}
 
@@ -91,14 +92,14 @@ popped lock number all rest pass from parts =
 
 -- what is split off a pass that was just opened, and what it knows then
 module _ {E : Type 0} where
-  pub opened-passes : (lock other : TableId) (log : List (ℕ × E)) (faults count : ℕ) (view : View E) (passes : List (PassView E)) → lock ≡ other
-      → view ≡ opened log faults → passes ≡ passes_from other view (view.split + 1) count → passes ≡ passes_from lock (opened log faults) 1 count
-  opened-passes lock other log faults count view passes same is are =
+  pub opened-passes : (lock other : TableId) (log : List (ℕ × E)) (faults count : ℕ) (noted : Start) (view : View E) (passes : List (PassView E)) → lock ≡ other
+      → view ≡ opened log faults noted → passes ≡ passes_from other view (view.split + 1) count → passes ≡ passes_from lock (opened log faults noted) 1 count
+  opened-passes lock other log faults count noted view passes same is are =
       are ∙ (λ i. passes_from (sym same i) (is i) ((is i).split + 1) count)
 
-  pub opened-split : (log : List (ℕ × E)) (faults count : ℕ) (view after : View E) → view ≡ opened log faults
-      → after ≡ record view { split = view.split + count } → after ≡ record (opened log faults) { split = count }
-  opened-split log faults count view after is split =
+  pub opened-split : (log : List (ℕ × E)) (faults count : ℕ) (noted : Start) (view after : View E) → view ≡ opened log faults noted
+      → after ≡ record view { split = view.split + count } → after ≡ record (opened log faults noted) { split = count }
+  opened-split log faults count noted view after is split =
       let whole : 0 + count ≡ count = omega arith in
       split ∙ ap (λ (v : View E). record v { split = v.split + count }) is
-      ∙ ap (λ (n : ℕ). record (opened log faults) { split = n }) whole
+      ∙ ap (λ (n : ℕ). record (opened log faults noted) { split = n }) whole

@@ -8,6 +8,7 @@ use Rattle.atomic_table.specs.Seated.{TableId}
 use Rattle.turn_lock.specs.Histories.{BeginsWith, past, made_by}
 use Rattle.turn_lock.specs.Passes.{PassView}
 use Rattle.turn_lock.specs.Views.{opened}
+use Rattle.turn_lock.specs.declared.view.Start.{Start}
 use Rattle.turn_lock.specs.declared.view.View.{View}
 use Rattle.turn_lock.proofs.Lists.{begins_self, past_self}
 use Rattle.stock_model.specs.History.{IsLegal}
@@ -158,10 +159,10 @@ module _ {P : Type 0} (left : P → Option (List ℕ)) (taken : P → ℕ) (writ
     )
 
   -- pass 0 of a lock round this history was split, and a team went to work
-  module _ (is_fresh : P → Type 0) (lock : TableId) (first : List Deed) (count_of_faults count : ℕ) (pass : PassView Deed) (build : Build)
+  module _ (is_fresh : P → Type 0) (lock : TableId) (first : List Deed) (count_of_faults count : ℕ) (noted : Start) (pass : PassView Deed) (build : Build)
       (pass' : PassView Deed) (build' : Build) (passes passes' : List (PassView Deed)) (peers : List P) (old mid : Heard P)
-      (split : pass.view ≡ record (opened (with_makers first) count_of_faults) { split = count })
-      (are : passes ≡ passes_from lock (opened (with_makers first) count_of_faults) 1 count)
+      (split : pass.view ≡ record (opened (with_makers first) count_of_faults noted) { split = count })
+      (are : passes ≡ passes_from lock (opened (with_makers first) count_of_faults noted) 1 count)
       (team : IsTeamwork attends is_fresh pass build pass' build' passes passes' peers old mid) where
     view_is : pass'.view ≡ record pass.view { seen = pass'.view.seen; seen_faults = pass'.view.seen_faults; made = pass'.view.made; stops = pass'.view.stops; faults = pass'.view.faults }
     view_is = team.worked.rest
@@ -171,6 +172,9 @@ module _ {P : Type 0} (left : P → Option (List ℕ)) (taken : P → ℕ) (writ
 
     pub none_joined : pass'.view.joined ≡ []
     none_joined = ap (λ (v : View Deed). v.joined) view_is ∙ ap (λ (v : View Deed). v.joined) split
+
+    pub start_is : pass'.view.start ≡ noted
+    start_is = ap (λ (v : View Deed). v.start) view_is ∙ ap (λ (v : View Deed). v.start) split
 
     first_is : pass'.view.first ≡ with_makers first
     first_is = ap (λ (v : View Deed). v.first) view_is ∙ ap (λ (v : View Deed). v.first) split
@@ -183,7 +187,7 @@ module _ {P : Type 0} (left : P → Option (List ℕ)) (taken : P → ℕ) (writ
           arith,
           own,
           ap length are,
-          passes_from-length lock (opened (with_makers first) count_of_faults) 1 count,
+          passes_from-length lock (opened (with_makers first) count_of_faults noted) 1 count,
           ap length s.before,
           ap length s.after,
           length-append s.unused (last_first (λ (w : Work P). w.pass) s.works),
@@ -196,7 +200,7 @@ module _ {P : Type 0} (left : P → Option (List ℕ)) (taken : P → ℕ) (writ
     new_ones =
         let s = team.serving in
         each_work (λ (w : Work P). w.pass) (IsNew lock (with_makers first)) s.unused s.works
-        (subst (All (IsNew lock (with_makers first))) (sym are ∙ s.before) (are_new lock (opened (with_makers first) count_of_faults) 1 count))
+        (subst (All (IsNew lock (with_makers first))) (sym are ∙ s.before) (are_new lock (opened (with_makers first) count_of_faults noted) 1 count))
 
     pub of_lock : All (λ other. other.lock ≡ lock) passes'
     of_lock =
@@ -224,7 +228,7 @@ module _ {P : Type 0} (left : P → Option (List ℕ)) (taken : P → ℕ) (writ
         ap numbers s.after ∙ map-append num s.unused after ∙ ap (λ (z : List ℕ). numbers s.unused ++ z) (numbers_same 1 s.works s.attended)
         ∙ sym (map-append num s.unused before) ∙ ap numbers (sym s.before)
         in
-        subst (IsDown 1 count) (sym (same ∙ ap numbers are)) (passes_from-down lock (opened (with_makers first) count_of_faults) 1 count)
+        subst (IsDown 1 count) (sym (same ∙ ap numbers are)) (passes_from-down lock (opened (with_makers first) count_of_faults noted) 1 count)
 
     owns : Owns (with_makers first) pass'.view
     owns =
@@ -310,7 +314,7 @@ module _ {P : Type 0} (left : P → Option (List ℕ)) (taken : P → ℕ) (writ
           (subst (All (λ (p : PassView Deed). p.view.seen_faults ≤ faults')) s.after closed.counted_all)
           in
           let wanted : length passes ≡ count =
-          ap length are ∙ passes_from-length lock (opened (with_makers first) count_of_faults) 1 count
+          ap length are ∙ passes_from-length lock (opened (with_makers first) count_of_faults noted) 1 count
           in
           let back : reverse peers ≡ map (λ w. w.peer_then) s.works = ap reverse s.served ∙ turned_back (λ (w : Work P). w.peer_then) s.works in
           record {

@@ -9,7 +9,7 @@ module _ {E : Type 0} where
   -- what the pass with this number knows as it is split off one that knows so much
   abbrev pub fresh : View E → ℕ → View E
   fresh known number =
-      record (opened known.first known.first_faults) { number = number; seen = known.seen; seen_faults = known.seen_faults }
+      record (opened known.first known.first_faults known.start) { number = number; seen = known.seen; seen_faults = known.seen_faults }
 
   -- so many such passes, numbered on from this number, the first of them last
   abbrev pub passes_from : TableId → View E → ℕ → ℕ → List (PassView E)

@@ -3,6 +3,7 @@ ghost use Rattle.std.specs.Prelude.{◌≡◌, ◌+◌, ◌<◌, ◌≤◌, [], 
 ghost use Rattle.stock_nums.specs.declared.limits.TheConstants.{MAX_DESK};
 ghost use Rattle.stock_io.specs.Listeners.{IsFresh};
 ghost use Rattle.stock_model.specs.History.{IsLegal};
+ghost use Rattle.generation_book.specs.Follows.{start_of, Follows};
 ghost use Rattle.repost_worker.specs.Turns.{IsWorkOf};
 ghost use Rattle.session_laws.specs.Makers.{without_makers};
 ghost use Rattle.desk_service.specs.Endings.{IsClosed};
@@ -80,6 +81,7 @@ pub fn serve<K: Keeper + Send, P: Link, L: Listener<Peer = P> + Drop, R: Threads
         desks served.accepted book.history served.book.history book.keeper.faults served.book.keeper.faults
         (heard L.waiting L.hung_up L.accepts L.hang_ups L.faults listener)
         (heard L.waiting L.hung_up L.accepts L.hang_ups L.faults served.listener)) }
+    ensures follows { IfOk result (λ served. Follows (start_of book) served.book) }
     ensures port_kept { IfOk result (λ served. L.listens_to served.listener ≡ L.listens_to listener) }
     ensures work { IfOk result (λ served. IsWorkOf served.book.history served.build) }
     ensures not_served { IfErr result (λ refused.
@@ -218,6 +220,7 @@ fn ended<K: Keeper, L: Listener>(lock: TurnLock<Book<K>>, team: Team<K, L>) -> S
     requires outstanding { L.hang_ups team.desks.listener + length team.desks.peers.items ≤ L.accepts team.desks.listener }
     ensures closed { IsClosed team.worker.pass.view team.desks.passes.items result.book.history result.book.keeper.faults }
     ensures legal { IsLegal result.book.history }
+    ensures follows { Follows team.worker.pass.view.start result.book }
     ensures hung_up { HangsUp (heard L.waiting L.hung_up L.accepts L.hang_ups L.faults team.desks.listener)
         (heard L.waiting L.hung_up L.accepts L.hang_ups L.faults result.listener) (reverse team.desks.peers.items) }
     ensures port_kept { L.listens_to result.listener ≡ L.listens_to team.desks.listener }

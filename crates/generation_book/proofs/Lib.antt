@@ -3,3 +3,4 @@ pub mod Filters
 pub mod ChangedRows
 pub mod OwnFaults
 pub mod KeptBooks
+pub mod Following

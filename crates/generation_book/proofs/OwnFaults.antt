@@ -1,9 +1,10 @@
 -- A record's own fault is neither that its keeper failed nor want of memory.
-use Rattle.std.proofs.Common.{◌≡◌, ◌⊎◌, Bool, true, false, List, [], ◌∷◌, ◌++◌, Option, Some, None, IfSome, inl, inr, refl, sym, subst, ◌≤◌, arith}
+use Rattle.std.proofs.Common.{◌≡◌, ◌⊎◌, ℕ, Bool, true, false, List, [], ◌∷◌, ◌++◌, Option, Some, None, IfSome, inl, inr, refl, sym, subst}
 use Rattle.std.specs.Prelude.{if◌then◌else◌, is_some}
 use Rattle.std.specs.Option.{option_map, option_or}
 use Rattle.stock_nums.specs.Accounts.{is_store_account}
 use Rattle.stock_nums.specs.Codes.{is_code}
+use Rattle.stock_io.specs.Counts.{raised}
 use Rattle.stock_model.specs.Faults.{fault, fault_but_short, full, short, short_of, voucher_fault, master_fault, lines_fault, targets_fault, first_fault, code_taken, code_shape, account_range, unknown_item, unknown_store, same_store, unknown_target, link_later, repeated_target, over_return, no_basis, over_return_at}
 use Rattle.stock_model.specs.Masters.{item_with, store_with}
 use Rattle.stock_model.specs.declared.deeds.Deed.{Deed}
@@ -16,7 +17,7 @@ use Rattle.stock_model.specs.declared.vouchers.What.TheVariants.{Item, Store, Re
 use Rattle.stock_keeper.specs.Calls.{KeeperState}
 use Rattle.stock_keeper.specs.declared.fault.KeepFault.{KeepFault}
 use Rattle.stock_keeper.specs.declared.fault.KeepFault.TheVariants as keep
-use Rattle.generation_book.specs.Refusals.{refusal_of, IsRefusalOf, IsAfterRefusal, HasTried, HasTriedFor}
+use Rattle.generation_book.specs.Refusals.{refusal_of, IsRefusalOf, IsAfterRefusal, HasTried, HasTriedFor, HasAsked, HasAskedFor}
 use Rattle.generation_book.proofs.Books.{at_once-none}
 
 abbrev pub IsOwn : PostFault → Type 0
@@ -152,9 +153,7 @@ refused-for journal item f (inr is) = by_fault journal item f (own-is journal it
 
 pub refused-uncalled : (journal : List Record) (item : Record) (f : PostFault) (keeper : KeeperState)
     → ((f ≡ NoMemory) × (fault_but_short journal item ≡ None)) ⊎ (fault journal item ≡ Some f) → IsAfterRefusal f keeper keeper
-refused-uncalled journal item f keeper (inl memory) =
-    let same : keeper.faults ≤ keeper.faults = omega arith in
-    subst (λ (x : PostFault). IsAfterRefusal x keeper keeper) (sym memory.0) same
+refused-uncalled journal item f keeper (inl memory) = subst (λ (x : PostFault). IsAfterRefusal x keeper keeper) (sym memory.0) (inl refl)
 refused-uncalled journal item f keeper (inr is) = uncalled f keeper (own-is journal item f is)
 
 -- a record without a fault is refused for its keeper, or for want of memory
@@ -194,3 +193,35 @@ tried-more keep.NoMemory event old new is = inr is
 pub tried-by : (f : KeepFault) (event : Deed) (old new : List Deed) → new ≡ old ++ event ∷ [] → HasTriedFor (refusal_of f) event old new
 tried-by keep.Failed event old new is = is
 tried-by keep.NoMemory event old new is = inr is
+
+unasked : (f : PostFault) (calls : ℕ) → IsOwn f → HasAskedFor f calls calls
+unasked CodeTaken calls own = refl
+unasked CodeShape calls own = refl
+unasked AccountRange calls own = refl
+unasked (UnknownItem n) calls own = refl
+unasked (UnknownStore n) calls own = refl
+unasked (SameStore n) calls own = refl
+unasked (UnknownTarget n) calls own = refl
+unasked (LinkLater n) calls own = refl
+unasked (RepeatedTarget n) calls own = refl
+unasked (OverReturn n asked left) calls own = refl
+unasked NoBasis calls own = refl
+unasked (Full records entries) calls own = refl
+unasked (Short place item store lacking) calls own = refl
+unasked KeeperFailed calls own = absurd own
+unasked NoMemory calls own = absurd own
+
+-- no call was made where a record is refused for its own fault, or for want of memory before
+pub asked-uncalled : (journal : List Record) (item : Record) (f : PostFault) (calls : ℕ)
+    → ((f ≡ NoMemory) × (fault_but_short journal item ≡ None)) ⊎ (fault journal item ≡ Some f) → HasAskedFor f calls calls
+asked-uncalled journal item f calls (inl memory) = subst (λ (x : PostFault). HasAskedFor x calls calls) (sym memory.0) (inl refl)
+asked-uncalled journal item f calls (inr is) = unasked f calls (own-is journal item f is)
+
+-- and one more where the keeper refused it
+pub asked-more : (f : KeepFault) (old new : ℕ) → new ≡ raised old → HasAsked f old new
+asked-more keep.Failed old new is = is
+asked-more keep.NoMemory old new is = inr is
+
+pub asked-by : (f : KeepFault) (old new : ℕ) → new ≡ raised old → HasAskedFor (refusal_of f) old new
+asked-by keep.Failed old new is = is
+asked-by keep.NoMemory old new is = inr is

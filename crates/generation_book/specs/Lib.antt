@@ -3,3 +3,4 @@ pub mod Book
 pub mod Merged
 pub mod Refusals
 pub mod Handed
+pub mod Follows

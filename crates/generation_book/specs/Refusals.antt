@@ -1,5 +1,6 @@
 -- Why a book refuses a record, and what a refusal leaves of its keeper and of what was tried.
-use Rattle.std.specs.Prelude.{◌≡◌, ◌⊎◌, List, [], ◌∷◌, ◌++◌, Some, None}
+use Rattle.std.specs.Prelude.{◌≡◌, ◌⊎◌, ℕ, List, [], ◌∷◌, ◌++◌, Some, None}
+use Rattle.stock_io.specs.Counts.{raised}
 use Rattle.stock_model.specs.Faults.{fault, fault_but_short}
 use Rattle.stock_model.specs.declared.deeds.Deed.{Deed}
 use Rattle.stock_model.specs.declared.faults.PostFault.{PostFault}
@@ -37,3 +38,13 @@ abbrev pub HasTriedFor : PostFault → Deed → List Deed → List Deed → Type
 HasTriedFor post_fault.KeeperFailed event old new = HasTried Failed event old new
 HasTriedFor post_fault.NoMemory event old new = HasTried NoMemory event old new
 HasTriedFor f event old new = new ≡ old
+
+-- how many calls of the keeper were made, before and after it refused one, if it was asked at all
+abbrev pub HasAsked : KeepFault → ℕ → ℕ → Type 0
+HasAsked Failed old new = new ≡ raised old
+HasAsked NoMemory old new = (new ≡ old) ⊎ (new ≡ raised old)
+
+abbrev pub HasAskedFor : PostFault → ℕ → ℕ → Type 0
+HasAskedFor post_fault.KeeperFailed old new = HasAsked Failed old new
+HasAskedFor post_fault.NoMemory old new = HasAsked NoMemory old new
+HasAskedFor f old new = new ≡ old

@@ -2,6 +2,7 @@
 
 ghost use Rattle.std.specs.Prelude.{◌≡◌, ◌⊎◌, ◌<◌, ◌≤◌, List, [], ◌∷◌, ◌++◌, length, take, drop, filter, IfOk, OnOk, OnErr, IfErr, Some, None};
 ghost use Rattle.std.specs.Option.{option_copied};
+ghost use Rattle.stock_io.specs.Counts.{raised};
 ghost use Rattle.stock_model.specs.declared.deeds.Deed.{Deed};
 ghost use Rattle.stock_model.specs.declared.deeds.Deed.TheVariants as deed;
 ghost use Rattle.stock_model.specs.Reports.{need_at, unmet_need, selected, IsSelected};
@@ -16,7 +17,7 @@ ghost use Rattle.repost_fetch.specs.Fetched.{IsFetchedOf};
 ghost use Rattle.kept_tables.specs.Kept.{IsKept};
 ghost use Rattle.generation_book.specs.State.{first_book};
 ghost use Rattle.generation_book.specs.Handed.{IsHanded, AreHanded};
-ghost use Rattle.generation_book.specs.Refusals.{refusal_of, IsRefusalOf, IsAfterRefusal, HasTried, HasTriedFor};
+ghost use Rattle.generation_book.specs.Refusals.{refusal_of, IsRefusalOf, IsAfterRefusal, HasTried, HasTriedFor, HasAsked, HasAskedFor};
 
 use crate::covered_heads::covered_heads;
 use crate::events::Event;
@@ -56,6 +57,8 @@ use voucher_kinds::journal::Journal;
 pub struct Book<K: Keeper> {
     keeper: K,
     tried: Tried,
+    /// How many calls of its keeper were made, the one by which it was loaded included. It stays at its end.
+    calls: u64,
     /// How many events its history began with.
     opened: usize,
     journal: Journal,
@@ -82,6 +85,7 @@ impl<K: Keeper> Model for Book<K> {
       history = deeds book.events.items book.journal;
       opened = book.opened;
       tried = book.tried.events;
+      calls = book.calls;
       keeper = record { faults = K.faults book.keeper; plan = K.plan book.keeper; calls = K.calls book.keeper };
     } };
 
@@ -99,6 +103,7 @@ impl Book<Nowhere> {
         Book {
             keeper: Nowhere::new(alloc),
             tried: Tried::new(),
+            calls: 0,
             opened: 0,
             journal: Journal::new(alloc),
             events: Vec::new(alloc),
@@ -109,8 +114,9 @@ impl Book<Nowhere> {
         }
     }
 
-    /// The same book over a keeper of its history, which is its opening then. `tried` are the events for which the keeper was
-    /// refused since it last did what it was asked for: a crash leaves the tables of the history, or those with one of these.
+    /// The same book over a keeper of its history, which is its opening then, and was loaded by one call. `tried` are the events
+    /// for which the keeper was refused since it last did what it was asked for: a crash leaves the tables of the history, or those
+    /// with one of these.
     pub fn with_keeper<K: Keeper>(self, keeper: K) -> Book<K>
         ghost tried: { List Deed }
         requires kept { IsKept (K.tells keeper) (K.may_leave keeper) self.history tried }
@@ -120,10 +126,12 @@ impl Book<Nowhere> {
         ensures faults { result.keeper.faults ≡ K.faults keeper }
         ensures plan { result.keeper.plan ≡ K.plan keeper }
         ensures calls { result.keeper.calls ≡ K.calls keeper }
+        ensures called { result.calls ≡ 1 }
     {
         Book {
             keeper,
             tried: Tried::of(),
+            calls: 1,
             opened: self.events.as_slice().len(),
             journal: self.journal,
             events: self.events,
@@ -156,6 +164,8 @@ impl<K: Keeper> Book<K> {
         // What a crash may leave beside the tables of the history has one of the events that were tried.
         ensures settled { OnOk result (self.new.tried ≡ []) }
         ensures tried { IfErr result (λ f. HasTriedFor f (deed.Kept item) self.old.tried self.new.tried) }
+        ensures called { OnOk result (self.new.calls ≡ raised self.old.calls) }
+        ensures asked { IfErr result (λ f. HasAskedFor f self.old.calls self.new.calls) }
         ensures legal { OnOk result (history.IsLegal self.new.history) }
     {
         let entries = match self.new_entries(alloc, &item) {
@@ -175,6 +185,7 @@ impl<K: Keeper> Book<K> {
         let Ok(number) = self.journal.push(item) else {
             return Err(PostFault::NoMemory);
         };
+        self.calls = one_more(self.calls);
         if let Err(fault) = self.keeper.append(number, text.as_slice()) {
             self.journal.pop();
             self.tried = tried;
@@ -278,6 +289,8 @@ impl<K: Keeper> Book<K> {
         // As after a post.
         ensures settled { OnOk result (self.new.tried ≡ []) }
         ensures tried { IfErr result (λ f. HasTried f (deed.Published n) self.old.tried self.new.tried) }
+        ensures called { OnOk result (self.new.calls ≡ raised self.old.calls) }
+        ensures asked { IfErr result (λ f. HasAsked f self.old.calls self.new.calls) }
         ensures legal { OnOk result (history.IsLegal self.new.history) }
     {
         let most = self.movements.timeline().len();
@@ -289,6 +302,7 @@ impl<K: Keeper> Book<K> {
         if self.events.reserve(1).is_err() {
             return Err(KeepFault::NoMemory);
         }
+        self.calls = one_more(self.calls);
         if let Err(fault) = self.keeper.publish(n, &changes) {
             self.tried = self.tried.with_published(&n);
             return Err(fault);
@@ -385,6 +399,14 @@ impl<K: Keeper> Book<K> {
         self.opened
     }
 
+    /// How many calls of its keeper were made, the one by which it was loaded included. It stays at 2^64 - 1 once it is there. It
+    /// takes no memory.
+    pub fn calls(&self) -> u64
+        ensures { result ≡ self.now.calls }
+    {
+        self.calls
+    }
+
     /// The keeper, for good. A crash leaves the tables of the history, or those with one of the events that were tried.
     pub fn into_keeper(self) -> K
         ensures kept { IsKept (K.tells result) (K.may_leave result) self.history self.tried }
@@ -395,6 +417,7 @@ impl<K: Keeper> Book<K> {
         let Book {
             keeper,
             tried: _,
+            calls: _,
             opened: _,
             journal: _,
             events: _,
@@ -432,6 +455,13 @@ fn handed_changes<K: Keeper>(
     } else {
         changes_of(alloc, &[])
     }
+}
+
+// A count of calls after one more.
+fn one_more(calls: u64) -> u64
+    ensures { result ≡ raised calls }
+{
+    calls.saturating_add(1)
 }
 
 // Why a post is refused that the keeper refused.

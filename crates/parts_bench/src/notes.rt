@@ -1,4 +1,4 @@
-ghost use Rattle.std.specs.Prelude.{◌≡◌, All};
+ghost use Rattle.std.specs.Prelude.{◌≡◌, All, None, ⊤};
 ghost use Rattle.turn_lock.specs.Histories.{BeginsWith, past};
 
 use std::alloc::Global;
@@ -16,6 +16,13 @@ impl Logged for Notes {
     ghost history = { λ notes. notes.events.items };
 
     ghost faults = { λ _. 0 };
+
+    // Nothing is told of calls.
+    ghost start = { λ _. record { plan = None; calls = 0; events = 0 } };
+
+    ghost follows = { λ _ _. ⊤ };
+
+    ghost starts = { λ _. tt };
 }
 
 impl Notes {

@@ -4,11 +4,16 @@ use Rattle.std.specs.Prelude.{All}
 use Rattle.std.proofs.lemmas.List.Elements.{All-nil, All-cons}
 use Rattle.stock_model.specs.declared.deeds.Deed.{Deed}
 use Rattle.stock_model.specs.declared.deeds.Deed.TheVariants as deed
+use Rattle.stock_keeper.proofs.Calls.{never_falls-refused, called-done, called-refused}
 use Rattle.stock_keeper.specs.Calls.{KeeperState, IsRefused, AreDone}
 use Rattle.stock_keeper.specs.declared.fault.KeepFault.{KeepFault}
 use Rattle.stock_keeper.specs.declared.fault.KeepFault.TheVariants.{Failed, NoMemory}
 use Rattle.turn_lock.specs.Histories.{BeginsWith, past, made_by}
+use Rattle.turn_lock.specs.declared.view.Start.{Start}
 use Rattle.turn_lock.specs.declared.view.View.{View}
+use Rattle.generation_book.specs.State.{BookState}
+use Rattle.generation_book.specs.Follows.{Follows}
+use Rattle.generation_book.proofs.Following.{follows-on}
 use Rattle.session_laws.specs.Makers.{with_makers}
 use Rattle.repost_worker.specs.LockedTurns.{IsStop, IsTurnAtStop, IsRefusedTurn}
 use Rattle.repost_worker.specs.Turns.{IsTurnTo, publications}
@@ -61,8 +66,18 @@ no_fault-done (x ∷ xs) old new done = no_fault-done xs done.0 new done.2 ∙ d
 pub never_falls : (r : Result Turned KeepFault) (old new : KeeperState) → IfOk r (λ turned. AreDone (publications turned) old new)
     → IfErr r (λ fault. IsRefused fault old new) → old.faults ≤ new.faults
 never_falls (Ok turned) old new done refused = omega (arith, no_fault-done (publications turned) old new done)
-never_falls (Err Failed) old new done refused = refused.never_falls
-never_falls (Err NoMemory) old new done refused = refused
+never_falls (Err fault) old new done refused = never_falls-refused fault old new refused
+
+-- the keeper was called for each event that the turn added
+pub follows-turn : (start : Start) (r : Result Turned KeepFault) (old new : BookState) (build next : Build) → Follows start old
+    → IfOk r (λ turned. IsTurnTo old.history build turned new.history next) → OnErr r (new.history ≡ old.history)
+    → IfOk r (λ turned. AreDone (publications turned) old.keeper new.keeper) → IfErr r (λ fault. IsRefused fault old.keeper new.keeper)
+    → Follows start new
+follows-turn start (Ok turned) old new build next before turn stays done refused =
+    follows-on start old new (publications turned) before (turn-grows old.history new.history build next turned turn)
+    (called-done (publications turned) old.keeper new.keeper done)
+follows-turn start (Err fault) old new build next before turn stays done refused =
+    follows-on start old new [] before (stays ∙ sym (append-nil old.history)) (called-refused fault old.keeper new.keeper refused)
 
 -- what the lock handed out: all that the pass had seen and more, and none of that is of pass 0
 pub record IsHanded (pass : View Deed) (history : List Deed) : Type 0 where

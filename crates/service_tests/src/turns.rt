@@ -1,5 +1,5 @@
 //! Threads that take turns at a small value in memory.
-ghost use Rattle.std.specs.Prelude.{◌≡◌, ◌+◌, ◌<◌, [], All};
+ghost use Rattle.std.specs.Prelude.{◌≡◌, ◌+◌, ◌<◌, [], All, None, ⊤};
 ghost use Rattle.turn_lock.specs.Histories.{BeginsWith, past};
 
 use std::sync::Wait;
@@ -22,6 +22,13 @@ impl Logged for Notes {
     ghost history = { λ notes. notes.events.items };
 
     ghost faults = { λ _. 0 };
+
+    // Nothing is told of calls.
+    ghost start = { λ _. record { plan = None; calls = 0; events = 0 } };
+
+    ghost follows = { λ _ _. ⊤ };
+
+    ghost starts = { λ _. tt };
 }
 
 impl Notes {

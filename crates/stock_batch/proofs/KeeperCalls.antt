@@ -1,5 +1,5 @@
 -- Which calls of the keeper an answer tells.
-use Rattle.std.proofs.Common.{◌≡◌, ℕ, ◌≤◌, List, [], ◌∷◌, ◌++◌, Option, None, Some, Result, Ok, Err, IfOk, IfSome, OnErr, refl, sym, ◌∙◌, subst, append-nil, arith}
+use Rattle.std.proofs.Common.{◌≡◌, ℕ, ◌≤◌, List, [], ◌∷◌, ◌++◌, Option, None, Some, Result, Ok, Err, IfOk, IfSome, OnErr, inl, refl, sym, ◌∙◌, subst, append-nil, arith}
 use Rattle.stock_nums.specs.declared.memory.NoMemory as memory
 use Rattle.stock_nums.specs.declared.numbers.RecordNo.{RecordNo}
 use Rattle.stock_model.specs.declared.answers.Answer.{Answer}
@@ -12,14 +12,14 @@ use Rattle.stock_model.specs.declared.replies.Reply.{Reply}
 use Rattle.stock_model.specs.declared.replies.Reply.TheVariants.{Accepted, Worked, Settled, StoreFailed}
 use Rattle.stock_model.specs.declared.requests.Request.TheVariants.{Work, Settle}
 use Rattle.stock_model.specs.PostReplies.{refusal}
-use Rattle.stock_keeper.specs.Calls.{KeeperState, IsDone}
+use Rattle.stock_keeper.proofs.Calls.{wanting-failed}
+use Rattle.stock_keeper.specs.Calls.{KeeperState, IsDone, IsRefused}
 use Rattle.stock_keeper.specs.declared.fault.KeepFault.{KeepFault}
 use Rattle.stock_keeper.specs.declared.fault.KeepFault.TheVariants as keep_fault
 use Rattle.generation_book.specs.Refusals.{IsAfterRefusal}
 use Rattle.repost_worker.specs.Paces.{Pace, IsInPace, WorksInPace, StopsInPace}
 use Rattle.repost_worker.specs.Published.{Publishes}
 use Rattle.book_answers.specs.Answers.{HasText}
-use Rattle.book_answers.proofs.KeeperFaults.{never_falls-refused}
 use Rattle.stock_batch.specs.Paces.{KeepsPace, IsLastCall, CallsKeeper, IsStopped, IsAfterTurns}
 
 -- none was made
@@ -29,8 +29,7 @@ calls-none old answer last =
 
 pub stopped-none : (old : Pace) → IsStopped old old
 stopped-none old =
-    let same : old.keeper.faults ≤ old.keeper.faults = omega arith in
-    record { more = []; publications = tt; grows = sym (append-nil old.history); between = old.keeper; done = refl; last = same }
+    record { more = []; publications = tt; grows = sym (append-nil old.history); between = old.keeper; done = refl; last = inl refl }
 
 -- one was made for a record that was accepted
 pub calls-accepted : (old new : Pace) (item : Record) (n : RecordNo) → new.history ≡ old.history ++ Kept item ∷ []
@@ -72,6 +71,24 @@ calls-refused (Ok answer) old new journal f same after is told =
           (last-refused journal f old.keeper new.keeper after (subst HasText is told));
     }
 
+-- where memory was wanting for the answer too, it was refused for that
+wanting-refused : (f : PostFault) (old new : KeeperState) → IsAfterRefusal f old new → IsRefused keep_fault.NoMemory old new
+wanting-refused CodeTaken old new after = inl after
+wanting-refused CodeShape old new after = inl after
+wanting-refused AccountRange old new after = inl after
+wanting-refused (UnknownItem n) old new after = inl after
+wanting-refused (UnknownStore n) old new after = inl after
+wanting-refused (SameStore n) old new after = inl after
+wanting-refused (UnknownTarget n) old new after = inl after
+wanting-refused (LinkLater n) old new after = inl after
+wanting-refused (RepeatedTarget n) old new after = inl after
+wanting-refused (OverReturn n asked left) old new after = inl after
+wanting-refused NoBasis old new after = inl after
+wanting-refused (Full held entries) old new after = inl after
+wanting-refused (Short place item store lacking) old new after = inl after
+wanting-refused KeeperFailed old new after = wanting-failed old new after
+wanting-refused NoMemory old new after = after
+
 pub stopped-refused : (r : Result Answer memory.NoMemory) (old new : Pace) (f : PostFault) → new.history ≡ old.history
     → IsAfterRefusal f old.keeper new.keeper → OnErr r (IsStopped old new)
 stopped-refused (Ok answer) old new f same after = tt
@@ -82,7 +99,7 @@ stopped-refused (Err e) old new f same after =
       grows = same ∙ sym (append-nil old.history);
       between = old.keeper;
       done = refl;
-      last = never_falls-refused f old.keeper new.keeper after;
+      last = wanting-refused f old.keeper new.keeper after;
     }
 
 -- turns make one for each publication, and perhaps one that failed

@@ -1,6 +1,6 @@
 -- What contracts see of a keeper beside its tables: its faults, and where it tells a plan, which of its calls fail and how many
 -- there were. And what calls make of that.
-use Rattle.std.specs.Prelude.{◌≡◌, ℕ, List, [], ◌∷◌, Option, Some, IfSome, OnSome, Contains}
+use Rattle.std.specs.Prelude.{◌≡◌, ◌⊎◌, ℕ, ◌+◌, ◌-◌, ◌^◌, ◌≤◌, min, List, [], ◌∷◌, Option, Some, IfSome, OnSome, Contains}
 use Rattle.stock_io.specs.Counts.{Rose, NeverFalls, raised}
 use Rattle.stock_keeper.specs.declared.fault.KeepFault.{KeepFault}
 use Rattle.stock_keeper.specs.declared.fault.KeepFault.TheVariants.{Failed, NoMemory}
@@ -35,15 +35,21 @@ pub record IsFailed (old new : KeeperState) : Type 0 where
   pub planned : IsPlanned old
   pub count : IsCounted old new
 
--- one call was made, which was refused so
+-- one call was made, which was refused so; for want of memory none may have been made, and then all is as it was
 abbrev pub IsRefused : KeepFault → KeeperState → KeeperState → Type 0
 IsRefused Failed old new = IsFailed old new
-IsRefused NoMemory old new = NeverFalls old.faults new.faults
+IsRefused NoMemory old new = (new ≡ old) ⊎ (NeverFalls old.faults new.faults × IsCounted old new)
 
 -- one call was made for each of these, and all did what they were asked for
 abbrev pub AreDone : {T : Type 0} → List T → KeeperState → KeeperState → Type 0
 AreDone [] old new = new ≡ old
 AreDone (x ∷ xs) old new = (mid : KeeperState) × IsDone old mid × AreDone xs mid new
+
+-- A keeper that told this plan and so many calls has that plan still, and where it is told, so many more calls were counted at
+-- least.
+pub record HasCalled (more : ℕ) (plan : Option (List ℕ)) (calls : ℕ) (new : KeeperState) : Type 0 where
+  pub plan_kept : new.plan ≡ plan
+  pub counted : OnSome plan (min (calls + more) (2 ^ 64 - 1) ≤ new.calls)
 
 -- a keeper that never fails, before its first call
 abbrev pub first_state : KeeperState

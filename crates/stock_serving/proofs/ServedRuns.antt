@@ -17,6 +17,7 @@ use Rattle.stock_ends.specs.declared.damage.Damage.{Damage}
 use Rattle.stock_ends.specs.declared.end.End.{End}
 use Rattle.stock_ends.specs.declared.end.End.TheVariants.{Done, NoMemory, ReadFailed, WriteFailed, TooLong, StoreFailed, ListenFailed, Damaged}
 use Rattle.stock_ends.proofs.Openings.{opened-as, opened-plan, unopened}
+use Rattle.stock_serving.proofs.Later.{failed-later}
 
 module _ {P O : Type 0} (written : O → Option (List ℕ)) (write_faults : O → ℕ) (serves : ℕ → ℕ → ℕ → List Deed → List Deed → P → P → Type 0)
     (is_fresh : P → Type 0) (desks : ℕ) (first last : Pace) (old new : Heard P) (before after : O) where
@@ -91,12 +92,12 @@ module _ {H Kt L P O : Type 0} (kept_tells : Kt → Tables → Type 0) (k_faults
   served-begun summary end same planned uncalled back plans counted begun wrote is unwritten =
       let told = told-by written write_faults serves is_fresh desks begun.first begun.last (hears listener) (hears listener') output output'
       summary end begun.done wrote is unwritten in
+      let opened = opened-as kept_tells keeper (tells shelf) (plan shelf) (k_plan keeper) (k_faults keeper) (k_calls keeper) begun.first same
+      planned uncalled begun.tables begun.legal begun.order begun.at_rest begun.begun in
       record {
         first = begun.first;
         last = begun.last;
-        opened =
-            opened-as kept_tells keeper (tells shelf) (plan shelf) (k_plan keeper) (k_faults keeper) (k_calls keeper) begun.first same planned
-            uncalled begun.tables begun.legal begun.order begun.at_rest begun.begun;
+        opened = opened;
         put_back = record {
           tables = λ t told. begun.kept t (back t told);
           plan_is = opened-plan (plan shelf') (k_plan keeper') begun.last.keeper.plan plans (sym begun.plan_is);
@@ -104,6 +105,9 @@ module _ {H Kt L P O : Type 0} (kept_tells : Kt → Tables → Type 0) (k_faults
         };
         served = told.0;
         legal = leaves-legal serves is_fresh desks begun.first begun.last (hears listener) (hears listener') begun.legal summary begun.done;
+        failed = λ stored.
+            let run = subst (λ (e : End). ServesTo serves is_fresh desks e begun.first begun.last (hears listener) (hears listener')) stored told.0 in
+            failed-later (plan shelf) begun.first run.served begun.last opened.plan_is opened.calls run.calls run.then.0 run.legal;
         told = told.1;
       }
 

@@ -13,7 +13,7 @@ use Rattle.repost_worker.specs.Paces.{Pace}
 use Rattle.desk_service.specs.Listening.{Heard}
 use Rattle.desk_service.specs.Service.{IsService}
 use Rattle.stock_ends.specs.Openings.{end_of_refusal}
-use Rattle.stock_serving.specs.Serving.{Settles, IsRefusedFor, IsUnsettledFor, IsCutShort, Leaves, LeavesKept, IsBegun}
+use Rattle.stock_serving.specs.Serving.{Settles, IsRefusedFor, IsUnsettledFor, CallsEach, IsCutShort, Leaves, LeavesKept, IsBegun}
 use Rattle.stock_ends.specs.declared.end.End.{End}
 use Rattle.stock_ends.specs.declared.end.End.TheVariants.{Done, NoMemory, ReadFailed, WriteFailed, TooLong, StoreFailed, ListenFailed, Damaged}
 
@@ -45,60 +45,62 @@ module _ {P : Type 0} (serves : ℕ → ℕ → ℕ → List Deed → List Deed 
 
   -- fewer came, as the listener failed
   service-few : (came : ℕ) (first last : Pace) (old new : Heard P)
-      → IsService serves is_fresh desks came first.history last.history first.keeper.faults last.keeper.faults old new → came < desks
+      → IsService serves is_fresh desks came first.history last.history first.keeper.faults last.keeper.faults old new → CallsEach first last → came < desks
       → IsCutShort serves is_fresh desks first last old new
-  service-few came first last old new service few =
+  service-few came first last old new service calls few =
       record {
         came = came;
         few = few;
         service = service;
+        calls = calls;
         cause = subst (Rose old.faults) (sym service.hung_up.faults) (service.came.cause (omega (arith, few, service.count)));
       }
 
   -- all came, and what they had left of the ledger was settled, or that was refused
   leaves-settled : (summary : Result (String Global) End) (first served last : Pace) (old new : Heard P)
-      → IsService serves is_fresh desks desks first.history served.history first.keeper.faults served.keeper.faults old new → Settles summary served last
-      → IsLegal last.history → Leaves serves is_fresh desks summary first last old new
-  leaves-settled (Ok text) first served last old new service settles legal =
-      (record { served = served; service = service; then = settles.0; legal = legal }, settles.1)
-  leaves-settled (Err NoMemory) first served last old new service settles legal =
-      inr (record { served = served; service = service; then = settles; legal = legal })
-  leaves-settled (Err StoreFailed) first served last old new service settles legal =
-      record { served = served; service = service; then = settles; legal = legal }
-  leaves-settled (Err Done) first served last old new service settles legal = absurd settles
-  leaves-settled (Err ReadFailed) first served last old new service settles legal = absurd settles
-  leaves-settled (Err WriteFailed) first served last old new service settles legal = absurd settles
-  leaves-settled (Err TooLong) first served last old new service settles legal = absurd settles
-  leaves-settled (Err ListenFailed) first served last old new service settles legal = absurd settles
-  leaves-settled (Err (Damaged damage)) first served last old new service settles legal = absurd settles
+      → IsService serves is_fresh desks desks first.history served.history first.keeper.faults served.keeper.faults old new → CallsEach first served
+      → Settles summary served last → IsLegal last.history → Leaves serves is_fresh desks summary first last old new
+  leaves-settled (Ok text) first served last old new service calls settles legal =
+      (record { served = served; service = service; calls = calls; then = settles.0; legal = legal }, settles.1)
+  leaves-settled (Err NoMemory) first served last old new service calls settles legal =
+      inr (record { served = served; service = service; calls = calls; then = settles; legal = legal })
+  leaves-settled (Err StoreFailed) first served last old new service calls settles legal =
+      record { served = served; service = service; calls = calls; then = settles; legal = legal }
+  leaves-settled (Err Done) first served last old new service calls settles legal = absurd settles
+  leaves-settled (Err ReadFailed) first served last old new service calls settles legal = absurd settles
+  leaves-settled (Err WriteFailed) first served last old new service calls settles legal = absurd settles
+  leaves-settled (Err TooLong) first served last old new service calls settles legal = absurd settles
+  leaves-settled (Err ListenFailed) first served last old new service calls settles legal = absurd settles
+  leaves-settled (Err (Damaged damage)) first served last old new service calls settles legal = absurd settles
 
   leaves-few : (summary : Result (String Global) End) (came : ℕ) (first served last : Pace) (old new : Heard P)
-      → IsService serves is_fresh desks came first.history served.history first.keeper.faults served.keeper.faults old new → came < desks
+      → IsService serves is_fresh desks came first.history served.history first.keeper.faults served.keeper.faults old new → CallsEach first served → came < desks
       → (summary ≡ Err ListenFailed) × (last ≡ served) → Leaves serves is_fresh desks summary first last old new
-  leaves-few summary came first served last old new service few ended =
+  leaves-few summary came first served last old new service calls few ended =
       subst (λ (s : Result (String Global) End). Leaves serves is_fresh desks s first last old new) (sym ended.0)
       (subst (λ (p : Pace). Leaves serves is_fresh desks (Err ListenFailed) first p old new) (sym ended.1)
-      (inr (service-few came first served old new service few)))
+      (inr (service-few came first served old new service calls few)))
 
   pub leaves : (summary : Result (String Global) End) (came : ℕ) (first served last : Pace) (old new : Heard P)
-      → IsService serves is_fresh desks came first.history served.history first.keeper.faults served.keeper.faults old new
+      → IsService serves is_fresh desks came first.history served.history first.keeper.faults served.keeper.faults old new → CallsEach first served
       → (came < desks → (summary ≡ Err ListenFailed) × (last ≡ served)) → (desks ≤ came → Settles summary served last)
       → (IsLegal served.history → IsLegal last.history) → Leaves serves is_fresh desks summary first last old new
-  leaves summary came first served last old new service few all legal = elim (cases_lt came desks) [
-    | inl short ↦ leaves-few summary came first served last old new service short (few short)
+  leaves summary came first served last old new service calls few all legal = elim (cases_lt came desks) [
+    | inl short ↦ leaves-few summary came first served last old new service calls short (few short)
     | inr enough ↦ leaves-settled summary first served last old new
-        (service-all came first.history served.history first.keeper.faults served.keeper.faults old new service enough) (all enough) (legal service.legal)
+        (service-all came first.history served.history first.keeper.faults served.keeper.faults old new service enough) calls (all enough) (legal service.legal)
   ]
 
   -- the same from equal states of the book and what is heard
   pub leaves-of : (summary : Result (String Global) End) (came : ℕ) (before first served last : Pace) (old new heard : Heard P)
       → before ≡ first → heard ≡ new → IsService serves is_fresh desks came before.history served.history before.keeper.faults served.keeper.faults old new
-      → (came < desks → (summary ≡ Err ListenFailed) × (last ≡ served)) → (desks ≤ came → Settles summary served last)
+      → CallsEach before served → (came < desks → (summary ≡ Err ListenFailed) × (last ≡ served)) → (desks ≤ came → Settles summary served last)
       → (IsLegal served.history → IsLegal last.history) → Leaves serves is_fresh desks summary first last old heard
-  leaves-of summary came before first served last old new heard same_book same_heard service few all legal =
+  leaves-of summary came before first served last old new heard same_book same_heard service calls few all legal =
       subst (λ (h : Heard P). Leaves serves is_fresh desks summary first last old h) (sym same_heard)
       (leaves summary came first served last old new
-      (subst (λ (p : Pace). IsService serves is_fresh desks came p.history served.history p.keeper.faults served.keeper.faults old new) same_book service) few all legal)
+      (subst (λ (p : Pace). IsService serves is_fresh desks came p.history served.history p.keeper.faults served.keeper.faults old new) same_book service)
+      (subst (λ (p : Pace). CallsEach p served) same_book calls) few all legal)
 
   pub leaves-heard : (summary : Result (String Global) End) (first last : Pace) (old mid new : Heard P) → mid ≡ old
       → Leaves serves is_fresh desks summary first last mid new → Leaves serves is_fresh desks summary first last old new

@@ -1,12 +1,12 @@
 -- A service of desks over the ledger that a shelf has at a path: how far it comes by its end, and what it writes.
-use Rattle.std.specs.Prelude.{ℕ, ◌≡◌, ◌⊎◌, ◌<◌, Option, Some, None, Result, Ok, Err, List, ◌++◌, codes, decimal, String, string_bytes}
+use Rattle.std.specs.Prelude.{ℕ, ◌≡◌, ◌⊎◌, ◌+◌, ◌-◌, ◌<◌, ◌≤◌, Option, Some, None, IfSome, Contains, length, Result, Ok, Err, List, ◌++◌, codes, decimal, String, string_bytes}
 use Rattle.std.specs.declared.alloc.Global.{Global}
 use Rattle.std.specs.Io.KnownBytes.{Appends}
 use Rattle.stock_io.specs.Counts.{Rose}
 use Rattle.stock_io.specs.Streams.{AppendsFront}
 use Rattle.stock_model.specs.History.{records, accepted, covered, IsLegal}
 use Rattle.stock_model.specs.declared.deeds.Deed.{Deed}
-use Rattle.stock_keeper.specs.Calls.{IsDone}
+use Rattle.stock_keeper.specs.Calls.{IsDone, HasCalled}
 use Rattle.stock_keeper.specs.Keeping.{Within}
 use Rattle.stock_keeper.specs.declared.fault.KeepFault.{KeepFault}
 use Rattle.stock_keeper.specs.declared.fault.KeepFault.TheVariants as keep
@@ -46,6 +46,15 @@ abbrev pub Settles : Result (String Global) End → Pace → Pace → Type 0
 Settles (Ok text) served last = IsSettled served last × (string_bytes text ≡ summary_text last.history)
 Settles (Err end) served last = IsUnsettledFor end served last
 
+-- no event was lost, the plan of the keeper's failures stays, and where it is told, there was a call for each event since at least
+pub record CallsEach (first last : Pace) : Type 0 where
+  pub longer : length first.history ≤ length last.history
+  pub called : HasCalled (length last.history - length first.history) first.keeper.plan first.keeper.calls last.keeper
+
+-- where a plan is told, a call fails that comes after the one of the opening and one for each of so many events
+abbrev pub HasLater : Option (List ℕ) → ℕ → Type 0
+HasLater plan events = IfSome plan (λ numbers. (n : ℕ) × Contains numbers n × (2 + events ≤ n))
+
 -- nobody was accepted, and the ledger is as it was
 pub record IsUnserved {P : Type 0} (first last : Pace) (old new : Heard P) : Type 0 where
   pub nothing_heard : new ≡ old
@@ -63,6 +72,7 @@ module _ {P : Type 0} (serves : ℕ → ℕ → ℕ → List Deed → List Deed 
     pub came : ℕ
     pub few : came < desks
     pub service : IsService serves is_fresh desks came first.history last.history first.keeper.faults last.keeper.faults old new
+    pub calls : CallsEach first last
     pub cause : Rose old.faults new.faults
 
   -- as many peers came as were wanted. Once all were served this was done with what they had left of the ledger, and its history is
@@ -70,6 +80,7 @@ module _ {P : Type 0} (serves : ℕ → ℕ → ℕ → List Deed → List Deed 
   pub record IsServedThen (settles : Pace → Pace → Type 0) (first last : Pace) (old new : Heard P) : Type 0 where
     pub served : Pace
     pub service : IsService serves is_fresh desks desks first.history served.history first.keeper.faults served.keeper.faults old new
+    pub calls : CallsEach first served
     pub then : settles served last
     pub legal : IsLegal last.history
 
@@ -153,6 +164,7 @@ module _ {H Kt L P O : Type 0} (kept_tells : Kt → Tables → Type 0) (tells : 
     pub put_back : IsPutBack (tells shelf_after) (plan shelf_after) (kept_faults shelf_after) last
     pub served : ServesTo serves is_fresh desks end first last (hears listener_before) (hears listener_after)
     pub legal : IsLegal last.history
+    pub failed : end ≡ StoreFailed → HasLater (plan shelf_before) (length last.history - length first.history)
     pub told : Tells written write_faults end (summary_text last.history) output_before output_after
 
   -- that, or it was not opened, and neither the listener nor the output was used

@@ -7,6 +7,7 @@ use mathlib.Core.Logic.{dite}
 use native.Mathlib.Decide.{ℕ_discrete, dec_le}
 use lib.ListN.{get_elem?}
 use Rattle.atomic_table.specs.Table.{State, Final, Seen}
+use Rattle.turn_lock.specs.declared.view.Start.{Start}
 use Rattle.turn_lock.specs.declared.view.View.{View}
 use Rattle.turn_lock.specs.declared.view.Turn.TheVariants.{Rest}
 use Rattle.turn_lock.specs.Histories.{BeginsWith, past, made_by}
@@ -14,7 +15,7 @@ use Rattle.turn_lock.specs.Views.{IsServed, all_faults, made_through}
 use Rattle.turn_lock.specs.Rule.{TakesTurns}
 use Rattle.turn_lock.proofs.Lists.{at_one, at_some, sum_of_one, sum_of_two}
 
-module _ {B E : Type 0} (history : B → List (ℕ × E)) (faults : B → ℕ) (about : B) where
+module _ {B E : Type 0} (history : B → List (ℕ × E)) (faults : B → ℕ) (start : B → Start) (follows : Start → B → Type 0) (about : B) where
   -- the value that pass 0 is handed when it is the last
   pub record IsLast (v : View E) (b : B) : Type 0 where
     pub seen : history b ≡ v.seen
@@ -22,8 +23,9 @@ module _ {B E : Type 0} (history : B → List (ℕ × E)) (faults : B → ℕ) (
     pub begins : BeginsWith v.seen v.first
     pub made : (k : ℕ) → made_by k (past v.first v.seen) ≡ made_through k v
     pub rose : v.first_faults + all_faults v ≡ v.seen_faults
+    pub followed : follows v.start b
 
-  closes_at : (s : State (Option B) (View E)) (r : TakesTurns history faults about s) (v : View E) → get_elem? s.views 0 ≡ some v → 0 < v.passes → v.turn ≡ Rest → length v.joined ≡ v.split
+  closes_at : (s : State (Option B) (View E)) (r : TakesTurns history faults start follows about s) (v : View E) → get_elem? s.views 0 ≡ some v → 0 < v.passes → v.turn ≡ Rest → length v.joined ≡ v.split
       → (b : B) × (get_elem? s.homes 0 ≡ some (some (Some b))) × IsLast v b
   closes_at s r v at lives rests all_joined =
       let f = r.fits 0 v at lives in
@@ -52,11 +54,12 @@ module _ {B E : Type 0} (history : B → List (ℕ × E)) (faults : B → ℕ) (
               (λ le. ap (made_by k) (λ i. past (f.began i) (last.0 i)) ∙ r.none_unmade k le ∙ sym (q.keeps_others k le))
               (λ lt. let u = at_some s.views k (omega arith) in (q.keeps_made k u.0 u.1 (spent_else k u.0 ne u.1)).0)));
           rose = let d = f.began_faults in let e = r.all_faults_are in let c = last.1 in omega arith;
+          followed = subst (λ (z : Start). follows z b) (sym f.began_start) book.4;
         },
       )
 
   pub closes : (id : ℕ) (v : View E) (words : List ℕ) (slots : List (Option B)) → v.number ≡ 0 → 0 < v.passes → v.turn ≡ Rest → length v.joined ≡ v.split
-      → Final (Seen (TakesTurns history faults about) id v) words slots → (b : B) × (get_elem? slots 0 ≡ some (Some b)) × IsLast v b
+      → Final (Seen (TakesTurns history faults start follows about) id v) words slots → (b : B) × (get_elem? slots 0 ≡ some (Some b)) × IsLast v b
   closes id v words slots is_zero lives rests all_joined final =
       let s = final.0 in let r = final.1.0 in let at = final.1.1 in
       let e : id ≡ 0 = sym (r.fits id v at lives).numbered ∙ is_zero in
@@ -72,18 +75,20 @@ pub some_value : {B : Type 0} (b : B) (slots : List (Option B)) (found : Option 
 some_value b slots found e f is = let same : Some b ≡ None = some-injective (Some b) found (sym e ∙ f) ∙ is in cc
 
 -- what is said of a closed lock, of the pass and of the value as contracts see them
-pub record IsClosed {B E : Type 0} (history : B → List (ℕ × E)) (faults : B → ℕ) (v : View E) (b : B) : Type 0 where
+pub record IsClosed {B E : Type 0} (history : B → List (ℕ × E)) (faults : B → ℕ) (follows : Start → B → Type 0) (v : View E) (b : B) : Type 0 where
   pub seen : history b ≡ v.seen
   pub counted : faults b ≡ v.seen_faults
   pub begins : BeginsWith (history b) v.first
   pub made : (k : ℕ) → made_by k (past v.first (history b)) ≡ made_through k v
   pub rose : v.first_faults + all_faults v ≡ faults b
+  pub followed : follows v.start b
 
-pub closed : {B E : Type 0} (history : B → List (ℕ × E)) (faults : B → ℕ) (about : B) (v w : View E) (b c : B) → v ≡ w → b ≡ c → IsLast history faults about v b → IsClosed history faults w c
-closed {B} {E} history faults about v w b c same_view same last = subst (λ (x : View E × B). IsClosed history faults x.0 x.1) (λ i. (same_view i, same i)) record {
+pub closed : {B E : Type 0} (history : B → List (ℕ × E)) (faults : B → ℕ) (start : B → Start) (follows : Start → B → Type 0) (about : B) (v w : View E) (b c : B) → v ≡ w → b ≡ c → IsLast history faults start follows about v b → IsClosed history faults follows w c
+closed {B} {E} history faults start follows about v w b c same_view same last = subst (λ (x : View E × B). IsClosed history faults follows x.0 x.1) (λ i. (same_view i, same i)) record {
   seen = last.seen;
   counted = last.counted;
   begins = subst (λ (z : List (ℕ × E)). BeginsWith z v.first) (sym last.seen) last.begins;
   made = λ k. ap (λ (z : List (ℕ × E)). made_by k (past v.first z)) last.seen ∙ last.made k;
   rose = last.rose ∙ sym last.counted;
+  followed = last.followed;
 }

@@ -6,6 +6,7 @@ use mathlib.Core.Option as maybe
 use lib.ListN.{get_elem?}
 use Rattle.atomic_table.specs.Table.{State}
 use Rattle.atomic_table.proofs.Lists.{set_here}
+use Rattle.turn_lock.specs.declared.view.Start.{Start}
 use Rattle.turn_lock.specs.declared.view.View.{View}
 use Rattle.turn_lock.specs.declared.view.Joined.{Joined}
 use Rattle.turn_lock.specs.declared.view.Turn.{Turn}
@@ -23,13 +24,13 @@ module _ {E : Type 0} where
   in_turn_raised log log' count count' ticket serving (Drawn t) other h = let ne : t ≢ serving = other in (omega arith, h.1)
   in_turn_raised log log' count count' ticket serving (Served t l c) other h = absurd (other h.0)
 
-module _ {B E : Type 0} (history : B → List (ℕ × E)) (faults : B → ℕ) (about : B) where
-  pub with_give : (s : State (Option B) (View E)) (r : TakesTurns history faults about s) (id : ℕ) (v : View E) (b : B) (more : List (ℕ × E)) (stop rise : ℕ) (words' : List ℕ) (homes' : List (maybe.Option (Option B)))
+module _ {B E : Type 0} (history : B → List (ℕ × E)) (faults : B → ℕ) (start : B → Start) (follows : Start → B → Type 0) (about : B) where
+  pub with_give : (s : State (Option B) (View E)) (r : TakesTurns history faults start follows about s) (id : ℕ) (v : View E) (b : B) (more : List (ℕ × E)) (stop rise : ℕ) (words' : List ℕ) (homes' : List (maybe.Option (Option B)))
       → get_elem? s.views id ≡ some v → 0 < v.passes → HasTicket v.turn r.serving → tickets v.turn ≡ 1
       → words' ≡ r.ticket ∷ (r.serving + 1) ∷ [] → homes' ≡ some (Some b) ∷ []
-      → BeginsWith (history b) r.log → more ≡ past r.log (history b) → made_by id more ≡ more → rise + r.count ≡ faults b
-      → TakesTurns history faults about record { words = words'; homes = homes'; views = set s.views id (record v { seen = history b; seen_faults = faults b; made = v.made ++ more; stops = v.stops ++ stop ∷ []; faults = v.faults + rise; turn = Rest }) }
-  with_give s r id v b more stop rise words' homes' at lives has one words slot grown is_more own_more rises =
+      → BeginsWith (history b) r.log → more ≡ past r.log (history b) → made_by id more ≡ more → rise + r.count ≡ faults b → follows (start about) b
+      → TakesTurns history faults start follows about record { words = words'; homes = homes'; views = set s.views id (record v { seen = history b; seen_faults = faults b; made = v.made ++ more; stops = v.stops ++ stop ∷ []; faults = v.faults + rise; turn = Rest }) }
+  with_give s r id v b more stop rise words' homes' at lives has one words slot grown is_more own_more rises kept =
       let new : List (ℕ × E) = history b in
       let w : View E = record v { seen = new; seen_faults = faults b; made = v.made ++ more; stops = v.stops ++ stop ∷ []; faults = v.faults + rise; turn = Rest } in
       let first : List (ℕ × E) = history about in
@@ -51,11 +52,12 @@ module _ {B E : Type 0} (history : B → List (ℕ × E)) (faults : B → ℕ) (
         words = words;
         slot = slot;
         few = omega (arith, r.few);
-        fits = λ j u at' live. each_set (λ (k : ℕ) (x : View E). 0 < x.passes → FitsPass first (faults about) new (faults b) r.ticket (r.serving + 1) k x) s.views id w
+        fits = λ j u at' live. each_set (λ (k : ℕ) (x : View E). 0 < x.passes → FitsPass first (faults about) (start about) new (faults b) r.ticket (r.serving + 1) k x) s.views id w
             (λ _. record {
               numbered = f.numbered;
               began = f.began;
               began_faults = f.began_faults;
+              began_start = f.began_start;
               from_first = first_new;
               has_seen = begins_self new;
               no_more = omega arith;
@@ -71,6 +73,7 @@ module _ {B E : Type 0} (history : B → List (ℕ × E)) (faults : B → ℕ) (
               numbered = g.numbered;
               began = g.began;
               began_faults = g.began_faults;
+              began_start = g.began_start;
               from_first = g.from_first;
               has_seen = begins_through x.seen r.log new g.has_seen grown;
               no_more = omega (arith, g.no_more);
@@ -115,7 +118,7 @@ module _ {B E : Type 0} (history : B → List (ℕ × E)) (faults : B → ℕ) (
             (λ k y ne at'' a b less. let g = r.fits k y at'' b in let short = begins_no_longer new y.seen (begins_through y.seen r.log new g.has_seen grown) in absurd (omega arith))
             (λ k y ne at'' a b less. let g = r.fits k y at'' a in omega (arith, g.no_more)) (λ k l y z _ _ at1 at2 a b less. r.later k l y z at1 at2 a b less) i j u x at_i at_j;
         latest = (id, w, set_here s.views id w near, lives, refl, refl);
-        at_home = λ _. (b, refl, refl, refl);
+        at_home = λ _. (b, refl, refl, refl, kept);
         none_unmade = λ k le. none_in_two k first r.log new first_log grown (r.none_unmade k (omega arith)) (others k (λ e. omega arith));
         all_passes_are = let e = sum_set (λ (x : View E). x.passes) s.views id v w at in omega (arith, e, r.all_passes_are);
         all_turns_are = let e = sum_set all_turns s.views id v w at in omega (arith, e, r.all_turns_are);

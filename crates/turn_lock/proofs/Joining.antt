@@ -9,6 +9,7 @@ use native.Mathlib.Decide.{ℕ_discrete, dec_le}
 use lib.ListN.{get_elem?}
 use Rattle.atomic_table.specs.Table.{State, Joins}
 use Rattle.atomic_table.proofs.Lists.{set_here, set_else}
+use Rattle.turn_lock.specs.declared.view.Start.{Start}
 use Rattle.turn_lock.specs.declared.view.View.{View}
 use Rattle.turn_lock.specs.declared.view.Joined.{Joined}
 use Rattle.turn_lock.specs.declared.view.Turn.TheVariants.{Rest}
@@ -49,10 +50,10 @@ module _ {E : Type 0} where
   each_joined P views o both apart here gone other j u at = each_set P (set views 0 both) o spent gone
       (λ k x ne at'. each_set (λ (i : ℕ) (y : View E). i ≢ o → P i y) views 0 both (λ _. here) (λ i y ne' at2 not_o. other i y ne' not_o at2) k x at' ne) j u at
 
-module _ {B E : Type 0} (history : B → List (ℕ × E)) (faults : B → ℕ) (about : B) where
-  pub with_join : (s : State (Option B) (View E)) (r : TakesTurns history faults about s) (v w : View E) (o : ℕ) → get_elem? s.views 0 ≡ some v → get_elem? s.views o ≡ some w → o ≢ 0
+module _ {B E : Type 0} (history : B → List (ℕ × E)) (faults : B → ℕ) (start : B → Start) (follows : Start → B → Type 0) (about : B) where
+  pub with_join : (s : State (Option B) (View E)) (r : TakesTurns history faults start follows about s) (v w : View E) (o : ℕ) → get_elem? s.views 0 ≡ some v → get_elem? s.views o ≡ some w → o ≢ 0
       → 0 < v.passes → 0 < w.passes → v.turn ≡ Rest → w.turn ≡ Rest
-      → TakesTurns history faults about record { words = s.words; homes = s.homes; views = set (set s.views 0 (joined_view v w)) o spent }
+      → TakesTurns history faults start follows about record { words = s.words; homes = s.homes; views = set (set s.views 0 (joined_view v w)) o spent }
   with_join s r v w o at at_w apart lives lives_w rests rests_w =
       let both : View E = joined_view v w in
       let seen : List (ℕ × E) = longer_seen v w in
@@ -91,11 +92,12 @@ module _ {B E : Type 0} (history : B → List (ℕ × E)) (faults : B → ℕ) (
         words = r.words;
         slot = r.slot;
         few = omega (arith, r.few);
-        fits = λ j u at' live. each_joined (λ (k : ℕ) (x : View E). 0 < x.passes → FitsPass first (faults about) r.log r.count r.ticket r.serving k x) s.views o both apart
+        fits = λ j u at' live. each_joined (λ (k : ℕ) (x : View E). 0 < x.passes → FitsPass first (faults about) (start about) r.log r.count r.ticket r.serving k x) s.views o both apart
             (λ _. record {
               numbered = f.numbered;
               began = f.began;
               began_faults = f.began_faults;
+              began_start = f.began_start;
               from_first = begins_through first v.seen seen f.from_first longer.1;
               has_seen = longer.0;
               no_more = by_longer (λ _ k. k ≤ r.count) v w (λ _. g.no_more) (λ _. f.no_more) (λ _. omega (arith, f.no_more, g.no_more));
@@ -175,9 +177,9 @@ module _ {B E : Type 0} (history : B → List (ℕ × E)) (faults : B → ℕ) (
         all_faults_are = let e = sums all_faults in omega (arith, e, r.all_faults_are);
       }
 
-  pub joins : (id other : ℕ) (v w : View E) → v.number ≡ 0 → 0 < v.passes → 0 < w.passes → v.turn ≡ Rest → w.turn ≡ Rest → Joins (TakesTurns history faults about) id v other w (joined_view v w) spent
+  pub joins : (id other : ℕ) (v w : View E) → v.number ≡ 0 → 0 < v.passes → 0 < w.passes → v.turn ≡ Rest → w.turn ≡ Rest → Joins (TakesTurns history faults start follows about) id v other w (joined_view v w) spent
   joins id other v w is_zero lives lives_w rests rests_w s r at apart at_w = let f = r.fits id v at lives in let e : id ≡ 0 = sym f.numbered ∙ is_zero in
       let ne : other ≢ 0 = λ z. apart (z ∙ sym e) in
       let at_w' : get_elem? s.views other ≡ some w = sym (set_else s.views id other (joined_view v w) apart) ∙ at_w in
-      subst (λ (k : ℕ). TakesTurns history faults about record { words = s.words; homes = s.homes; views = set (set s.views k (joined_view v w)) other spent }) (sym e)
+      subst (λ (k : ℕ). TakesTurns history faults start follows about record { words = s.words; homes = s.homes; views = set (set s.views k (joined_view v w)) other spent }) (sym e)
       (with_join s r v w other (subst (λ (k : ℕ). get_elem? s.views k ≡ some v) e at) at_w' ne lives lives_w rests rests_w)

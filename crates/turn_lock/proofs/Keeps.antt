@@ -11,6 +11,7 @@ use lib.ListN.{get_elem?}
 use prog.Atomic.{either}
 use Rattle.atomic_table.specs.Table.{State, Me, step, Act, keeps, takes, gives, Valid, carried_after, put_back, stepped, Allows, rest}
 use Rattle.atomic_table.proofs.Lists.{set_here, set_else, set_again, exchanged}
+use Rattle.turn_lock.specs.declared.view.Start.{Start}
 use Rattle.turn_lock.specs.declared.view.View.{View}
 use Rattle.turn_lock.specs.declared.view.Joined.{Joined}
 use Rattle.turn_lock.specs.declared.view.Turn.{Turn}
@@ -59,54 +60,54 @@ module _ {E : Type 0} where
       let m = rw (eq-eqb j.number j.number refl) at (made j.number spent_there.0 spent_there.1 spent_there.2) in
       (both.0, both.1, m, counts.0, counts.1)
 
-module _ {B E : Type 0} (history : B → List (ℕ × E)) (faults : B → ℕ) (about : B) where
+module _ {B E : Type 0} (history : B → List (ℕ × E)) (faults : B → ℕ) (start : B → Start) (follows : Start → B → Type 0) (about : B) where
   abbrev pub Goes : State (Option B) (View E) → ℕ → ℕ → Me (Option B) (View E) → (ℕ → Me (Option B) (View E) → Type 0) → ℕ → Type 0
-  Goes s k id me then x = (w : View E) × (a : Act (Option B)) × Valid s.homes me.1 a × TakesTurns history faults about (stepped s k x id me.1 w a) × then (get_or s.words k 0) (w, carried_after me.1 a)
+  Goes s k id me then x = (w : View E) × (a : Act (Option B)) × Valid s.homes me.1 a × TakesTurns history faults start follows about (stepped s k x id me.1 w a) × then (get_or s.words k 0) (w, carried_after me.1 a)
 
   -- both words stay far below 2^64
-  pub below : (s : State (Option B) (View E)) (r : TakesTurns history faults about s) → r.ticket < 2 ^ 62
+  pub below : (s : State (Option B) (View E)) (r : TakesTurns history faults start follows about s) → r.ticket < 2 ^ 62
   below s r = let each = sums_within all_turns (λ (v : View E). tickets v.turn) (λ (v : View E). v.passes) s.views (λ i v at. dite (ℕ_discrete v.passes 0)
       (λ none. no_turns_spent v (r.joined_is_spent i v at none)) (λ some_passes. let f = r.fits i v at (omega arith) in omega (arith, f.few_turns, f.few_joined, f.counts))) in
       omega (arith, each, r.few, r.all_passes_are, r.all_turns_are, r.all_tickets_are)
 
   -- a pass with a ticket was not joined into another
-  lives_by_ticket : (s : State (Option B) (View E)) (r : TakesTurns history faults about s) (j : ℕ) (u : View E) (t : ℕ) → get_elem? s.views j ≡ some u → HasTicket u.turn t → 0 < u.passes
+  lives_by_ticket : (s : State (Option B) (View E)) (r : TakesTurns history faults start follows about s) (j : ℕ) (u : View E) (t : ℕ) → get_elem? s.views j ≡ some u → HasTicket u.turn t → 0 < u.passes
   lives_by_ticket s r j u t at has = dite (ℕ_discrete u.passes 0) (λ none. absurd (no_ticket_spent u (r.joined_is_spent j u at none) t has)) (λ ne. omega arith)
 
   -- a served pass has the ticket that is served
-  served_has : (s : State (Option B) (View E)) (r : TakesTurns history faults about s) (j : ℕ) (u : View E) → get_elem? s.views j ≡ some u → IsServed u.turn → HasTicket u.turn r.serving
+  served_has : (s : State (Option B) (View E)) (r : TakesTurns history faults start follows about s) (j : ℕ) (u : View E) → get_elem? s.views j ≡ some u → IsServed u.turn → HasTicket u.turn r.serving
   served_has s r j u at is = dite (ℕ_discrete u.passes 0) (λ none. absurd (none_served_spent u (r.joined_is_spent j u at none) is)) (λ ne. served_is r.log r.count r.ticket r.serving u.turn (r.fits j u at (omega arith)).in_turn is)
 
-  ticket_at : (s : State (Option B) (View E)) (r : TakesTurns history faults about s) → get_or s.words 0 0 ≡ r.ticket
+  ticket_at : (s : State (Option B) (View E)) (r : TakesTurns history faults start follows about s) → get_or s.words 0 0 ≡ r.ticket
   ticket_at s r = ap (λ (ws : List ℕ). get_or ws 0 0) r.words
 
-  serving_at : (s : State (Option B) (View E)) (r : TakesTurns history faults about s) → get_or s.words 1 0 ≡ r.serving
+  serving_at : (s : State (Option B) (View E)) (r : TakesTurns history faults start follows about s) → get_or s.words 1 0 ≡ r.serving
   serving_at s r = ap (λ (ws : List ℕ). get_or ws 1 0) r.words
 
   -- nothing changes
-  stays : (s : State (Option B) (View E)) (r : TakesTurns history faults about s) (k id : ℕ) (me : Me (Option B) (View E)) (then : ℕ → Me (Option B) (View E) → Type 0) → get_elem? s.views id ≡ some me.0 → then (get_or s.words k 0) me → Goes s k id me then (get_or s.words k 0)
+  stays : (s : State (Option B) (View E)) (r : TakesTurns history faults start follows about s) (k id : ℕ) (me : Me (Option B) (View E)) (then : ℕ → Me (Option B) (View E) → Type 0) → get_elem? s.views id ≡ some me.0 → then (get_or s.words k 0) me → Goes s k id me then (get_or s.words k 0)
   stays s r k id me then at told = (
     me.0,
     keeps,
     tt,
-    subst (λ (x : List ℕ × List (View E)). TakesTurns history faults about record { words = x.0; homes = s.homes; views = x.1 }) (λ i. (sym (set-get_or s.words k 0) i, sym (set_again s.views id me.0 at) i)) r,
+    subst (λ (x : List ℕ × List (View E)). TakesTurns history faults start follows about record { words = x.0; homes = s.homes; views = x.1 }) (λ i. (sym (set-get_or s.words k 0) i, sym (set_again s.views id me.0 at) i)) r,
     told,
   )
 
-  pub looks : (n id : ℕ) (me : Me (Option B) (View E)) → Allows (TakesTurns history faults about) n id me 0 (λ x. x) (looked history faults (step n 0 0 0 none) me)
-  looks n id me s r wide at _ = stays s r 0 id me (looked history faults (step n 0 0 0 none) me) at (refl, omega (arith, ticket_at s r, below s r))
+  pub looks : (n id : ℕ) (me : Me (Option B) (View E)) → Allows (TakesTurns history faults start follows about) n id me 0 (λ x. x) (looked history faults follows (step n 0 0 0 none) me)
+  looks n id me s r wide at _ = stays s r 0 id me (looked history faults follows (step n 0 0 0 none) me) at (refl, omega (arith, ticket_at s r, below s r))
 
   pub draws : (n id : ℕ) (me : Me (Option B) (View E)) (old new : ℕ) → new ≡ old + 1 → me.0.turn ≡ Rest → 0 < me.0.passes → length me.0.stops < 2 ^ 57
-      → Allows (TakesTurns history faults about) n id me 0 (λ x. either (eqb x old) new x) (drew history faults (step n 0 old new none) me)
+      → Allows (TakesTurns history faults start follows about) n id me 0 (λ x. either (eqb x old) new x) (drew history faults follows (step n 0 old new none) me)
   draws n id me old new next rests lives few s r wide at _ =
-      let then = drew history faults (step n 0 old new none) me in
+      let then = drew history faults follows (step n 0 old new none) me in
       exchanged (get_or s.words 0 0) old new (Goes s 0 id me then)
       (λ hit. let is : r.ticket ≡ old = sym (ticket_at s r) ∙ hit in let none_yet : tickets me.0.turn ≡ 0 = ap tickets rests in (
         drawn me.0 (get_or s.words 0 0),
         keeps,
         tt,
-        subst (λ (t : ℕ). TakesTurns history faults about record { words = set s.words 0 new; homes = s.homes; views = set s.views id (drawn me.0 t) }) (sym hit)
-            (with_turn history faults about s r id me.0 (Drawn old) new r.home (set s.words 0 new) s.homes at lives (ap (λ (ws : List ℕ). set ws 0 new) r.words) r.slot (omega arith) (omega arith) (omega arith)
+        subst (λ (t : ℕ). TakesTurns history faults start follows about record { words = set s.words 0 new; homes = s.homes; views = set s.views id (drawn me.0 t) }) (sym hit)
+            (with_turn history faults start follows about s r id me.0 (Drawn old) new r.home (set s.words 0 new) s.homes at lives (ap (λ (ws : List ℕ). set ws 0 new) r.words) r.slot (omega arith) (omega arith) (omega arith)
             (let h : r.serving ≤ old = omega (arith, r.all_tickets_are) in let l : old < new = omega arith in (h, l))
             (λ t has j u ne at_j other. let f = r.fits j u at_j (lives_by_ticket s r j u t at_j other) in let b = ticket_below r.log r.count r.ticket r.serving u.turn t f.in_turn other in let e : old ≡ t = has in absurd (omega arith))
             (λ not_served. r.at_home (λ j u at_j is_served. dite (ℕ_discrete j id)
@@ -117,9 +118,9 @@ module _ {B E : Type 0} (history : B → List (ℕ × E)) (faults : B → ℕ) (
       (λ miss. stays s r 0 id me then at ((λ hit. absurd (miss hit)), λ _. (refl, omega (arith, ticket_at s r, below s r))))
 
   pub comes : (n id : ℕ) (me : Me (Option B) (View E)) (t : ℕ) → me.0.turn ≡ Drawn t → 0 < me.0.passes
-      → Allows (TakesTurns history faults about) n id me 1 (λ x. x) (came history faults (step n 1 0 0 none) me)
+      → Allows (TakesTurns history faults start follows about) n id me 1 (λ x. x) (came history faults follows (step n 1 0 0 none) me)
   comes n id me t waits lives s r wide at _ =
-      let then = came history faults (step n 1 0 0 none) me in
+      let then = came history faults follows (step n 1 0 0 none) me in
       let x : ℕ = get_or s.words 1 0 in
       let f = r.fits id me.0 at lives in
       let has : HasTicket me.0.turn t = let P : Turn E → Type 0 = λ z. HasTicket z t in subst P (sym waits) refl in
@@ -136,7 +137,7 @@ module _ {B E : Type 0} (history : B → List (ℕ × E)) (faults : B → ℕ) (
         served me.0 x (history b) (faults b),
         takes 0 (Some b),
         ap (λ (hs : List (maybe.Option (Option B))). get_elem? hs 0) r.slot ∙ ap some book.1,
-        with_turn history faults about s r id me.0 (Served x (history b) (faults b)) r.ticket none (set s.words 1 x) (set s.homes 0 none) at lives
+        with_turn history faults start follows about s r id me.0 (Served x (history b) (faults b)) r.ticket none (set s.words 1 x) (set s.homes 0 none) at lives
             (set-get_or s.words 1 0 ∙ r.words) (ap (λ (hs : List (maybe.Option (Option B))). set hs 0 none) r.slot) (omega arith)
             (let one : tickets me.0.turn ≡ 1 = ap tickets waits in ap (λ (k : ℕ). r.ticket + k) one)
             (let one : tickets me.0.turn ≡ 1 = ap tickets waits in omega (arith, f.few_turns))
@@ -155,6 +156,7 @@ module _ {B E : Type 0} (history : B → List (ℕ × E)) (faults : B → ℕ) (
                   (made_in_first id me.0.first me.0.seen r.log first_seen f.has_seen f.none_past ∙ ap (λ (z : List (ℕ × E)). made_by id (past z me.0.seen)) f.began ∙ f.own));
               none_past = subst (λ (z : List (ℕ × E)). made_by me.0.number (past me.0.seen z) ≡ []) (sym book.2) (subst (λ (k : ℕ). made_by k (past me.0.seen r.log) ≡ []) (sym f.numbered) f.none_past);
             },
+            subst (λ (z : Start). follows z b) (sym f.began_start) book.4,
           )),
           λ miss. absurd (miss hit),
         ),
@@ -162,9 +164,9 @@ module _ {B E : Type 0} (history : B → List (ℕ × E)) (faults : B → ℕ) (
       (λ miss. stays s r 1 id me then at ((λ hit. absurd (miss hit)), λ _. refl))
 
   pub raises : (n id : ℕ) (me : Me (Option B) (View E)) (t count : ℕ) (taken : List (ℕ × E)) (b : B) → me.0.turn ≡ Served t taken count → 0 < me.0.passes → me.1 ≡ (0, Some b) ∷ []
-      → BeginsWith (history b) taken → made_by me.0.number (past taken (history b)) ≡ past taken (history b) → count ≤ faults b
-      → Allows (TakesTurns history faults about) n id me 1 (λ x. (x + 1) % 2 ^ 64) (raised history faults (step n 1 1 0 none) me)
-  raises n id me t count taken b turn lives holds_it grown own rose s r wide at _ =
+      → BeginsWith (history b) taken → made_by me.0.number (past taken (history b)) ≡ past taken (history b) → count ≤ faults b → follows me.0.start b
+      → Allows (TakesTurns history faults start follows about) n id me 1 (λ x. (x + 1) % 2 ^ 64) (raised history faults follows (step n 1 1 0 none) me)
+  raises n id me t count taken b turn lives holds_it grown own rose kept s r wide at _ =
       let f = r.fits id me.0 at lives in
       let stands = let P : Turn E → Type 0 = λ z. InTurn r.log r.count r.ticket r.serving z in subst P turn f.in_turn in
       let has : HasTicket me.0.turn r.serving = let P : Turn E → Type 0 = λ z. HasTicket z r.serving in subst P (sym turn) stands.0 in
@@ -176,13 +178,14 @@ module _ {B E : Type 0} (history : B → List (ℕ × E)) (faults : B → ℕ) (
         given me.0 (history b) (faults b),
         gives,
         tt,
-        with_give history faults about s r id me.0 b (past (taken_of me.0.turn) (history b)) (length (taken_of me.0.turn)) (faults b - taken_faults_of me.0.turn) (set s.words 1 ((x + 1) % 2 ^ 64)) (put_back s.homes me.1) at lives has (ap tickets turn)
+        with_give history faults start follows about s r id me.0 b (past (taken_of me.0.turn) (history b)) (length (taken_of me.0.turn)) (faults b - taken_faults_of me.0.turn) (set s.words 1 ((x + 1) % 2 ^ 64)) (put_back s.homes me.1) at lives has (ap tickets turn)
             ((λ i. set (r.words i) 1 (next i)))
             (ap (put_back s.homes) holds_it ∙ ap (λ (hs : List (maybe.Option (Option B))). set hs 0 (some (Some b))) r.slot)
             (subst (λ (z : List (ℕ × E)). BeginsWith (history b) z) stands.2 grown)
             (ap (λ (z : List (ℕ × E)). past z (history b)) took)
             (subst (λ (z : List (ℕ × E)). made_by id (past z (history b)) ≡ past z (history b)) (sym (ap taken_of turn)) (subst (λ (k : ℕ). made_by k (past taken (history b)) ≡ past taken (history b)) f.numbered own))
-            (let same : count ≡ r.count = stands.3 in let c : taken_faults_of me.0.turn ≡ r.count = counted in omega arith),
+            (let same : count ≡ r.count = stands.3 in let c : taken_faults_of me.0.turn ≡ r.count = counted in omega arith)
+            (subst (λ (z : Start). follows z b) f.began_start kept),
         (
           b,
           holds_it,
@@ -199,30 +202,31 @@ module _ {B E : Type 0} (history : B → List (ℕ × E)) (faults : B → ℕ) (
 
   -- the same, in the words of a hand
   pub gives_back : (n id : ℕ) (me : Me (Option B) (View E)) (b : B) → IsServed me.0.turn → 0 < me.0.passes → me.1 ≡ (0, Some b) ∷ []
-      → BeginsWith (history b) (taken_of me.0.turn) → All (λ (e : ℕ × E). e.0 ≡ me.0.number) (past (taken_of me.0.turn) (history b)) → taken_faults_of me.0.turn ≤ faults b
-      → Allows (TakesTurns history faults about) n id me 1 (λ x. (x + 1) % 2 ^ 64) (raised history faults (step n 1 1 0 none) me)
-  gives_back n id me b is lives holds_it grown own rose = raises n id me (ticket_of me.0.turn) (taken_faults_of me.0.turn) (taken_of me.0.turn) b (served_parts me.0.turn is) lives holds_it grown
-      (made_by_all me.0.number (past (taken_of me.0.turn) (history b)) own) rose
+      → BeginsWith (history b) (taken_of me.0.turn) → All (λ (e : ℕ × E). e.0 ≡ me.0.number) (past (taken_of me.0.turn) (history b)) → taken_faults_of me.0.turn ≤ faults b → follows me.0.start b
+      → Allows (TakesTurns history faults start follows about) n id me 1 (λ x. (x + 1) % 2 ^ 64) (raised history faults follows (step n 1 1 0 none) me)
+  gives_back n id me b is lives holds_it grown own rose kept = raises n id me (ticket_of me.0.turn) (taken_faults_of me.0.turn) (taken_of me.0.turn) b (served_parts me.0.turn is) lives holds_it grown
+      (made_by_all me.0.number (past (taken_of me.0.turn) (history b)) own) rose kept
 
   -- the same, after the value b went into the slot that the seat with the view v holds
-  pub hand_gives : (n id : ℕ) (me : Me (Option B) (View E)) (v : View E) (carried : List (ℕ × Option B)) (b held : B) (taken : List (ℕ × E)) (taken_faults number : ℕ)
-      → me ≡ (v, (0, Some b) ∷ rest carried) → carried ≡ (0, None) ∷ [] → IsServed v.turn → 0 < v.passes → taken_of v.turn ≡ taken → taken_faults_of v.turn ≡ taken_faults → v.number ≡ number → b ≡ held
-      → BeginsWith (history held) taken → All (λ (e : ℕ × E). e.0 ≡ number) (past taken (history held)) → taken_faults ≤ faults held
-      → Allows (TakesTurns history faults about) n id me 1 (λ x. (x + 1) % 2 ^ 64) (raised history faults (step n 1 1 0 none) me)
-  hand_gives n id me v carried b held taken taken_faults number now had is lives t tf k same grown own rose =
-      let P : Me (Option B) (View E) → Type 0 = λ m. Allows (TakesTurns history faults about) n id m 1 (λ x. (x + 1) % 2 ^ 64) (raised history faults (step n 1 1 0 none) m) in
+  pub hand_gives : (n id : ℕ) (me : Me (Option B) (View E)) (v : View E) (carried : List (ℕ × Option B)) (b held : B) (taken : List (ℕ × E)) (taken_faults number : ℕ) (noted : Start)
+      → me ≡ (v, (0, Some b) ∷ rest carried) → carried ≡ (0, None) ∷ [] → IsServed v.turn → 0 < v.passes → taken_of v.turn ≡ taken → taken_faults_of v.turn ≡ taken_faults → v.number ≡ number → v.start ≡ noted → b ≡ held
+      → BeginsWith (history held) taken → All (λ (e : ℕ × E). e.0 ≡ number) (past taken (history held)) → taken_faults ≤ faults held → follows noted held
+      → Allows (TakesTurns history faults start follows about) n id me 1 (λ x. (x + 1) % 2 ^ 64) (raised history faults follows (step n 1 1 0 none) me)
+  hand_gives n id me v carried b held taken taken_faults number noted now had is lives t tf k st same grown own rose kept =
+      let P : Me (Option B) (View E) → Type 0 = λ m. Allows (TakesTurns history faults start follows about) n id m 1 (λ x. (x + 1) % 2 ^ 64) (raised history faults follows (step n 1 1 0 none) m) in
       let grown' : BeginsWith (history b) (taken_of v.turn) = subst (λ (x : B × List (ℕ × E)). BeginsWith (history x.0) x.1) (λ i. (sym same i, sym t i)) grown in
       let own' : All (λ (e : ℕ × E). e.0 ≡ v.number) (past (taken_of v.turn) (history b)) = subst (λ (x : B × List (ℕ × E) × ℕ). All (λ (e : ℕ × E). e.0 ≡ x.2) (past x.1 (history x.0))) (λ i. (sym same i, sym t i, sym k i)) own in
       let rose' : taken_faults_of v.turn ≤ faults b = subst (λ (x : B × ℕ). x.1 ≤ faults x.0) (λ i. (sym same i, sym tf i)) rose in
-      subst P (sym now) (gives_back n id (v, (0, Some b) ∷ rest carried) b is lives (λ i. (0, Some b) ∷ rest (had i)) grown' own' rose')
+      let kept' : follows v.start b = subst (λ (x : B × Start). follows x.1 x.0) (λ i. (sym same i, sym st i)) kept in
+      subst P (sym now) (gives_back n id (v, (0, Some b) ∷ rest carried) b is lives (λ i. (0, Some b) ∷ rest (had i)) grown' own' rose' kept')
 
   -- after a join
-  pub checks : (n id : ℕ) (me : Me (Option B) (View E)) → me.0.number ≡ 0 → 0 < me.0.passes → Allows (TakesTurns history faults about) n id me 0 (λ x. x) (checked history faults (step n 0 0 0 none) me)
+  pub checks : (n id : ℕ) (me : Me (Option B) (View E)) → me.0.number ≡ 0 → 0 < me.0.passes → Allows (TakesTurns history faults start follows about) n id me 0 (λ x. x) (checked history faults follows (step n 0 0 0 none) me)
   checks n id me is_zero lives s r wide at _ =
       let f = r.fits id me.0 at lives in
       let e : id ≡ 0 = sym f.numbered ∙ is_zero in
       let q = r.zero_fits me.0 (subst (λ (k : ℕ). get_elem? s.views k ≡ some me.0) e at) in
-      stays s r 0 id me (checked history faults (step n 0 0 0 none) me) at (
+      stays s r 0 id me (checked history faults follows (step n 0 0 0 none) me) at (
         refl,
         keeps_last s.views me.0 me.0.joined q.saw_both q.counted_both q.are_spent (λ k u at_k none. (q.keeps_made k u at_k none).0),
         subst (λ (x : List (ℕ × E) × ℕ). made_by x.1 (past x.0 me.0.seen) ≡ me.0.made) (λ i. (sym f.began i, sym f.numbered i)) f.own,

@@ -8,6 +8,7 @@ use native.Mathlib.Decide.{ℕ_discrete}
 use lib.ListN.{get_elem?}
 use Rattle.atomic_table.specs.Table.{State, Splits}
 use Rattle.atomic_table.proofs.Lists.{set_here, set_else, at_longer}
+use Rattle.turn_lock.specs.declared.view.Start.{Start}
 use Rattle.turn_lock.specs.declared.view.View.{View}
 use Rattle.turn_lock.specs.Histories.{past, made_by}
 use Rattle.turn_lock.specs.Views.{HasTicket, IsServed, tickets, all_turns, all_faults, joined_made, spent, split_left, split_right}
@@ -24,9 +25,9 @@ module _ {E : Type 0} where
       (λ (e : (j ≡ length (set views 0 (split_left v))) × (split_right v ≡ u)). subst (λ (x : View E). P j x) e.1 (subst (λ (k : ℕ). P k (split_right v)) (sym (e.0 ∙ length-set views 0 (split_left v))) right))
       (at_either (set views 0 (split_left v)) (split_right v) u j at)
 
-module _ {B E : Type 0} (history : B → List (ℕ × E)) (faults : B → ℕ) (about : B) where
-  pub with_split : (s : State (Option B) (View E)) (r : TakesTurns history faults about s) (v : View E) → get_elem? s.views 0 ≡ some v → 0 < v.passes → v.split + 1 < 17
-      → TakesTurns history faults about record { words = s.words; homes = s.homes; views = set s.views 0 (split_left v) ++ split_right v ∷ [] }
+module _ {B E : Type 0} (history : B → List (ℕ × E)) (faults : B → ℕ) (start : B → Start) (follows : Start → B → Type 0) (about : B) where
+  pub with_split : (s : State (Option B) (View E)) (r : TakesTurns history faults start follows about s) (v : View E) → get_elem? s.views 0 ≡ some v → 0 < v.passes → v.split + 1 < 17
+      → TakesTurns history faults start follows about record { words = s.words; homes = s.homes; views = set s.views 0 (split_left v) ++ split_right v ∷ [] }
   with_split s r v at lives room =
       let left : View E = split_left v in let right : View E = split_right v in
       let n : ℕ = length s.views in
@@ -49,9 +50,9 @@ module _ {B E : Type 0} (history : B → List (ℕ × E)) (faults : B → ℕ) (
         words = r.words;
         slot = r.slot;
         few = omega (arith, q.split_off);
-        fits = λ j u at' live. each_split (λ (k : ℕ) (x : View E). 0 < x.passes → FitsPass first (faults about) r.log r.count r.ticket r.serving k x) s.views v
-            (λ _. record { numbered = f.numbered; began = f.began; began_faults = f.began_faults; from_first = f.from_first; has_seen = f.has_seen; no_more = f.no_more; own = f.own; none_past = f.none_past; few_turns = f.few_turns; few_joined = f.few_joined; in_turn = f.in_turn; counts = f.counts; only_zero = λ ne. absurd (ne refl) })
-            (λ _. record { numbered = q.split_off; began = f.began; began_faults = f.began_faults; from_first = f.from_first; has_seen = f.has_seen; no_more = f.no_more; own = unmade.0; none_past = unmade.1; few_turns = omega arith; few_joined = omega arith; in_turn = tt; counts = refl; only_zero = λ _. (refl, refl) })
+        fits = λ j u at' live. each_split (λ (k : ℕ) (x : View E). 0 < x.passes → FitsPass first (faults about) (start about) r.log r.count r.ticket r.serving k x) s.views v
+            (λ _. record { numbered = f.numbered; began = f.began; began_faults = f.began_faults; began_start = f.began_start; from_first = f.from_first; has_seen = f.has_seen; no_more = f.no_more; own = f.own; none_past = f.none_past; few_turns = f.few_turns; few_joined = f.few_joined; in_turn = f.in_turn; counts = f.counts; only_zero = λ ne. absurd (ne refl) })
+            (λ _. record { numbered = q.split_off; began = f.began; began_faults = f.began_faults; began_start = f.began_start; from_first = f.from_first; has_seen = f.has_seen; no_more = f.no_more; own = unmade.0; none_past = unmade.1; few_turns = omega arith; few_joined = omega arith; in_turn = tt; counts = refl; only_zero = λ _. (refl, refl) })
             (λ k x ne at'' live'. r.fits k x at'' live') j u at' live;
         joined_is_spent = λ j u at' none. each_split (λ (k : ℕ) (x : View E). x.passes ≡ 0 → x ≡ spent) s.views v (λ z. let z' : v.passes ≡ 0 = z in absurd (omega arith)) (λ z. absurd (omega arith)) (λ k x ne at'' z. r.joined_is_spent k x at'' z) j u at' none;
         zero_fits = λ u at'. each_split (λ (k : ℕ) (x : View E). k ≡ 0 → FitsZero r.log (set s.views 0 left ++ right ∷ []) x) s.views v
@@ -87,7 +88,7 @@ module _ {B E : Type 0} (history : B → List (ℕ × E)) (faults : B → ℕ) (
         all_faults_are = let e = sums all_faults in omega (arith, e, r.all_faults_are);
       }
 
-  pub splits : (id : ℕ) (v : View E) → v.number ≡ 0 → 0 < v.passes → v.split + 1 < 17 → Splits (TakesTurns history faults about) id v (split_left v) (split_right v)
+  pub splits : (id : ℕ) (v : View E) → v.number ≡ 0 → 0 < v.passes → v.split + 1 < 17 → Splits (TakesTurns history faults start follows about) id v (split_left v) (split_right v)
   splits id v is_zero lives room s r at = let f = r.fits id v at lives in let e : id ≡ 0 = sym f.numbered ∙ is_zero in
-      subst (λ (k : ℕ). TakesTurns history faults about record { words = s.words; homes = s.homes; views = set s.views k (split_left v) ++ split_right v ∷ [] }) (sym e)
+      subst (λ (k : ℕ). TakesTurns history faults start follows about record { words = s.words; homes = s.homes; views = set s.views k (split_left v) ++ split_right v ∷ [] }) (sym e)
       (with_split s r v (subst (λ (k : ℕ). get_elem? s.views k ≡ some v) e at) lives room)

@@ -8,6 +8,7 @@ use mathlib.Core.Logic.{dite}
 use lib.ListN.{get_elem?}
 use Rattle.atomic_table.specs.Table.{State}
 use Rattle.atomic_table.proofs.Lists.{at_set, set_here, set_else}
+use Rattle.turn_lock.specs.declared.view.Start.{Start}
 use Rattle.turn_lock.specs.declared.view.View.{View}
 use Rattle.turn_lock.specs.declared.view.Turn.{Turn}
 use Rattle.turn_lock.specs.declared.view.Turn.TheVariants.{Rest, Drawn, Served}
@@ -43,13 +44,13 @@ module _ {E : Type 0} where
       (each_set (λ (k : ℕ) (y : View E). R id w k y) views id w both first j x at_j)
       (λ k y ne at. each_set (λ (l : ℕ) (z : View E). R k y l z) views id w (second k y ne at) (λ l z ne' at'. neither k l y z ne ne' at at') j x at_j) i u at_i
 
-module _ {B E : Type 0} (history : B → List (ℕ × E)) (faults : B → ℕ) (about : B) where
-  pub with_turn : (s : State (Option B) (View E)) (r : TakesTurns history faults about s) (id : ℕ) (v : View E) (t' : Turn E) (ticket' : ℕ) (home' : maybe.Option (Option B)) (words' : List ℕ) (homes' : List (maybe.Option (Option B)))
+module _ {B E : Type 0} (history : B → List (ℕ × E)) (faults : B → ℕ) (start : B → Start) (follows : Start → B → Type 0) (about : B) where
+  pub with_turn : (s : State (Option B) (View E)) (r : TakesTurns history faults start follows about s) (id : ℕ) (v : View E) (t' : Turn E) (ticket' : ℕ) (home' : maybe.Option (Option B)) (words' : List ℕ) (homes' : List (maybe.Option (Option B)))
       → get_elem? s.views id ≡ some v → 0 < v.passes → words' ≡ ticket' ∷ r.serving ∷ [] → homes' ≡ home' ∷ []
       → r.ticket ≤ ticket' → ticket' + tickets v.turn ≡ r.ticket + tickets t' → length v.stops + tickets t' ≤ 2 ^ 57 → InTurn r.log r.count ticket' r.serving t'
       → ((t : ℕ) → HasTicket t' t → (j : ℕ) (u : View E) → j ≢ id → get_elem? s.views j ≡ some u → ¬ HasTicket u.turn t)
-      → (((j : ℕ) (u : View E) → get_elem? (set s.views id (record v { turn = t' })) j ≡ some u → ¬ IsServed u.turn) → (b : B) × (home' ≡ some (Some b)) × (history b ≡ r.log) × (faults b ≡ r.count))
-      → TakesTurns history faults about record { words = words'; homes = homes'; views = set s.views id (record v { turn = t' }) }
+      → (((j : ℕ) (u : View E) → get_elem? (set s.views id (record v { turn = t' })) j ≡ some u → ¬ IsServed u.turn) → (b : B) × (home' ≡ some (Some b)) × (history b ≡ r.log) × (faults b ≡ r.count) × follows (start about) b)
+      → TakesTurns history faults start follows about record { words = words'; homes = homes'; views = set s.views id (record v { turn = t' }) }
   with_turn s r id v t' ticket' home' words' homes' at lives words slot more counted few turn fresh home =
       let w : View E = record v { turn = t' } in
       let f = r.fits id v at lives in
@@ -63,9 +64,9 @@ module _ {B E : Type 0} (history : B → List (ℕ × E)) (faults : B → ℕ) (
         words = words;
         slot = slot;
         few = omega (arith, r.few);
-        fits = λ j u at' live. each_set (λ (k : ℕ) (x : View E). 0 < x.passes → FitsPass (history about) (faults about) r.log r.count ticket' r.serving k x) s.views id w
-            (λ _. record { numbered = f.numbered; began = f.began; began_faults = f.began_faults; from_first = f.from_first; has_seen = f.has_seen; no_more = f.no_more; own = f.own; none_past = f.none_past; few_turns = few; few_joined = f.few_joined; in_turn = turn; counts = f.counts; only_zero = f.only_zero })
-            (λ k x ne at'' live'. let g = r.fits k x at'' live' in record { numbered = g.numbered; began = g.began; began_faults = g.began_faults; from_first = g.from_first; has_seen = g.has_seen; no_more = g.no_more; own = g.own; none_past = g.none_past; few_turns = g.few_turns; few_joined = g.few_joined; in_turn = in_turn_more r.log r.count r.ticket ticket' r.serving x.turn more g.in_turn; counts = g.counts; only_zero = g.only_zero }) j u at' live;
+        fits = λ j u at' live. each_set (λ (k : ℕ) (x : View E). 0 < x.passes → FitsPass (history about) (faults about) (start about) r.log r.count ticket' r.serving k x) s.views id w
+            (λ _. record { numbered = f.numbered; began = f.began; began_faults = f.began_faults; began_start = f.began_start; from_first = f.from_first; has_seen = f.has_seen; no_more = f.no_more; own = f.own; none_past = f.none_past; few_turns = few; few_joined = f.few_joined; in_turn = turn; counts = f.counts; only_zero = f.only_zero })
+            (λ k x ne at'' live'. let g = r.fits k x at'' live' in record { numbered = g.numbered; began = g.began; began_faults = g.began_faults; began_start = g.began_start; from_first = g.from_first; has_seen = g.has_seen; no_more = g.no_more; own = g.own; none_past = g.none_past; few_turns = g.few_turns; few_joined = g.few_joined; in_turn = in_turn_more r.log r.count r.ticket ticket' r.serving x.turn more g.in_turn; counts = g.counts; only_zero = g.only_zero }) j u at' live;
         joined_is_spent = λ j u at' none. each_set (λ (k : ℕ) (x : View E). x.passes ≡ 0 → x ≡ spent) s.views id w (λ z. let z' : v.passes ≡ 0 = z in absurd (omega arith)) (λ k x ne at'' z. r.joined_is_spent k x at'' z) j u at' none;
         zero_fits = λ u at'. each_set (λ (k : ℕ) (x : View E). k ≡ 0 → FitsZero r.log (set s.views id w) x) s.views id w
             (λ z. let q = r.zero_fits v (subst (λ (k : ℕ). get_elem? s.views k ≡ some v) z at) in record {

@@ -18,6 +18,7 @@ use mathlib.Core.Option.{some}
 use mathlib.Core.Option as maybe
 use lib.ListN.{get_elem?}
 use Rattle.atomic_table.specs.Table.{State}
+use Rattle.turn_lock.specs.declared.view.Start.{Start}
 use Rattle.turn_lock.specs.declared.view.View.{View}
 use Rattle.turn_lock.specs.declared.view.Turn.{Turn}
 use Rattle.turn_lock.specs.declared.view.Turn.TheVariants.{Rest, Drawn, Served}
@@ -31,10 +32,11 @@ InTurn log count ticket serving (Drawn t) = (serving ≤ t) × (t < ticket)
 InTurn log count ticket serving (Served t taken taken_count) = (t ≡ serving) × (t < ticket) × (taken ≡ log) × (taken_count ≡ count)
 
 -- what holds of a pass in the seat j, where the value has the history log and this count of faults
-pub record FitsPass {E : Type 0} (first : List (ℕ × E)) (first_faults : ℕ) (log : List (ℕ × E)) (count ticket serving j : ℕ) (v : View E) : Type 0 where
+pub record FitsPass {E : Type 0} (first : List (ℕ × E)) (first_faults : ℕ) (noted : Start) (log : List (ℕ × E)) (count ticket serving j : ℕ) (v : View E) : Type 0 where
   pub numbered : v.number ≡ j
   pub began : v.first ≡ first
   pub began_faults : v.first_faults ≡ first_faults
+  pub began_start : v.start ≡ noted
   -- 1 and 4
   pub few_turns : length v.stops + tickets v.turn ≤ 2 ^ 57
   pub few_joined : sum_by (λ k. k.gives) v.joined ≤ length v.joined * 2 ^ 57
@@ -59,7 +61,7 @@ pub record FitsZero {E : Type 0} (log : List (ℕ × E)) (views : List (View E))
   pub keeps_made : (k : ℕ) (u : View E) → get_elem? views k ≡ some u → u.passes ≡ 0 → (made_by k (past v.first v.seen) ≡ joined_made k v.joined) × (made_by k (past v.seen log) ≡ [])
   pub keeps_others : (k : ℕ) → length views ≤ k → joined_made k v.joined ≡ []
 
-module _ {B E : Type 0} (history : B → List (ℕ × E)) (faults : B → ℕ) (first : B) where
+module _ {B E : Type 0} (history : B → List (ℕ × E)) (faults : B → ℕ) (start : B → Start) (follows : Start → B → Type 0) (first : B) where
   -- log and count are the history and the count of faults of the value, as the last turn that ended left it
   pub record TakesTurns (s : State (Option B) (View E)) : Type 0 where
     pub log : List (ℕ × E)
@@ -70,7 +72,7 @@ module _ {B E : Type 0} (history : B → List (ℕ × E)) (faults : B → ℕ) (
     pub words : s.words ≡ ticket ∷ serving ∷ []
     pub slot : s.homes ≡ home ∷ []
     -- of each pass
-    pub fits : (j : ℕ) (v : View E) → get_elem? s.views j ≡ some v → 0 < v.passes → FitsPass (history first) (faults first) log count ticket serving j v
+    pub fits : (j : ℕ) (v : View E) → get_elem? s.views j ≡ some v → 0 < v.passes → FitsPass (history first) (faults first) (start first) log count ticket serving j v
     pub joined_is_spent : (j : ℕ) (v : View E) → get_elem? s.views j ≡ some v → v.passes ≡ 0 → v ≡ spent
     pub zero_fits : (v : View E) → get_elem? s.views 0 ≡ some v → FitsZero log s.views v
     pub all_passes_are : sum_by (λ v. v.passes) s.views ≡ length s.views
@@ -83,7 +85,7 @@ module _ {B E : Type 0} (history : B → List (ℕ × E)) (faults : B → ℕ) (
     pub latest : (j : ℕ) × (v : View E) × (get_elem? s.views j ≡ some v) × (0 < v.passes) × (v.seen ≡ log) × (v.seen_faults ≡ count)
     pub later : (i j : ℕ) (u v : View E) → get_elem? s.views i ≡ some u → get_elem? s.views j ≡ some v → 0 < u.passes → 0 < v.passes → length u.seen < length v.seen → u.seen_faults ≤ v.seen_faults
     -- 3 and 4
-    pub at_home : ((j : ℕ) (v : View E) → get_elem? s.views j ≡ some v → ¬ IsServed v.turn) → (b : B) × (home ≡ some (Some b)) × (history b ≡ log) × (faults b ≡ count)
+    pub at_home : ((j : ℕ) (v : View E) → get_elem? s.views j ≡ some v → ¬ IsServed v.turn) → (b : B) × (home ≡ some (Some b)) × (history b ≡ log) × (faults b ≡ count) × follows (start first) b
     -- 5
     pub none_unmade : (k : ℕ) → length s.views ≤ k → made_by k (past (history first) log) ≡ []
     -- 6

@@ -13,6 +13,7 @@
 -- | raise        | word 1, from t to t + 1             | its own, which notes what the value has: raised                 | home again                |
 use Rattle.std.specs.Prelude.{◌≡◌, ◌≢◌, ℕ, ◌^◌, ◌<◌, ◌≤◌, List, [], ◌∷◌, ◌++◌, Option, Some}
 use Rattle.atomic_table.specs.Table.{Me, Step}
+use Rattle.turn_lock.specs.declared.view.Start.{Start}
 use Rattle.turn_lock.specs.declared.view.View.{View}
 use Rattle.turn_lock.specs.declared.view.Joined.{Joined}
 use Rattle.turn_lock.specs.Histories.{BeginsWith, past, made_by}
@@ -32,7 +33,7 @@ KeepsLast v [] = Unit {0}
 KeepsLast v (j ∷ js) = BeginsWith v.seen j.kept_seen × BeginsWith v.seen j.other_seen × (made_by j.number (past v.first v.seen) ≡ j.made)
     × (j.kept_seen_faults ≤ v.seen_faults) × (j.other_seen_faults ≤ v.seen_faults)
 
-module _ {B E : Type 0} (history : B → List (ℕ × E)) (faults : B → ℕ) where
+module _ {B E : Type 0} (history : B → List (ℕ × E)) (faults : B → ℕ) (follows : Start → B → Type 0) where
   -- a look at the next ticket
   abbrev pub looked : Step (Option B) → Me (Option B) (View E) → ℕ → Me (Option B) (View E) → Type 0
   looked st m n m' = (m' ≡ m) × (n < 2 ^ 62)
@@ -43,7 +44,7 @@ module _ {B E : Type 0} (history : B → List (ℕ × E)) (faults : B → ℕ) w
 
   -- where the pass finds its own ticket, the slot is in its hand, with the value as it was left
   abbrev pub came : Step (Option B) → Me (Option B) (View E) → ℕ → Me (Option B) (View E) → Type 0
-  came st m n m' = (n ≡ ticket_of m.0.turn → (b : B) × (m' ≡ (served m.0 n (history b) (faults b), (0, Some b) ∷ m.1)) × Learns m.0 (history b) (faults b))
+  came st m n m' = (n ≡ ticket_of m.0.turn → (b : B) × (m' ≡ (served m.0 n (history b) (faults b), (0, Some b) ∷ m.1)) × Learns m.0 (history b) (faults b) × follows m.0.start b)
       × (n ≢ ticket_of m.0.turn → m' ≡ m)
 
   -- the slot goes home with what was put in, and the pass has seen all of it. Past the first history, what it made is all that the history has of it

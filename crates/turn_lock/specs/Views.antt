@@ -1,5 +1,6 @@
 -- What is said of views: of what a pass knows.
-use Rattle.std.specs.Prelude.{◌≡◌, ℕ, ◌+◌, ◌-◌, List, [], ◌∷◌, ◌++◌, length, sum_by, ◌==◌, nat_lt, max, if◌then◌else◌}
+use Rattle.std.specs.Prelude.{◌≡◌, ℕ, ◌+◌, ◌-◌, List, [], ◌∷◌, ◌++◌, length, sum_by, ◌==◌, nat_lt, max, None, if◌then◌else◌}
+use Rattle.turn_lock.specs.declared.view.Start.{Start}
 use Rattle.turn_lock.specs.declared.view.View.{View}
 use Rattle.turn_lock.specs.declared.view.Joined.{Joined}
 use Rattle.turn_lock.specs.declared.view.Turn.{Turn}
@@ -58,12 +59,12 @@ module _ {E : Type 0} where
   made_through k v = if v.number == k then v.made else joined_made k v.joined
 
   -- the view of the pass that a lock is made with
-  abbrev pub opened : List (ℕ × E) → ℕ → View E
-  opened log n = record { passes = 1; number = 0; first = log; first_faults = n; seen = log; seen_faults = n; made = []; stops = []; faults = 0; split = 0; joined = []; turn = Rest }
+  abbrev pub opened : List (ℕ × E) → ℕ → Start → View E
+  opened log n start = record { passes = 1; number = 0; first = log; first_faults = n; start = start; seen = log; seen_faults = n; made = []; stops = []; faults = 0; split = 0; joined = []; turn = Rest }
 
   -- the view of a pass that was joined into another
   abbrev pub spent : View E
-  spent = record { passes = 0; number = 0; first = []; first_faults = 0; seen = []; seen_faults = 0; made = []; stops = []; faults = 0; split = 0; joined = []; turn = Rest }
+  spent = record { passes = 0; number = 0; first = []; first_faults = 0; start = record { plan = None; calls = 0; events = 0 }; seen = []; seen_faults = 0; made = []; stops = []; faults = 0; split = 0; joined = []; turn = Rest }
 
   -- one more pass was split off
   abbrev pub split_left : View E → View E
@@ -71,7 +72,7 @@ module _ {E : Type 0} where
 
   -- the pass that is split off has seen what the old one had
   abbrev pub split_right : View E → View E
-  split_right v = record (opened v.first v.first_faults) { number = v.split + 1; seen = v.seen; seen_faults = v.seen_faults }
+  split_right v = record (opened v.first v.first_faults v.start) { number = v.split + 1; seen = v.seen; seen_faults = v.seen_faults }
 
   -- the longer history
   abbrev pub longer_seen : View E → View E → List (ℕ × E)

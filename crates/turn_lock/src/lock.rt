@@ -62,7 +62,7 @@ impl<B: Logged> TurnLock<B> {
     pub fn new(alloc: Global, book: B, seats: u32) -> Result<(TurnLock<B>, Pass<B>), NotMade<B>>
         requires seats { (0 < seats) × (seats ≤ 17) }
         ensures lock { IfOk result (λ made. (made.0.lock ≡ made.1.lock) × (made.0.seats ≡ seats)) }
-        ensures pass { IfOk result (λ made. made.1.view ≡ opened (B.history book) (B.faults book)) }
+        ensures pass { IfOk result (λ made. made.1.view ≡ opened (B.history book) (B.faults book) (B.start book)) }
         ensures book { IfErr result (λ refused. refused.book ≡ book) }
     {
         let about = Snapshot::of(&book);
@@ -110,6 +110,7 @@ impl<B: Logged> TurnLock<B> {
         ensures faults { B.faults result.book ≡ result.taken_faults }
         ensures begins { BeginsWith result.taken pass.view.seen }
         ensures no_fewer_faults { pass.view.seen_faults ≤ result.taken_faults }
+        ensures follows { B.follows pass.view.start result.book }
         ensures own { made_by pass.view.number (past pass.view.first result.taken) ≡ pass.view.made }
         ensures none_past { made_by pass.view.number (past pass.view.seen result.taken) ≡ [] }
     {
@@ -148,6 +149,7 @@ impl<B: Logged> TurnLock<B> {
         ensures same_lock { seat.new.table_id ≡ seat.old.table_id }
         ensures served { seat.new.me ≡ (served seat.old.me.0 ticket (B.history result) (B.faults result), (0, None) ∷ []) }
         ensures learns { Learns seat.old.me.0 (B.history result) (B.faults result) }
+        ensures follows { B.follows seat.old.me.0.start result }
     {
         let words = &self.table.shared;
         let mut looks = 0;
@@ -175,6 +177,7 @@ impl<B: Logged> TurnLock<B> {
         requires grown { BeginsWith (B.history held.book) held.taken }
         requires own { All (λ e. e.0 ≡ held.view.number) (past held.taken (B.history held.book)) }
         requires no_fewer_faults { held.taken_faults ≤ B.faults held.book }
+        requires follows { B.follows held.view.start held.book }
         ensures same_lock { result.lock ≡ held.lock }
         ensures seen { (result.view.seen ≡ B.history held.book) × (result.view.seen_faults ≡ B.faults held.book) }
         ensures made { result.view.made ≡ held.view.made ++ past held.taken (B.history held.book) }
@@ -229,6 +232,7 @@ impl<B: Logged> TurnLock<B> {
         requires all_joined { length pass.view.joined ≡ pass.view.split }
         ensures seen { B.history result ≡ pass.view.seen }
         ensures faults { B.faults result ≡ pass.view.seen_faults }
+        ensures follows { B.follows pass.view.start result }
         ensures begins { BeginsWith (B.history result) pass.view.first }
         ensures made { (k : ℕ) → made_by k (past pass.view.first (B.history result)) ≡ made_through k pass.view }
         ensures rose { pass.view.first_faults + all_faults pass.view ≡ B.faults result }

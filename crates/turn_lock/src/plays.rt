@@ -8,7 +8,7 @@ pub(crate) struct Look;
 impl<B: Logged> Play<Option<B>, View<B::Event>> for Look {
     ghost use Rattle.turn_lock.specs.Steps.{looked};
 
-    ghost then = { looked B.history B.faults };
+    ghost then = { looked B.history B.faults B.follows };
 }
 
 pub(crate) struct Draw;
@@ -16,7 +16,7 @@ pub(crate) struct Draw;
 impl<B: Logged> Play<Option<B>, View<B::Event>> for Draw {
     ghost use Rattle.turn_lock.specs.Steps.{drew};
 
-    ghost then = { drew B.history B.faults };
+    ghost then = { drew B.history B.faults B.follows };
 }
 
 pub(crate) struct Come;
@@ -24,7 +24,7 @@ pub(crate) struct Come;
 impl<B: Logged> Play<Option<B>, View<B::Event>> for Come {
     ghost use Rattle.turn_lock.specs.Steps.{came};
 
-    ghost then = { came B.history B.faults };
+    ghost then = { came B.history B.faults B.follows };
 }
 
 pub(crate) struct Raise;
@@ -32,7 +32,7 @@ pub(crate) struct Raise;
 impl<B: Logged> Play<Option<B>, View<B::Event>> for Raise {
     ghost use Rattle.turn_lock.specs.Steps.{raised};
 
-    ghost then = { raised B.history B.faults };
+    ghost then = { raised B.history B.faults B.follows };
 }
 
 pub(crate) struct Check;
@@ -40,7 +40,7 @@ pub(crate) struct Check;
 impl<B: Logged> Play<Option<B>, View<B::Event>> for Check {
     ghost use Rattle.turn_lock.specs.Steps.{checked};
 
-    ghost then = { checked B.history B.faults };
+    ghost then = { checked B.history B.faults B.follows };
 }
 
 pub(crate) struct Cut;

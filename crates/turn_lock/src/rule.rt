@@ -11,9 +11,9 @@ impl<B: Logged> TableRule<Option<B>, View<B::Event>, Snapshot<B>> for Turns {
     ghost use Rattle.turn_lock.specs.Rule.{TakesTurns};
     ghost use Rattle.turn_lock.specs.Views.{opened};
 
-    ghost holds = { λ about. TakesTurns B.history B.faults about.value };
+    ghost holds = { λ about. TakesTurns B.history B.faults B.start B.follows about.value };
 
-    ghost first = { λ about. opened (B.history about.value) (B.faults about.value) };
+    ghost first = { λ about. opened (B.history about.value) (B.faults about.value) (B.start about.value) };
 }
 
 pub type TurnTable<B> = Table<Option<B>, View<<B as Logged>::Event>, Snapshot<B>, Turns, Global>;

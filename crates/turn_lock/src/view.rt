@@ -1,6 +1,14 @@
 //! What a pass knows. No value of these types is made: they are for contracts alone.
 use std::collections::LinkedList;
 
+/// What is noted of the value that a lock is made with: which of its calls fail, where that is told, how many there were, and how
+/// long its history was.
+pub struct Start {
+    pub plan: Option<LinkedList<u64>>,
+    pub calls: u64,
+    pub events: u64,
+}
+
 /// What a pass knows of the value under the lock, and what it did through the lock.
 pub struct View<E> {
     /// Of how many passes it has what they made: its own and those that were joined into it. It is 0 once
@@ -11,6 +19,8 @@ pub struct View<E> {
     /// The history and the count of faults that the lock was made with.
     pub first: LinkedList<(u32, E)>,
     pub first_faults: u64,
+    /// What was noted of that value.
+    pub start: Start,
     /// The history and the count of faults that the pass has seen.
     pub seen: LinkedList<(u32, E)>,
     pub seen_faults: u64,

@@ -3,8 +3,11 @@ use Rattle.std.proofs.Common.{◌≡◌, ℕ, ◌+◌, ◌-◌, [], ◌∷◌, �
 use Rattle.std.specs.Prelude.{All, Ok, Some, length}
 use Rattle.stock_model.specs.declared.deeds.Deed.{Deed}
 use Rattle.turn_lock.specs.Histories.{past}
+use Rattle.turn_lock.specs.declared.view.Start.{Start}
 use Rattle.turn_lock.specs.declared.view.View.{View}
 use Rattle.generation_book.specs.State.{BookState}
+use Rattle.generation_book.specs.Follows.{Follows}
+use Rattle.generation_book.proofs.Following.{follows-through}
 use Rattle.session_laws.specs.Makers.{with_makers}
 use Rattle.session_laws.proofs.FromLock.{grown-from_lock, own-from_lock, IsTurn-from_lock}
 use Rattle.desk_server.proofs.Over.{comes-to}
@@ -33,6 +36,14 @@ give-pass-requires-clause-no_fewer_faults g c =
       ap (λ (b : BookState). b.keeper.faults) c.book.ensures.value,
       (c.respond-answered.ensures.answers _ (comes-to c.respond-answered.result c.args.close)).faults.never_falls,
     )
+
+pub give-pass-requires-clause-follows : goal.give-pass-requires-clause-follows
+give-pass-requires-clause-follows g c =
+    let over = c.respond-answered.ensures.answers _ (comes-to c.respond-answered.result c.args.close) in
+    let start = c.args.pass.view.start in
+    let before = subst (Follows start) (sym c.book.ensures.value) c.take-held.ensures.follows in
+    subst (λ (s : Start). Follows s c.respond-answered.new.book) (sym (ap (λ (v : View Deed). v.start) c.take-held.ensures.pass.1))
+    (follows-through start c.book.result.now c.respond-answered.new.book before over.follows)
 
 pub returns-clause-rest : goal.returns-clause-rest
 returns-clause-rest g c =

@@ -5,10 +5,12 @@ use Rattle.stock_model.specs.declared.deeds.Deed.{Deed}
 use Rattle.turn_lock.specs.Histories.{BeginsWith, past, made_by}
 use Rattle.turn_lock.specs.Passes.{PassView}
 use Rattle.turn_lock.specs.Views.{all_faults, made_through}
+use Rattle.turn_lock.specs.declared.view.Start.{Start}
 use Rattle.turn_lock.specs.declared.view.View.{View}
 use Rattle.session_laws.specs.Makers.{with_makers}
+use Rattle.generation_book.specs.Follows.{Follows}
 use Rattle.desk_service.specs.Passes.{joined_all}
-use Rattle.desk_service.proofs.Gathering.{joined_all-number, joined_all-count, joined_all-split, joined_all-first, joined_all-first_faults}
+use Rattle.desk_service.proofs.Gathering.{joined_all-number, joined_all-count, joined_all-split, joined_all-first, joined_all-start, joined_all-first_faults}
 use Rattle.desk_service.proofs.service.ended.Goals as goal
 
 pub close-book-requires-clause-zero : goal.close-book-requires-clause-zero
@@ -41,3 +43,9 @@ returns-clause-closed g c =
           ∙ ap (λ (v : View Deed). v.first_faults + all_faults v) (sym joined) ∙ c.close-book.ensures.rose;
       made = λ k. ap (λ (z : List (ℕ × Deed)). made_by k (past z final)) (sym first_is) ∙ c.close-book.ensures.made k ∙ ap (made_through k) joined;
     }
+
+pub returns-clause-follows : goal.returns-clause-follows
+returns-clause-follows g c =
+    let view = c.args.team.worker.pass.view in
+    let same = ap (λ (v : View Deed). v.start) c.join_all-pass.ensures.joined ∙ joined_all-start view c.args.team.desks.passes.items in
+    subst (λ (noted : Start). Follows noted c.close-book.result) same c.close-book.ensures.follows

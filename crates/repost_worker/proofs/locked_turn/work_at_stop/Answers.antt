@@ -3,9 +3,12 @@ use Rattle.std.proofs.Common.{◌≡◌, ◌+◌, ◌-◌, List, sym, ap, ◌∙
 use Rattle.stock_model.specs.declared.deeds.Deed.{Deed}
 use Rattle.session_laws.specs.Makers.{with_makers, without_makers}
 use Rattle.generation_book.specs.State.{BookState}
+use Rattle.generation_book.specs.Follows.{Follows}
+use Rattle.turn_lock.specs.declared.view.Start.{Start}
+use Rattle.turn_lock.specs.declared.view.View.{View}
 use Rattle.repost_worker.specs.Turns.{IsWorkOf}
 use Rattle.session_laws.proofs.MakersOf.{without_makers-with_makers}
-use Rattle.repost_worker.proofs.Stops.{IsGiven, handed, adds-own, gives-own, gives-grown, never_falls, made-at_stop, refused-at_stop}
+use Rattle.repost_worker.proofs.Stops.{IsGiven, handed, adds-own, gives-own, gives-grown, never_falls, follows-turn, made-at_stop, refused-at_stop}
 use Rattle.repost_worker.proofs.LockedTurns.{work-handed}
 use Rattle.repost_worker.proofs.locked_turn.work_at_stop.Given
 use Rattle.repost_worker.proofs.locked_turn.work_at_stop.Goals as goal
@@ -39,6 +42,15 @@ give-requires-clause-no_fewer_faults g c =
     let turned = c.turn_on-result in
     let rose = never_falls turned.result c.book.result.now.keeper turned.new.book.keeper turned.ensures.done turned.ensures.refused in
     omega (arith, c.take-held.ensures.faults, ap (λ (b : BookState). b.keeper.faults) c.book.ensures.value, rose)
+
+pub give-requires-clause-follows : goal.give-requires-clause-follows
+give-requires-clause-follows g c =
+    let turned = c.turn_on-result in
+    let start = c.args.pass.view.start in
+    let before = subst (Follows start) (sym c.book.ensures.value) c.take-held.ensures.follows in
+    subst (λ (s : Start). Follows s turned.new.book) (sym (ap (λ (v : View Deed). v.start) c.take-held.ensures.pass.1))
+    (follows-turn start turned.result c.book.result.now turned.new.book c.args.build.now turned.new.build before turned.ensures.turn
+    turned.ensures.book_stays turned.ensures.done turned.ensures.refused)
 
 is-given : (g : Given.Over) (c : goal.After-give g) → IsGiven c.args.pass.view c.take-held.result.view c.give.result.view c.take-held.result.taken
     c.book.result.now.history c.turn_on-result.new.book.history

@@ -16,7 +16,7 @@ returns-in-Ok-clause-serves g c =
     c.settle_served.result.summary served.accepted (pace_of c.into_parts-book.result.0 c.into_parts-book.result.1) c.args.book
     (pace_of served.book served.build) c.settle_served.result.book (hears c.args.listener) (hears served.listener)
     (hears c.settle_served.result.listener) c.into_parts-book.ensures.pace (ap hears c.settle_served.ensures.listener)
-    c.in-Ok.ensures.served c.settle_served.ensures.few c.settle_served.ensures.all
+    c.in-Ok.ensures.served (record { longer = c.in-Ok.ensures.follows.longer; called = c.in-Ok.ensures.follows.called }) c.settle_served.ensures.few c.settle_served.ensures.all
     c.settle_served.ensures.legal
 
 pub returns-in-Ok-clause-never_falls : goal.returns-in-Ok-clause-never_falls

@@ -1,5 +1,6 @@
 -- A record without a fault is kept: the keeper has it first.
 use Rattle.std.proofs.Common.{◌≡◌, ℕ, ◌+◌, ◌-◌, take, [], ◌∷◌, ◌++◌, length-append, ap, ◌∙◌, sym, subst, arith, length, None, List}
+use Rattle.stock_io.specs.Counts.{raised}
 use Rattle.stock_keeper.specs.Changed.{Follows}
 use Rattle.stock_keeper.specs.declared.tables.Tables.{Tables}
 use Rattle.stock_model.specs.declared.records.Record.{Record}
@@ -21,12 +22,12 @@ use Rattle.kept_tables.proofs.KeptRecords.{Follows-next}
 use Rattle.generation_book.specs.State.{BookState}
 use Rattle.generation_book.specs.Book.{deeds}
 use Rattle.generation_book.specs.Handed.{IsHanded}
-use Rattle.generation_book.specs.Refusals.{IsRefusalOf, HasTriedFor}
+use Rattle.generation_book.specs.Refusals.{IsRefusalOf, HasTriedFor, HasAskedFor}
 use Rattle.generation_book.specs.declared.events.Event.{Event}
 use Rattle.generation_book.specs.declared.events.Event.TheVariants.{Kept}
 use Rattle.generation_book.proofs.Books.{records-deeds, history-records, IsBook-kept, deeds-kept, legal-kept, put_all-entries, entries-own_places, entries-enough, at_once-none, popped}
 use Rattle.generation_book.proofs.KeptBooks.{kept-appended, kept-unappended}
-use Rattle.generation_book.proofs.OwnFaults.{refused-for, refused-uncalled, refused-by, tried-uncalled, tried-by}
+use Rattle.generation_book.proofs.OwnFaults.{refused-for, refused-uncalled, refused-by, tried-uncalled, tried-by, asked-uncalled, asked-by}
 use Rattle.generation_book.proofs.book.Book.post.Goals as goal
 
 pub returns-in-Err-clause-fault : goal.returns-in-Err-clause-fault
@@ -38,6 +39,10 @@ returns-in-Err-clause-refused g c = refused-uncalled (records c.args.self.now.hi
 pub returns-in-Err-clause-tried : goal.returns-in-Err-clause-tried
 returns-in-Err-clause-tried g c =
     tried-uncalled (records c.args.self.now.history) c.args.item c.in-Err.fault (deed.Kept c.args.item) c.args.self.now.tried c.in-Err.ensures.fault
+
+pub returns-in-Err-clause-asked : goal.returns-in-Err-clause-asked
+returns-in-Err-clause-asked g c =
+    asked-uncalled (records c.args.self.now.history) c.args.item c.in-Err.fault c.args.self.now.calls c.in-Err.ensures.fault
 
 pub returns-in_default-clause-fault : goal.returns-in_default-clause-fault
 returns-in_default-clause-fault g c = at_once-none _ c.args.item c.in-Ok.ensures.sound
@@ -111,6 +116,12 @@ returns-in-Err-append-clause-tried g c =
     subst (λ (f : PostFault). HasTriedFor f (deed.Kept c.args.item) c.args.self.now.tried c.with_kept-tried.result.events) (sym c.refusal_of.ensures)
     (tried-by c.in-Err-append.fault (deed.Kept c.args.item) c.args.self.now.tried c.with_kept-tried.result.events
     (c.with_kept-tried.ensures ∙ ap (λ (ds : List Deed). ds ++ deed.Kept c.args.item ∷ []) before))
+
+pub returns-in-Err-append-clause-asked : goal.returns-in-Err-append-clause-asked
+returns-in-Err-append-clause-asked g c =
+    let before : c.self.inside.calls ≡ c.args.self.now.calls = ap (λ (b : BookState). b.calls) c.self.view_is in
+    subst (λ (f : PostFault). HasAskedFor f c.args.self.now.calls c.one_more-self-inside.result) (sym c.refusal_of.ensures)
+    (asked-by c.in-Err-append.fault c.args.self.now.calls c.one_more-self-inside.result (c.one_more-self-inside.ensures ∙ ap raised before))
 
 pub add-requires-clause-apart : goal.add-requires-clause-apart
 add-requires-clause-apart g c =

@@ -1,6 +1,7 @@
 -- What changed is put among the rows, and the keeper has it last.
 use Rattle.std.proofs.Common.{◌≡◌, take, length, List, [], ◌∷◌, ◌++◌, length-append, length-take, ap, ◌∙◌, sym, subst, refl, arith}
 use Rattle.stock_nums.specs.declared.entry.Row.{Row}
+use Rattle.stock_io.specs.Counts.{raised}
 use Rattle.stock_keeper.specs.Changed.{CoversRecords}
 use Rattle.stock_keeper.specs.declared.tables.Tables.{Tables}
 use Rattle.stock_model.specs.History as history
@@ -16,7 +17,7 @@ use Rattle.generation_book.specs.declared.events.Event.{Event}
 use Rattle.generation_book.specs.declared.events.Event.TheVariants.{Published}
 use Rattle.generation_book.proofs.Books.{history-records, history-accepted, history-covered, IsBook-changed, deeds-published, legal-published}
 use Rattle.generation_book.proofs.KeptBooks.{kept-published, kept-unpublished}
-use Rattle.generation_book.proofs.OwnFaults.{tried-more}
+use Rattle.generation_book.proofs.OwnFaults.{tried-more, asked-more}
 use Rattle.generation_book.proofs.book.Book.publish.Goals as goal
 
 pub publish-requires-clause-within : goal.publish-requires-clause-within
@@ -54,6 +55,11 @@ returns-in-Err-clause-tried g c =
     let before : c.self.inside.tried.events ≡ c.args.self.now.tried = ap (λ (b : BookState). b.tried) c.self.view_is in
     tried-more c.in-Err.fault (deed.Published c.args.n) c.args.self.now.tried c.with_published-self-inside.result.events
     (c.with_published-self-inside.ensures ∙ ap (λ (ds : List Deed). ds ++ deed.Published c.args.n ∷ []) before)
+
+pub returns-in-Err-clause-asked : goal.returns-in-Err-clause-asked
+returns-in-Err-clause-asked g c =
+    let before : c.self.inside.calls ≡ c.args.self.now.calls = ap (λ (b : BookState). b.calls) c.self.view_is in
+    asked-more c.in-Err.fault c.args.self.now.calls c.one_more-self-inside.result (c.one_more-self-inside.ensures ∙ ap raised before)
 
 pub invariant_of-self-2 : goal.invariant_of-self-2
 invariant_of-self-2 g c =

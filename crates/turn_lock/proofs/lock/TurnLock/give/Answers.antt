@@ -7,7 +7,8 @@ fetch_add-served-requires g c =
     let inv = c.hand.invariant in (
       search rules,
       search rules,
-      hand_gives _ _ _ _ _ _ c.hand.inside.seat.me.0 c.hand.inside.seat.me.1 c.held.inside.book c.args.held.book c.args.held.taken c.args.held.taken_faults c.args.held.view.number
+      hand_gives _ _ _ _ _ _ _ _ c.hand.inside.seat.me.0 c.hand.inside.seat.me.1 c.held.inside.book c.args.held.book c.args.held.taken c.args.held.taken_faults c.args.held.view.number c.args.held.view.start
           c.exchange.ensures.3 inv.4 inv.3 inv.2 (ap (λ h. h.taken) c.hand.view_is ∙ ap (λ h. h.taken) c.held.view_is) (ap (λ h. h.taken_faults) c.hand.view_is ∙ ap (λ h. h.taken_faults) c.held.view_is)
-          (ap (λ h. h.view.number) c.hand.view_is ∙ ap (λ h. h.view.number) c.held.view_is) (ap (λ h. h.book) c.held.view_is) c.requires.grown c.requires.own c.requires.no_fewer_faults,
+          (ap (λ h. h.view.number) c.hand.view_is ∙ ap (λ h. h.view.number) c.held.view_is)
+          (ap (λ h. h.view.start) c.hand.view_is ∙ ap (λ h. h.view.start) c.held.view_is) (ap (λ h. h.book) c.held.view_is) c.requires.grown c.requires.own c.requires.no_fewer_faults c.requires.follows,
     )

@@ -11,5 +11,5 @@ split_seat-other-requires g c =
     let room = subst (λ (n : ℕ). n + 1 < c.args.self.now.seats) (sym (ap (λ p. p.view.split) c.pass.view_is)) c.requires.room in (
       search rules,
       search rules,
-      splits _ _ _ _ c.pass.inside.seat.me.0 number inv.1 (omega arith),
+      splits _ _ _ _ _ _ c.pass.inside.seat.me.0 number inv.1 (omega arith),
     )

@@ -10,7 +10,7 @@ load-found-requires g c =
     let same = c.loop.invariant.same in let r = c.requires.drawn in (
       search rules,
       search rules,
-      comes _ _ _ _ _ _ c.args.ticket (ap (λ m. m.0.turn) same ∙ r.0) (subst (λ m. 0 < m.0.passes) (sym same) r.1),
+      comes _ _ _ _ _ _ _ _ c.args.ticket (ap (λ m. m.0.turn) same ∙ r.0) (subst (λ m. 0 < m.0.passes) (sym same) r.1),
     )
 
 pub exchange-requires : goal.exchange-requires
