@@ -1,5 +1,5 @@
 -- Sums of charges.
-use Rattle.std.proofs.Common.{◌≡◌, ℕ, suc, inl, inr, subst, Contains, append_assoc, length-take, ◌+◌, ◌*◌, ◌<◌, ◌≤◌, Bool, true, false, cond, ◌&&◌, List, [], ◌∷◌, ◌++◌, length, take, drop, get_or, map, filter, sum, sum_by, unsigned_abs, refl, sym, ap, ◌∙◌, arith, drop-cons}
+use Rattle.std.proofs.Common.{◌≡◌, ℕ, suc, inl, inr, subst, Contains, append_assoc, length-take, ◌+◌, ◌-◌, ◌*◌, ◌<◌, ◌≤◌, Bool, true, false, cond, ◌&&◌, List, [], ◌∷◌, ◌++◌, length, take, drop, get_or, map, filter, sum, sum_by, unsigned_abs, refl, sym, ap, ◌∙◌, arith, drop-cons}
 use Rattle.std.specs.List.{flat_map, zip, list_all}
 use Rattle.std.proofs.lemmas.Bool.Decides.{nat_tests}
 use Rattle.std.proofs.lemmas.List.{append-nil, length-map, map-append, take_more}
@@ -166,6 +166,25 @@ charge-fits charges i c start old within is so_far =
     let next = charged_to-drop c.line charges i c within is in
     let all : cond (is_same_target c.line c.line) (amount c.amount) 0 ≡ amount c.amount = ap (λ (b : Bool). cond b (amount c.amount) 0) own in
     omega (arith, next, all, so_far)
+
+-- one more charge can be taken off, and is
+pub charge-held : (charges : List Charge) (i : ℕ) (c : Charge) (first old : ℕ) → i < length charges → c ≡ get_or charges i c
+    → charged_to c.line (charge_pairs charges) ≤ first
+    → old + charged_to c.line (charge_pairs charges) ≡ first + charged_to c.line (charge_pairs (drop i charges)) → amount c.amount ≤ old
+charge-held charges i c first old within is held so_far =
+    let own : is_same_target c.line c.line ≡ true = grind (arith, nat_tests) in
+    let next = charged_to-drop c.line charges i c within is in
+    let all : cond (is_same_target c.line c.line) (amount c.amount) 0 ≡ amount c.amount = ap (λ (b : Bool). cond b (amount c.amount) 0) own in
+    omega (arith, next, all, held, so_far)
+
+pub charge-off : (charges : List Charge) (i : ℕ) (c : Charge) (line : Target) (first old new : ℕ) → i < length charges → c ≡ get_or charges i c
+    → charged_to line (charge_pairs charges) ≤ first
+    → old + charged_to line (charge_pairs charges) ≡ first + charged_to line (charge_pairs (drop i charges))
+    → new ≡ old - cond (is_same_target c.line line) (amount c.amount) 0
+    → new + charged_to line (charge_pairs charges) ≡ first + charged_to line (charge_pairs (drop (i + 1) charges))
+charge-off charges i c line first old new within is held so_far less =
+    let next = charged_to-drop line charges i c within is in
+    omega (arith, next, held, so_far, less)
 
 -- there is room for one more charge
 pub room-next : (sums : LineSums) (charges : List Charge) (i : ℕ) (c : Charge) → i < length charges → c ≡ get_or charges i c

@@ -1,9 +1,9 @@
 -- Movements that are added at the end of those of their lines, and taken away again.
-use Rattle.std.proofs.Common.{◌≡◌, ℕ, suc, ◌+◌, ◌-◌, ◌*◌, ◌^◌, ◌<◌, ◌≤◌, sum_by, Bool, true, false, cond, List, [], ◌∷◌, ◌++◌, length, take, drop, get_or, filter, refl, sym, ap, ◌∙◌, arith, append_assoc, length-append, drop-cons, Result, Ok, Err, is_ok, Some, None, OnOk, OnErr}
+use Rattle.std.proofs.Common.{◌≡◌, ℕ, suc, ◌+◌, ◌-◌, ◌*◌, ◌^◌, ◌<◌, ◌≤◌, sum_by, Bool, true, false, cond, List, [], ◌∷◌, ◌++◌, length, take, drop, get_or, filter, fold, refl, sym, ap, ◌∙◌, arith, append_assoc, length-append, drop-cons, Result, Ok, Err, is_ok, Some, None, OnOk, OnErr}
 use Rattle.std.proofs.lemmas.Option.{none-some, same_Some}
 use Rattle.std.proofs.lemmas.List.{append-nil, append_cancel_right, take-append-le, take_all, take_more, take-append-drop}
 use Rattle.std.proofs.lemmas.List.Elements.{filter-append}
-use Rattle.std.proofs.lemmas.List.Sums.{sum_by-cons}
+use Rattle.std.proofs.lemmas.List.Sums.{fold-append, sum_by-cons}
 use Rattle.stock_nums.specs.Targets.{is_same_target}
 use Rattle.stock_nums.specs.declared.cause.Cause.{Cause}
 use Rattle.stock_nums.specs.declared.cause.Cause.TheVariants.{Receipt, Issue, TransferLeaves, TransferEnters, CustomerReturn, SupplierReturn}
@@ -15,7 +15,7 @@ use Rattle.stock_model.specs.Enough.{entry_units}
 use Rattle.stock_model.specs.Returns.{is_return_of, returns_of}
 use Rattle.stock_laws.proofs.Linked.{is_same_target-true, is_same_target-refl}
 use Rattle.cost_links.specs.Linked.{returns_to, back_by, back_of}
-use Rattle.cost_links.specs.Sources.{target_of, comes_before, units_before}
+use Rattle.cost_links.specs.Sources.{target_of, left_by, comes_before, units_before}
 use Rattle.cost_links.specs.declared.links.Links.{Links}
 use Rattle.cost_links.specs.Ends.{EndsWith, without_last}
 
@@ -128,6 +128,38 @@ stays-own target line old new others own = by_cases (is_same_target target line)
     by_cases : (b : Bool) → is_same_target target line ≡ b → new line ≡ old line
     by_cases true same = let alike = is_same_target-true target line same in ap new (sym alike) ∙ own ∙ ap old alike
     by_cases false same = others same
+
+-- the movements of a line, where those at the place of one were taken out of those of its target
+pub removed-own : (e : Entry) (target line : Target) (old new old_own new_own : List Entry) → target_of e.cause ≡ Some target
+    → (is_same_target target line ≡ true → target ≡ line → (old ≡ old_own) × (new ≡ new_own))
+    → (is_same_target target line ≡ false → new ≡ old) → new_own ≡ left_by old_own e
+    → new ≡ fold left_by old (filter (returns_of line) (e ∷ []))
+removed-own e target line old new old_own new_own is own others removed = by_cases (is_same_target target line) refl
+  where
+    by_cases : (b : Bool) → is_same_target target line ≡ b → new ≡ fold left_by old (filter (returns_of line) (e ∷ []))
+    by_cases true same =
+        let both = own same (is_same_target-true target line same) in
+        let kept : filter (returns_of line) (e ∷ []) ≡ e ∷ [] = ap (λ (b : Bool). cond b (e ∷ []) []) (returns-target e.cause target line is ∙ same) in
+        both.1 ∙ removed ∙ ap (λ (l : List Entry). left_by l e) (sym both.0) ∙ ap (fold left_by old) (sym kept)
+    by_cases false same =
+        let kept : filter (returns_of line) (e ∷ []) ≡ [] = ap (λ (b : Bool). cond b (e ∷ []) []) (returns-target e.cause target line is ∙ same) in
+        others same ∙ ap (fold left_by old) (sym kept)
+
+pub removed-none : (e : Entry) (line : Target) (old : List Entry) → target_of e.cause ≡ None → old ≡ fold left_by old (filter (returns_of line) (e ∷ []))
+removed-none e line old is =
+    let kept : filter (returns_of line) (e ∷ []) ≡ [] = ap (λ (b : Bool). cond b (e ∷ []) []) (returns-none e.cause line is) in
+    ap (fold left_by old) (sym kept)
+
+-- and of one more
+pub removed-next : (es : List Entry) (i : ℕ) (e : Entry) (line : Target) (start old new : List Entry) → i < length es → e ≡ get_or es i e
+    → old ≡ fold left_by start (filter (returns_of line) (take i es)) → new ≡ fold left_by old (filter (returns_of line) (e ∷ []))
+    → new ≡ fold left_by start (filter (returns_of line) (take (i + 1) es))
+removed-next es i e line start old new within is so_far removed =
+    let one_more : take (i + 1) es ≡ take i es ++ e ∷ [] = take_more es i e within ∙ ap (λ (x : Entry). take i es ++ x ∷ []) (sym is) in
+    removed ∙ ap (λ (fs : List Entry). fold left_by fs (filter (returns_of line) (e ∷ []))) so_far
+    ∙ sym (fold-append left_by start (filter (returns_of line) (take i es)) (filter (returns_of line) (e ∷ [])))
+    ∙ ap (fold left_by start) (sym (filter-append (returns_of line) (take i es) (e ∷ [])))
+    ∙ ap (λ (fs : List Entry). fold left_by start (filter (returns_of line) fs)) (sym one_more)
 
 -- few movements return few units
 units-next : (place : Place) (e : Entry) (es : List Entry) (b : Bool) → units_before place es ≤ length es * MAX_QUANTITY

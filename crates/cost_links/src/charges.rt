@@ -100,6 +100,16 @@ pub(crate) fn add_charges(sums: &mut LineSums, charges: &[Charge])
     }
 }
 
+/// Takes off what was charged to lines. It takes no memory.
+pub(crate) fn subtract_charges(sums: &mut LineSums, charges: &[Charge])
+    requires within { (line : Target) → charged_to line (charge_pairs charges.now) ≤ number_of sums.old line }
+    ensures { (line : Target) → number_of sums.new line + charged_to line (charge_pairs charges.now) ≡ number_of sums.old line }
+{
+    for charge in charges {
+        sums.subtract(charge.line, amount(charge.amount));
+    }
+}
+
 // Adds what a voucher charges at the end.
 fn push_charged(
     charges: &mut Lines<Charge>,

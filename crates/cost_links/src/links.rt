@@ -1,12 +1,13 @@
 //! What is charged to lines of vouchers and returned of them.
-ghost use Rattle.std.specs.Prelude.{◌≡◌, ◌+◌, ◌^◌, ◌<◌, ◌≤◌, [], ◌++◌, filter, pos, OnOk, OnErr};
+ghost use Rattle.std.specs.Prelude.{◌≡◌, ◌+◌, ◌^◌, ◌<◌, ◌≤◌, [], ◌++◌, filter, fold, pos, OnOk, OnErr};
 ghost use Rattle.stock_nums.specs.declared.cause.Target.{Target};
 ghost use Rattle.stock_nums.specs.declared.limits.TheConstants.{MAX_VALUE};
 ghost use Rattle.stock_model.specs.Returns.{returns_of};
 ghost use Rattle.cost_links.specs.Charged.{charge_pairs, charged_to};
 ghost use Rattle.cost_links.specs.Linked.{charged_of, returns_to, back_of};
+ghost use Rattle.cost_links.specs.Sources.{left_by};
 
-use crate::charges::{Charge, add_charges, reserve_lines};
+use crate::charges::{Charge, add_charges, reserve_lines, subtract_charges};
 use crate::returns::Returns;
 use std::alloc::Global;
 use stock_nums::cause::{Cause, Target};
@@ -52,6 +53,17 @@ impl Links {
         self.returns.add(alloc, entries)?;
         add_charges(&mut self.charges, charges);
         Ok(())
+    }
+
+    /// Takes charges off, and takes those returns out that stand where one of the movements does, which returns units of the
+    /// same line. It takes no memory.
+    pub fn remove(&mut self, entries: &[Entry], charges: &[Charge])
+        requires within { (line : Target) → charged_to line (charge_pairs charges.now) ≤ charged_of self.old line }
+        ensures charges { (line : Target) → charged_of self.new line + charged_to line (charge_pairs charges.now) ≡ charged_of self.old line }
+        ensures returns { (line : Target) → returns_to self.new line ≡ fold left_by (returns_to self.old line) (filter (returns_of line) entries.now) }
+    {
+        self.returns.remove(entries);
+        subtract_charges(&mut self.charges, charges);
     }
 
     /// What is charged to the line. It takes no memory.

@@ -1,10 +1,10 @@
 //! The movements that return units of lines of vouchers.
-ghost use Rattle.std.specs.Prelude.{◌≡◌, ◌^◌, ◌<◌, [], ◌∷◌, ◌++◌, false, filter, is_ok, if◌then◌else◌, OnOk, OnErr};
+ghost use Rattle.std.specs.Prelude.{◌≡◌, ◌^◌, ◌<◌, [], ◌∷◌, ◌++◌, false, filter, fold, is_ok, if◌then◌else◌, OnOk, OnErr};
 ghost use Rattle.stock_nums.specs.Targets.{is_same_target};
 ghost use Rattle.stock_nums.specs.declared.cause.Target.{Target};
 ghost use Rattle.stock_model.specs.Returns.{is_return_of, returns_of};
 ghost use Rattle.cost_links.specs.Tables.{entries_to};
-ghost use Rattle.cost_links.specs.Sources.{target_of, units_before};
+ghost use Rattle.cost_links.specs.Sources.{target_of, is_elsewhere, left_by, units_before};
 ghost use Rattle.cost_links.specs.Ends.{EndsWith, without_last};
 
 use std::alloc::Global;
@@ -61,6 +61,34 @@ impl Returns {
             }
         }
         Ok(())
+    }
+
+    /// Takes those that stand where one of the movements does, which returns units of the same line, out. It takes no memory.
+    pub(crate) fn remove(&mut self, entries: &[Entry])
+        ensures { (line : Target) → entries_to self.new line ≡ fold left_by (entries_to self.old line) (filter (returns_of line) entries.now) }
+    {
+        for entry in entries {
+            self.remove_one(entry);
+        }
+    }
+
+    // Takes those that stand where the movement does out, where it is a return.
+    fn remove_one(&mut self, entry: &Entry)
+        ensures { (line : Target) → entries_to self.new line ≡ fold left_by (entries_to self.old line) (filter (returns_of line) (entry.now ∷ [])) }
+    {
+        if let Some(line) = target_of(entry) {
+            self.take_out(line, &entry.place);
+        }
+    }
+
+    // Takes the movements of the line that stand at the place out.
+    fn take_out(&mut self, line: Target, place: &Place)
+        ensures own { entries_to self.new line ≡ filter (is_elsewhere place.now) (entries_to self.old line) }
+        ensures others { (other : Target) → is_same_target line other ≡ false → entries_to self.new other ≡ entries_to self.old other }
+    {
+        if let Some(entries) = self.by_line.get_mut(&line) {
+            entries.retain(|entry| is_elsewhere(entry, place));
+        }
     }
 
     // Adds the movement, where it is a return. A refusal changes nothing.
@@ -135,6 +163,13 @@ fn target_of(entry: &Entry) -> Option<Target>
         } => Some(target),
         _ => None,
     }
+}
+
+// Whether the movement stands at another place.
+fn is_elsewhere(entry: &Entry, place: &Place) -> bool
+    ensures { result ≡ is_elsewhere place.now entry.now }
+{
+    entry.place.is_before(place) || place.is_before(&entry.place)
 }
 
 // How many units have those of the movements that come before the place.

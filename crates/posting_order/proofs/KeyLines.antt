@@ -44,7 +44,7 @@ Each-passing P p (x ∷ xs) h = by_cases (p x) refl (Each-passing P p xs) h
     by_cases false is rest k = (λ passes. absurd (false≢true (sym is ∙ passes)), rest k)
 
 -- two tests in either order keep the same
-filter-swap : {X : Type 0} (p q : X → Bool) (xs : List X) → filter p (filter q xs) ≡ filter q (filter p xs)
+pub filter-swap : {X : Type 0} (p q : X → Bool) (xs : List X) → filter p (filter q xs) ≡ filter q (filter p xs)
 filter-swap p q [] = refl
 filter-swap p q (x ∷ xs) = by_cases (p x) (q x) refl refl (filter-swap p q xs)
   where
@@ -189,7 +189,7 @@ HasNoneAt-from_none es cs e are none =
     ]
 
 -- only the movement that is found stands at the place
-own-place : (place : Place) (es : List Entry) (e : Entry) → Pairwise IsBefore es → entry_at es place ≡ Some e → Each (λ f. is_at place f ≡ true → f ≡ e) es
+pub own-place : (place : Place) (es : List Entry) (e : Entry) → Pairwise IsBefore es → entry_at es place ≡ Some e → Each (λ f. is_at place f ≡ true → f ≡ e) es
 own-place place [] e order found = tt
 own-place place (f ∷ fs) e order found = by_cases (is_at place f) refl (own-place place fs e order.1) found
   where
@@ -202,7 +202,7 @@ own-place place (f ∷ fs) e order found = by_cases (is_at place f) refl (own-pl
     by_cases false is rest h = (λ at. absurd (false≢true (sym is ∙ at)), rest h)
 
 -- a test that a second one implies is told by the second alone
-not-both : (a b : Bool) → (b ≡ true → a ≡ true) → not (a && b) ≡ not b
+pub not-both : (a b : Bool) → (b ≡ true → a ≡ true) → not (a && b) ≡ not b
 not-both true b h = refl
 not-both false true h = absurd (false≢true (h refl))
 not-both false false h = refl

@@ -1,7 +1,8 @@
 -- Lists in which at most one passes a test: the one that is found, and what changes with it.
-use Rattle.std.proofs.Common.{◌≡◌, ℕ, zero, suc, Bool, true, false, cond, List, [], ◌∷◌, map, set, slice_get, Some, None, refl, sym, ap, ◌∙◌, arith, Contains}
+use Rattle.std.proofs.Common.{◌≡◌, ℕ, zero, suc, Bool, true, false, cond, not, List, [], ◌∷◌, map, filter, remove, set, slice_get, Some, None, refl, sym, ap, ◌∙◌, arith, Contains}
 use Rattle.std.specs.List.{find}
 use Rattle.std.specs.Option.{option_map}
+use Rattle.std.proofs.lemmas.Bool.{false≢true}
 use Rattle.stock_model.proofs.Pairwise.{Each, Contains-later}
 
 module _ {X : Type 0} where
@@ -75,6 +76,43 @@ module _ {X : Type 0} where
       let same : y ≡ x = cc in
       rw h.0 (ap (λ z. f z ∷ map (λ w. cond (p w) (f w) w) xs) same ∙ ap (λ ys. f x ∷ ys) (map-none p f xs h.1))
   map-StandsAt p f (y ∷ xs) (suc n) x h is = rw h.0 (ap (λ ys. y ∷ ys) (map-StandsAt p f xs n x h.1 is))
+
+  -- where none passes, none goes with those that do
+  pub filter-none : (p : X → Bool) (xs : List X) → Each (Fails p) xs → filter (λ x. not (p x)) xs ≡ xs
+  filter-none p [] h = refl
+  filter-none p (x ∷ xs) h = rw h.0 (ap (λ ys. x ∷ ys) (filter-none p xs h.1))
+
+  -- and where one does, that one goes
+  pub filter-StandsAt : (p : X → Bool) (xs : List X) (n : ℕ) → StandsAt p xs n → filter (λ x. not (p x)) xs ≡ remove xs n
+  filter-StandsAt p [] n h = absurd h
+  filter-StandsAt p (x ∷ xs) zero h = rw h.0 (filter-none p xs h.1)
+  filter-StandsAt p (x ∷ xs) (suc n) h = rw h.0 (ap (λ ys. x ∷ ys) (filter-StandsAt p xs n h.1))
+
+  -- of those left when these went none passes
+  pub find-gone : (p : X → Bool) (xs : List X) → find p (filter (λ x. not (p x)) xs) ≡ None
+  find-gone p [] = refl
+  find-gone p (x ∷ xs) = by_cases (p x) refl (find-gone p xs)
+    where
+      left : List X
+      left = filter (λ y. not (p y)) xs
+
+      by_cases : (b : Bool) → p x ≡ b → find p left ≡ None → find p (cond (not b) (x ∷ left) left) ≡ None
+      by_cases true is rest = rest
+      by_cases false is rest = ap (λ b. cond b (Some x) (find p left)) is ∙ rest
+
+  -- and what passes another test that none of these does is found as before
+  pub find-left : (p q : X → Bool) → ((x : X) → p x ≡ true → q x ≡ false) → (xs : List X) → find p (filter (λ x. not (q x)) xs) ≡ find p xs
+  find-left p q apart [] = refl
+  find-left p q apart (x ∷ xs) = by_cases (q x) refl (find-left p q apart xs)
+    where
+      left : List X
+      left = filter (λ y. not (q y)) xs
+
+      by_cases : (b : Bool) → q x ≡ b → find p left ≡ find p xs → find p (cond (not b) (x ∷ left) left) ≡ cond (p x) (Some x) (find p xs)
+      by_cases true is rest =
+          let other = fails_from_not_passes p x (λ passes. false≢true (sym (apart x passes) ∙ is)) in
+          rest ∙ sym (ap (λ b. cond b (Some x) (find p xs)) other)
+      by_cases false is rest = ap (λ o. cond (p x) (Some x) o) rest
 
   -- what is found among those that were changed, but not for the test
   pub find-map : (p : X → Bool) (f : X → X) → ((x : X) → p (f x) ≡ p x) → (xs : List X)

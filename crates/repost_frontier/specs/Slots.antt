@@ -1,5 +1,5 @@
 -- Movements in posting order, each with what was last found of it.
-use Rattle.std.specs.Prelude.{ℕ, ℤ, pos, ◌-ℤ◌, ◌++◌, Bool, true, false, ◌&&◌, not, List, [], ◌∷◌, map, take, drop, Option, Some, None, if◌then◌else◌}
+use Rattle.std.specs.Prelude.{ℕ, ℤ, pos, ◌-ℤ◌, ◌++◌, Bool, true, false, ◌&&◌, not, List, [], ◌∷◌, map, filter, take, drop, Option, Some, None, if◌then◌else◌}
 use Rattle.std.specs.List.{find}
 use Rattle.stock_nums.specs.Places.{is_before}
 use Rattle.stock_nums.specs.declared.entry.Entry.{Entry}
@@ -43,6 +43,10 @@ slot_at slots place = find (is_slot_at place) slots
 abbrev pub put_slot : List Slot → Slot → List Slot
 put_slot [] s = s ∷ []
 put_slot (t ∷ ts) s = if is_before (slot_place s) (slot_place t) then s ∷ t ∷ ts else t ∷ put_slot ts s
+
+-- the movements but the one at this place
+abbrev pub slots_without : List Slot → Place → List Slot
+slots_without slots place = filter (λ s. not (is_slot_at place s)) slots
 
 -- a movement that was never valued
 abbrev pub new_slot : Entry → Slot

@@ -1,10 +1,10 @@
 //! Movements in posting order, found by their places, with the first suspect found at once.
-ghost use Rattle.std.specs.Prelude.{◌≡◌, ◌+◌, ◌<◌, ◌≤◌, ◌^◌, [], List, Some, None, length, take, drop, map, min, position, IfSome, OnOk};
+ghost use Rattle.std.specs.Prelude.{◌≡◌, ◌+◌, ◌<◌, ◌≤◌, ◌^◌, [], List, Some, None, length, take, drop, map, min, position, remove, slice_get, MatchOption, IfSome, OnOk};
 ghost use Rattle.std.specs.List.{find};
 ghost use Rattle.std.specs.Option.{option_copied};
 ghost use Rattle.stock_model.specs.InOrder.{IsInPostingOrder};
 ghost use Rattle.stock_model.specs.PostingOrder.{put};
-ghost use Rattle.repost_frontier.specs.Slots.{slot_entry, slot_at, is_slot_at, put_slot, new_slot, marks, with_value, is_suspect, is_revalued, as_published, published_until};
+ghost use Rattle.repost_frontier.specs.Slots.{slot_entry, slot_at, is_slot_at, put_slot, slots_without, new_slot, marks, with_value, is_suspect, is_revalued, as_published, published_until};
 
 use crate::slot::Slot;
 use block_list::bound::Bound;
@@ -181,6 +181,18 @@ impl Frontier {
         self.list.insert_before(&bound, Slot::new(entry));
     }
 
+    /// Takes the movement at this place out, if there is one, with what was found of it. The others stay as they are, and no
+    /// room is lost. It takes no memory.
+    pub fn remove(&mut self, place: &Place) -> Option<Slot>
+        ensures taken { result ≡ slot_at self.old.slots place.now }
+        ensures rest { self.new.slots ≡ slots_without self.old.slots place.now }
+        ensures in_order { IsInPostingOrder (map slot_entry self.new.slots) }
+        ensures room { self.old.spare ≤ self.new.spare }
+    {
+        let index = index_of(&self.list, place)?;
+        Some(self.list.remove(index))
+    }
+
     /// The movement at this place. None exactly where there is none. It takes no memory.
     pub fn get(&self, place: &Place) -> Option<&Slot>
         ensures found { option_copied result ≡ slot_at self.now.slots place.now }
@@ -255,6 +267,27 @@ fn standing_at<'a>(list: &'a BlockList<Slot, Suspect>, place: &Place) -> Option<
         Some(slot)
     } else {
         None
+    }
+}
+
+// Where the movement at the place stands, or None where there is none.
+fn index_of(list: &BlockList<Slot, Suspect>, place: &Place) -> Option<usize>
+    requires { IsInPostingOrder (map slot_entry list.now.items) }
+    ensures found { MatchOption result (slot_at list.now.items place.now ≡ None)
+        (λ index. (index < length list.now.items) × (slot_at list.now.items place.now ≡ slice_get list.now.items index)) }
+    ensures rest { MatchOption result (slots_without list.now.items place.now ≡ list.now.items)
+        (λ index. slots_without list.now.items place.now ≡ remove list.now.items index) }
+{
+    let index = list.partition_point(&Before { place: *place });
+    match list.get(index) {
+        Some(slot) => {
+            if is_slot_at(slot, place) {
+                Some(index)
+            } else {
+                None
+            }
+        }
+        None => None,
     }
 }
 

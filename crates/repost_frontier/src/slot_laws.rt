@@ -1,14 +1,15 @@
 //! What the calls of a frontier make of it, as the laws of a revaluation say it.
-ghost use Rattle.std.specs.Prelude.{◌≡◌, ◌≢◌, true, false, List, Option, Some, None, map, Contains};
+ghost use Rattle.std.specs.Prelude.{◌≡◌, ◌≢◌, true, false, List, Option, Some, None, map, filter, not, Contains};
 ghost use Rattle.std.specs.List.{find};
 ghost use Rattle.stock_nums.specs.declared.entry.Entry.{Entry};
 ghost use Rattle.stock_nums.specs.declared.place.Place.{Place};
 ghost use Rattle.stock_model.specs.InOrder.{IsInPostingOrder};
 ghost use Rattle.stock_model.specs.PostingOrder.{put};
 ghost use Rattle.cost_links.specs.declared.values.Valued.{Valued};
+ghost use Rattle.key_order.specs.SamePlace.{is_same_place};
 ghost use Rattle.repost_laws.specs.Builds.{IsFoundAt, IsValuedAt, IsFirst, IsClean};
 ghost use Rattle.repost_frontier.specs.Readings.{value_of, found_of, suspects_of, revalued_of};
-ghost use Rattle.repost_frontier.specs.Slots.{slot_entry, slot_at, put_slot, new_slot, marks, with_value, is_suspect, as_published};
+ghost use Rattle.repost_frontier.specs.Slots.{slot_entry, slot_at, put_slot, slots_without, new_slot, marks, with_value, is_suspect, as_published};
 ghost use Rattle.repost_frontier.specs.declared.slot.Slot.{Slot};
 
 /// A value that is told of a movement is what is found at its place from then on. The movement there is suspect no longer and
@@ -48,6 +49,15 @@ pub fn new_ones_are_suspect()
         → revalued_of (put_slot slots (new_slot e)) p ≡ revalued_of slots p }
     ensures entries { (slots : List Slot) (e : Entry)
         → map slot_entry (put_slot slots (new_slot e)) ≡ put (map slot_entry slots) e }
+{}
+
+/// At a place whose movement is taken out there is none, and at others there is what there was.
+pub fn one_that_goes_is_gone()
+    ensures gone { (slots : List Slot) (place : Place) → slot_at (slots_without slots place) place ≡ None }
+    ensures others { (slots : List Slot) (place p : Place) → p ≢ place
+        → slot_at (slots_without slots place) p ≡ slot_at slots p }
+    ensures entries { (slots : List Slot) (place : Place)
+        → map slot_entry (slots_without slots place) ≡ filter (λ e. not (is_same_place e.place place)) (map slot_entry slots) }
 {}
 
 /// The first movement in posting order that is suspect is the first suspect of the line, and where there is none the line is

@@ -8,6 +8,7 @@ ghost use Rattle.stock_model.specs.Enough.{entry_key, is_of_key, entered, depart
 ghost use Rattle.stock_model.specs.PostingOrder.{put};
 ghost use Rattle.stock_model.specs.Values.{own_line};
 ghost use Rattle.cost_links.specs.Sources.{entry_place};
+ghost use Rattle.posting_order.specs.Timelines.{without};
 ghost use Rattle.repost_laws.specs.Ranges.{units_in_before, units_out_before};
 ghost use Rattle.repost_laws.specs.Touched.{next_of_key};
 ghost use Rattle.repost_laws.specs.Valuations.{earlier, last_of_key};
@@ -129,6 +130,22 @@ impl Index {
         self.keys.insert(Change::of(entry));
         self.ranges.insert(entry);
         keep(&mut self.moments, entry.place.voucher, entry.place.moment);
+    }
+
+    /// Makes a movement of the line be found no longer. No room is lost, and the moments of records stay. It takes no memory.
+    pub fn remove(&mut self, entry: &Entry)
+        ghost line: { List Entry }
+        requires indexed { AreIndexed line self.old }
+        requires held { Contains line entry.now }
+        ensures indexed { AreIndexed (without line entry.now.place) self.new }
+        ensures moments { self.new.moments ≡ self.old.moments }
+        ensures keys_room { self.old.keys_spare ≤ self.new.keys_spare }
+        ensures entering_room { self.old.entering_spare ≤ self.new.entering_spare }
+        ensures leaving_room { self.old.leaving_spare ≤ self.new.leaving_spare }
+        ensures dates_room { self.new.dates_spare ≡ self.old.dates_spare }
+    {
+        self.keys.remove(key_of(entry), &entry.place);
+        self.ranges.remove(entry);
     }
 
     /// The place of the last movement of the same item in the same warehouse that comes before the movement. None exactly where

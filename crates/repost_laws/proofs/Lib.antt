@@ -3,15 +3,18 @@ pub mod EarlierOnes
 pub mod FoundRows
 pub mod LocalRows
 pub mod Filtered
-pub mod LongerLines
+pub mod ChangedLines
 pub mod Spreading
 pub mod Turns
 pub mod TurnCounts
 pub mod JournalFronts
 pub mod MoreCharges
+pub mod ChangedCharges
 pub mod MoreRecords
+pub mod ChangedJournals
 pub mod MoreMovements
 pub mod SincePublished
+pub mod SinceChanges
 pub mod FirstSuspect
 pub mod NextOnes
 pub mod RangePieces
@@ -20,4 +23,5 @@ pub mod LooksTouched
 pub mod LooksLeft
 pub mod LooksStarted
 pub mod InOrderFound
+pub mod NothingGone
 pub mod WholeSteps

@@ -20,8 +20,8 @@ use Rattle.stock_model.proofs.Pairwise.{Pairwise, Pairwise-from_AllPairs, Contai
 use Rattle.stock_laws.proofs.CostedRows.{both}
 use Rattle.stock_laws.proofs.Linked.{is_same_target-true, is_same_target-refl}
 use Rattle.cost_links.specs.Sources.{comes_before}
-use Rattle.repost_laws.specs.Looks.{IsNextAfterNew, StartsFromNew, LeavesAfterNew, FollowsNewReturn}
-use Rattle.repost_laws.specs.Touched.{is_new, follows_by, follows_return, follows_any, is_touched}
+use Rattle.repost_laws.specs.Looks.{IsNextAfter, StartsFromOne, LeavesAfterOne, FollowsReturn, StartsFromNew, LeavesAfterNew, FollowsNewReturn}
+use Rattle.repost_laws.specs.Touched.{is_new, is_changed, follows_by, follows_return, follows_any, is_touched, is_touched_by}
 use Rattle.repost_laws.specs.Valuations.{earlier, last_of_key}
 use Rattle.repost_laws.proofs.EarlierOnes.{never_both, never_itself}
 use Rattle.repost_laws.proofs.Filtered.{Contains-filtered, Contains-filter}
@@ -57,34 +57,34 @@ before-ordered : (line : List Entry) (f : Entry) → IsInPostingOrder line → P
 before-ordered line f in_order = Pairwise-from_AllPairs IsBefore (earlier line f)
     (AllPairs-filter IsBefore (comes_before f.place) line in_order)
 
--- at the moving average a movement follows a new one exactly where it is the next one after it
-average-to : (n : ℕ) (line : List Entry) (f : Entry) → IsInPostingOrder line → Contains line f → f.method ≡ Average
-    → follows_by Average (is_new n) (earlier line f) f ≡ true → StartsFromNew n line f
-average-to n line f in_order held is follows = by_cases (last_of_key (earlier line f) (entry_key f)) refl follows
+-- at the moving average a movement follows one that passes exactly where it is the next one after it
+average-to : (test : Entry → Bool) (line : List Entry) (f : Entry) → IsInPostingOrder line → Contains line f → f.method ≡ Average
+    → follows_by Average test (earlier line f) f ≡ true → StartsFromOne test line f
+average-to test line f in_order held is follows = by_cases (last_of_key (earlier line f) (entry_key f)) refl follows
   where
-    by_cases : (o : Option Entry) → last_of_key (earlier line f) (entry_key f) ≡ o → option_map_or (is_new n) o false ≡ true
-        → StartsFromNew n line f
+    by_cases : (o : Option Entry) → last_of_key (earlier line f) (entry_key f) ≡ o → option_map_or test o false ≡ true
+        → StartsFromOne test line f
     by_cases None last new = absurd (false≢true new)
     by_cases (Some g) last new =
         let of = found-last (is_of_key (entry_key f)) (earlier line f) g (before-ordered line f in_order) last in
         let in_line = Contains-filtered (comes_before f.place) line g of.held in
         (is, g, new, in_line.0, (next-last line f g in_order held in_line.0).0 last)
 
-average-from : (n : ℕ) (line : List Entry) (f : Entry) → IsInPostingOrder line → Contains line f → StartsFromNew n line f
-    → follows_by f.method (is_new n) (earlier line f) f ≡ true
-average-from n line f in_order held (is, g, new, in_line, next) =
-    ap (λ (m : Method). follows_by m (is_new n) (earlier line f) f) is
-    ∙ ap (λ (o : Option Entry). option_map_or (is_new n) o false) ((next-last line f g in_order held in_line).1 next) ∙ new
+average-from : (test : Entry → Bool) (line : List Entry) (f : Entry) → IsInPostingOrder line → Contains line f → StartsFromOne test line f
+    → follows_by f.method test (earlier line f) f ≡ true
+average-from test line f in_order held (is, g, new, in_line, next) =
+    ap (λ (m : Method). follows_by m test (earlier line f) f) is
+    ∙ ap (λ (o : Option Entry). option_map_or test o false) ((next-last line f g in_order held in_line).1 next) ∙ new
 
--- a new movement of the item of this one in its warehouse
-abbrev is_new_of : ℕ → Entry → Entry → Bool
-is_new_of n f g = is_of_key (entry_key f) g && is_new n g
+-- one that passes, of the item of this one in its warehouse
+abbrev is_passing_of : (Entry → Bool) → Entry → Entry → Bool
+is_passing_of test f g = is_of_key (entry_key f) g && test g
 
--- first in, first out one that leaves follows a new one exactly where some new one is the last before it
-last-new : (n : ℕ) (line : List Entry) (f g : Entry) → IsLastOf (is_new_of n f) (earlier line f) g → IsNextAfterNew n line g f
-last-new n line f g of =
+-- first in, first out one that leaves follows one that passes exactly where some such is the last before it
+last-new : (test : Entry → Bool) (line : List Entry) (f g : Entry) → IsLastOf (is_passing_of test f) (earlier line f) g → IsNextAfter test line g f
+last-new test line f g of =
     let in_line = Contains-filtered (comes_before f.place) line g of.held in
-    let own = both-true (is_of_key (entry_key f) g) (is_new n g) of.passes in
+    let own = both-true (is_of_key (entry_key f) g) (test g) of.passes in
     record {
       held = in_line.0;
       new = own.1;
@@ -97,42 +97,42 @@ last-new n line f g of =
           ];
     }
 
-fifo-to : (n : ℕ) (line : List Entry) (f : Entry) → IsInPostingOrder line → f.method ≡ Fifo
-    → follows_by Fifo (is_new n) (earlier line f) f ≡ true → LeavesAfterNew n line f
-fifo-to n line f in_order is follows =
+fifo-to : (test : Entry → Bool) (line : List Entry) (f : Entry) → IsInPostingOrder line → f.method ≡ Fifo
+    → follows_by Fifo test (earlier line f) f ≡ true → LeavesAfterOne test line f
+fifo-to test line f in_order is follows =
     let past = earlier line f in
-    let parts = both-true (not (is_entering f.place.side)) (list_any (is_new n) (filter (is_of_key (entry_key f)) past)) follows in
-    let some = passing (is_new n) (filter (is_of_key (entry_key f)) past) parts.1 in
+    let parts = both-true (not (is_entering f.place.side)) (list_any test (filter (is_of_key (entry_key f)) past)) follows in
+    let some = passing test (filter (is_of_key (entry_key f)) past) parts.1 in
     let of = Contains-filtered (is_of_key (entry_key f)) past some.x some.held in
     let one = last some.x of.0 (both of.1 some.passes) in
     (is, not-true (is_entering f.place.side) parts.0, one.0, one.1)
   where
-    last : (x : Entry) → Contains (earlier line f) x → is_new_of n f x ≡ true → (g : Entry) × IsNextAfterNew n line g f
-    last x held own = by_cases (find (is_new_of n f) (reverse (earlier line f))) refl
+    last : (x : Entry) → Contains (earlier line f) x → is_passing_of test f x ≡ true → (g : Entry) × IsNextAfter test line g f
+    last x held own = by_cases (find (is_passing_of test f) (reverse (earlier line f))) refl
       where
-        by_cases : (o : Option Entry) → find (is_new_of n f) (reverse (earlier line f)) ≡ o
-            → (g : Entry) × IsNextAfterNew n line g f
-        by_cases None none = absurd (false≢true (sym (none-last (is_new_of n f) (earlier line f) none x held) ∙ own))
+        by_cases : (o : Option Entry) → find (is_passing_of test f) (reverse (earlier line f)) ≡ o
+            → (g : Entry) × IsNextAfter test line g f
+        by_cases None none = absurd (false≢true (sym (none-last (is_passing_of test f) (earlier line f) none x held) ∙ own))
         by_cases (Some g) found = (
           g,
-          last-new n line f g
-              (found-last (is_new_of n f) (earlier line f) g (before-ordered line f in_order) found),
+          last-new test line f g
+              (found-last (is_passing_of test f) (earlier line f) g (before-ordered line f in_order) found),
         )
 
-fifo-from : (n : ℕ) (line : List Entry) (f : Entry) → LeavesAfterNew n line f
-    → follows_by f.method (is_new n) (earlier line f) f ≡ true
-fifo-from n line f (is, leaves, g, after) =
+fifo-from : (test : Entry → Bool) (line : List Entry) (f : Entry) → LeavesAfterOne test line f
+    → follows_by f.method test (earlier line f) f ≡ true
+fifo-from test line f (is, leaves, g, after) =
     let past = earlier line f in
     let in_past = Contains-filter (comes_before f.place) line g after.held after.before in
-    ap (λ (m : Method). follows_by m (is_new n) past f) is
-    ∙ both (ap not leaves) (any-passing (is_new n) (filter (is_of_key (entry_key f)) past) g
+    ap (λ (m : Method). follows_by m test past f) is
+    ∙ both (ap not leaves) (any-passing test (filter (is_of_key (entry_key f)) past) g
     (Contains-filter (is_of_key (entry_key f)) past g in_past after.of_key) after.new)
 
--- a return follows a new one exactly where a new return of its line comes before it
-earlier-return : (n : ℕ) (line : List Entry) (f : Entry) (target : Target) → is_return_of target f.cause ≡ true
-    → list_any (is_new n) (filter (returns_of target) (earlier line f)) ≡ true → FollowsNewReturn n line f
-earlier-return n line f target returns some =
-    let one = passing (is_new n) (filter (returns_of target) (earlier line f)) some in
+-- a return follows one that passes exactly where such a return of its line comes before it
+earlier-return : (test : Entry → Bool) (line : List Entry) (f : Entry) (target : Target) → is_return_of target f.cause ≡ true
+    → list_any test (filter (returns_of target) (earlier line f)) ≡ true → FollowsReturn test line f
+earlier-return test line f target returns some =
+    let one = passing test (filter (returns_of target) (earlier line f)) some in
     let of = Contains-filtered (returns_of target) (earlier line f) one.x one.held in
     let in_line = Contains-filtered (comes_before f.place) line one.x of.0 in
     record {
@@ -145,51 +145,54 @@ earlier-return n line f target returns some =
       before = in_line.1;
     }
 
-return-to : (n : ℕ) (line : List Entry) (f : Entry) (cause : Cause) → f.cause ≡ cause
-    → follows_return (is_new n) (earlier line f) cause ≡ true → FollowsNewReturn n line f
-return-to n line f (CustomerReturn target issued) is follows =
-    earlier-return n line f target (ap (is_return_of target) is ∙ is_same_target-refl target) follows
-return-to n line f (SupplierReturn target amount received) is follows =
-    earlier-return n line f target (ap (is_return_of target) is ∙ is_same_target-refl target) follows
-return-to n line f (Receipt amount) is follows = absurd (false≢true follows)
-return-to n line f (Issue sold) is follows = absurd (false≢true follows)
-return-to n line f TransferLeaves is follows = absurd (false≢true follows)
-return-to n line f TransferEnters is follows = absurd (false≢true follows)
+return-to : (test : Entry → Bool) (line : List Entry) (f : Entry) (cause : Cause) → f.cause ≡ cause
+    → follows_return test (earlier line f) cause ≡ true → FollowsReturn test line f
+return-to test line f (CustomerReturn target issued) is follows =
+    earlier-return test line f target (ap (is_return_of target) is ∙ is_same_target-refl target) follows
+return-to test line f (SupplierReturn target amount received) is follows =
+    earlier-return test line f target (ap (is_return_of target) is ∙ is_same_target-refl target) follows
+return-to test line f (Receipt amount) is follows = absurd (false≢true follows)
+return-to test line f (Issue sold) is follows = absurd (false≢true follows)
+return-to test line f TransferLeaves is follows = absurd (false≢true follows)
+return-to test line f TransferEnters is follows = absurd (false≢true follows)
 
-any-return : (n : ℕ) (line : List Entry) (f : Entry) (target : Target) → (r : FollowsNewReturn n line f)
-    → is_same_target target r.target ≡ true → list_any (is_new n) (filter (returns_of target) (earlier line f)) ≡ true
-any-return n line f target r is =
+any-return : (test : Entry → Bool) (line : List Entry) (f : Entry) (target : Target) → (r : FollowsReturn test line f)
+    → is_same_target target r.target ≡ true → list_any test (filter (returns_of target) (earlier line f)) ≡ true
+any-return test line f target r is =
     let same : target ≡ r.target = is_same_target-true target r.target is in
-    any-passing (is_new n) (filter (returns_of target) (earlier line f)) r.g
+    any-passing test (filter (returns_of target) (earlier line f)) r.g
     (Contains-filter (returns_of target) (earlier line f) r.g
     (Contains-filter (comes_before f.place) line r.g r.held r.before)
     (ap (λ (t : Target). returns_of t r.g) same ∙ r.same)) r.new
 
-return-from : (n : ℕ) (line : List Entry) (f : Entry) (cause : Cause) → (r : FollowsNewReturn n line f)
-    → is_return_of r.target cause ≡ true → follows_return (is_new n) (earlier line f) cause ≡ true
-return-from n line f (CustomerReturn target issued) r returns = any-return n line f target r returns
-return-from n line f (SupplierReturn target amount received) r returns = any-return n line f target r returns
-return-from n line f (Receipt amount) r returns = absurd (false≢true returns)
-return-from n line f (Issue sold) r returns = absurd (false≢true returns)
-return-from n line f TransferLeaves r returns = absurd (false≢true returns)
-return-from n line f TransferEnters r returns = absurd (false≢true returns)
+return-from : (test : Entry → Bool) (line : List Entry) (f : Entry) (cause : Cause) → (r : FollowsReturn test line f)
+    → is_return_of r.target cause ≡ true → follows_return test (earlier line f) cause ≡ true
+return-from test line f (CustomerReturn target issued) r returns = any-return test line f target r returns
+return-from test line f (SupplierReturn target amount received) r returns = any-return test line f target r returns
+return-from test line f (Receipt amount) r returns = absurd (false≢true returns)
+return-from test line f (Issue sold) r returns = absurd (false≢true returns)
+return-from test line f TransferLeaves r returns = absurd (false≢true returns)
+return-from test line f TransferEnters r returns = absurd (false≢true returns)
 
--- why new records touch the movement
-abbrev IsTouchedBy : ℕ → (Target → Bool) → List Entry → Entry → Type 0
-IsTouchedBy n charged line f =
-    (is_new n f ≡ true) ⊎ (charged (own_line f) ≡ true) ⊎ StartsFromNew n line f ⊎ LeavesAfterNew n line f
-    ⊎ FollowsNewReturn n line f
+-- why the movement is touched: it comes itself, another sum is charged to its line, or it follows one that passes
+abbrev IsTouchedBy : ℕ → (Entry → Bool) → (Target → Bool) → List Entry → Entry → Type 0
+IsTouchedBy n test charged line f =
+    (is_new n f ≡ true) ⊎ (charged (own_line f) ≡ true) ⊎ StartsFromOne test line f ⊎ LeavesAfterOne test line f
+    ⊎ FollowsReturn test line f
 
-touched-to : (n : ℕ) (charged : Target → Bool) (line : List Entry) (f : Entry) → IsInPostingOrder line → Contains line f
-    → is_touched n charged line f ≡ true → IsTouchedBy n charged line f
-touched-to n charged line f in_order held touched =
-    elim (or_cases (is_new n f) (charged (own_line f) || follows_any (is_new n) past f) touched) [
+abbrev touches : ℕ → (Entry → Bool) → (Target → Bool) → List Entry → Entry → Bool
+touches n test charged line f = is_new n f || (charged (own_line f) || follows_any test (earlier line f) f)
+
+touched-to : (n : ℕ) (test : Entry → Bool) (charged : Target → Bool) (line : List Entry) (f : Entry) → IsInPostingOrder line
+    → Contains line f → touches n test charged line f ≡ true → IsTouchedBy n test charged line f
+touched-to n test charged line f in_order held touched =
+    elim (or_cases (is_new n f) (charged (own_line f) || follows_any test past f) touched) [
       | inl new ↦ inl new
-      | inr h ↦ elim (or_cases (charged (own_line f)) (follows_any (is_new n) past f) h) [
+      | inr h ↦ elim (or_cases (charged (own_line f)) (follows_any test past f) h) [
         | inl own ↦ inr (inl own)
-        | inr k ↦ elim (or_cases (follows_by f.method (is_new n) past f) (follows_return (is_new n) past f.cause) k) [
+        | inr k ↦ elim (or_cases (follows_by f.method test past f) (follows_return test past f.cause) k) [
           | inl follows ↦ by_method f.method refl follows
-          | inr follows ↦ inr (inr (inr (inr (return-to n line f f.cause refl follows))))
+          | inr follows ↦ inr (inr (inr (inr (return-to test line f f.cause refl follows))))
         ]
       ]
     ]
@@ -197,42 +200,53 @@ touched-to n charged line f in_order held touched =
     past : List Entry
     past = earlier line f
 
-    by_method : (m : Method) → f.method ≡ m → follows_by m (is_new n) (earlier line f) f ≡ true → IsTouchedBy n charged line f
-    by_method Average is follows = inr (inr (inl (average-to n line f in_order held is follows)))
-    by_method Fifo is follows = inr (inr (inr (inl (fifo-to n line f in_order is follows))))
+    by_method : (m : Method) → f.method ≡ m → follows_by m test (earlier line f) f ≡ true → IsTouchedBy n test charged line f
+    by_method Average is follows = inr (inr (inl (average-to test line f in_order held is follows)))
+    by_method Fifo is follows = inr (inr (inr (inl (fifo-to test line f in_order is follows))))
 
-touched-from : (n : ℕ) (charged : Target → Bool) (line : List Entry) (f : Entry) → IsInPostingOrder line → Contains line f
-    → IsTouchedBy n charged line f → is_touched n charged line f ≡ true
-touched-from n charged line f in_order held by = from by
+touched-from : (n : ℕ) (test : Entry → Bool) (charged : Target → Bool) (line : List Entry) (f : Entry) → IsInPostingOrder line
+    → Contains line f → IsTouchedBy n test charged line f → touches n test charged line f ≡ true
+touched-from n test charged line f in_order held by = from by
   where
     charge : Bool
     charge = charged (own_line f)
 
     stock : Bool
-    stock = follows_by f.method (is_new n) (earlier line f) f
+    stock = follows_by f.method test (earlier line f) f
 
     back : Bool
-    back = follows_return (is_new n) (earlier line f) f.cause
+    back = follows_return test (earlier line f) f.cause
 
     by_stock : stock ≡ true → (is_new n f || (charge || (stock || back))) ≡ true
     by_stock is = or_right (is_new n f) (charge || (stock || back))
         (or_right charge (stock || back) (or_left stock back is))
 
-    from : IsTouchedBy n charged line f → (is_new n f || (charge || (stock || back))) ≡ true
+    from : IsTouchedBy n test charged line f → (is_new n f || (charge || (stock || back))) ≡ true
     from (inl new) = or_left (is_new n f) (charge || (stock || back)) new
     from (inr (inl own)) = or_right (is_new n f) (charge || (stock || back)) (or_left charge (stock || back) own)
-    from (inr (inr (inl starts))) = by_stock (average-from n line f in_order held starts)
-    from (inr (inr (inr (inl leaves)))) = by_stock (fifo-from n line f leaves)
+    from (inr (inr (inl starts))) = by_stock (average-from test line f in_order held starts)
+    from (inr (inr (inr (inl leaves)))) = by_stock (fifo-from test line f leaves)
     from (inr (inr (inr (inr returns)))) =
         or_right (is_new n f) (charge || (stock || back))
         (or_right charge (stock || back)
-        (or_right stock back (return-from n line f f.cause returns returns.returns)))
+        (or_right stock back (return-from test line f f.cause returns returns.returns)))
 
 pub touched-looks : (n : ℕ) (charged : Target → Bool) (line : List Entry) (f : Entry) → IsInPostingOrder line → Contains line f
     → (is_touched n charged line f ≡ true)
     ↔ ((is_new n f ≡ true) ⊎ (charged (own_line f) ≡ true) ⊎ StartsFromNew n line f ⊎ LeavesAfterNew n line f
     ⊎ FollowsNewReturn n line f)
 touched-looks n charged line f in_order held = (
-  touched-to n charged line f in_order held,
-  touched-from n charged line f in_order held,
+  touched-to n (is_new n) charged line f in_order held,
+  touched-from n (is_new n) charged line f in_order held,
+)
+
+-- where movements come and others go
+pub touched_by-looks : (n : ℕ) (gone : ℕ → Bool) (charged : Target → Bool) (both : List Entry) (f : Entry) → IsInPostingOrder both
+    → Contains both f
+    → (is_touched_by n gone charged both f ≡ true)
+    ↔ ((is_new n f ≡ true) ⊎ (charged (own_line f) ≡ true) ⊎ StartsFromOne (is_changed n gone) both f
+    ⊎ LeavesAfterOne (is_changed n gone) both f ⊎ FollowsReturn (is_changed n gone) both f)
+touched_by-looks n gone charged both f in_order held = (
+  touched-to n (is_changed n gone) charged both f in_order held,
+  touched-from n (is_changed n gone) charged both f in_order held,
 )

@@ -16,6 +16,7 @@ use Rattle.stock_model.specs.declared.records.Record.{Record}
 use Rattle.stock_model.specs.declared.vouchers.Basis.{Basis}
 use Rattle.stock_model.specs.declared.vouchers.What.{What}
 use Rattle.stock_model.specs.declared.vouchers.What.TheVariants.{Item, Store, Receipt, Issue, Transfer, CustomerReturn, SupplierReturn, Landed}
+use Rattle.stock_model.proofs.Growth.{all_charged-all}
 use Rattle.stock_model.proofs.NoFaults.{NoFaults, NoFaults-from}
 use Rattle.stock_model.proofs.Numbered.{Fails, first_line-none}
 use Rattle.stock_model.proofs.Pairwise.{Each}
@@ -44,7 +45,7 @@ weights-longer journal more basis (target ∷ targets) known =
     ∙ ap (λ (ws : List ℕ). weight journal basis target ∷ ws) (weights-longer journal more basis targets known.1)
 
 -- and so is what a voucher charges that had no fault
-charged-longer : (journal more : List Record) (what : What) → NoFaults journal what → charged (journal ++ more) what
+pub charged-longer : (journal more : List Record) (what : What) → NoFaults journal what → charged (journal ++ more) what
     ≡ charged journal what
 charged-longer journal more (Item code method) sound = refl
 charged-longer journal more (Store code account) sound = refl
@@ -85,7 +86,7 @@ zip-none line (target ∷ targets) (n ∷ ns) none =
     charged_to-cons line target n (zip targets ns) ∙ ap (λ (b : Bool). cond b n 0 + charged_to line (zip targets ns)) other.0 in
     omega (arith, own, zip-none line targets ns other.1)
 
-charged-none : (journal : List Record) (what : What) (line : Target) → list_any (is_the_line line) (landed_lines what) ≡ false
+pub charged-none : (journal : List Record) (what : What) (line : Target) → list_any (is_the_line line) (landed_lines what) ≡ false
     → charged_to line (charged journal what) ≡ 0
 charged-none journal (Item code method) line none = refl
 charged-none journal (Store code account) line none = refl
@@ -115,9 +116,9 @@ pub added-longer : (journal more : List Record) (line : Target) → AreSound jou
     → added (journal ++ more) line ≡ added journal line + charged_to line (charges_after journal more)
 added-longer journal more line sound =
     let all = journal ++ more in
-    let parts = ap (charged_to line) (flat_map-append (record_charged all) journal more)
+    let parts = ap (charged_to line) (all_charged-all all ∙ flat_map-append (record_charged all) journal more)
     ∙ charged_to-append line (flat_map (record_charged all) journal) (flat_map (record_charged all) more) in
-    let before = ap (charged_to line) (charges-longer [] journal more sound) in
+    let before = ap (charged_to line) (charges-longer [] journal more sound ∙ sym (all_charged-all journal)) in
     omega (arith, parts, before)
 
 -- so other lines have the sum of charges that they had

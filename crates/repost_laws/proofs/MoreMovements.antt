@@ -1,49 +1,30 @@
 -- The movements that further records bring: what numbers and moments they have, and that they stand apart.
-use Rattle.std.proofs.Common.{◌≡◌, ℕ, ◌+◌, ◌<◌, ◌≤◌, ◌^◌, true, List, [], ◌∷◌, ◌++◌, length, Some, inl, inr, sym, ap, ◌∙◌, subst, arith, append_assoc, length-append, Contains}
+use Rattle.std.proofs.Common.{◌≡◌, ℕ, ◌+◌, ◌<◌, ◌≤◌, ◌^◌, true, List, [], ◌∷◌, ◌++◌, length, Some, inl, inr, sym, ap, ◌∙◌, subst, arith, length-append, Contains}
 use Rattle.std.proofs.lemmas.Bool.Decides.{nat_tests}
 use Rattle.std.proofs.lemmas.List.Sums.{fold-append}
 use Rattle.stock_nums.specs.declared.entry.Entry.{Entry}
-use Rattle.stock_model.specs.Entries.{entries, entries_after, all_entries}
+use Rattle.stock_model.specs.Entries.{entries_after, all_entries}
 use Rattle.stock_model.specs.InOrder.{IsInPostingOrder}
 use Rattle.stock_model.specs.Journals.{AreLegal}
 use Rattle.stock_model.specs.PostingOrder.{put, put_all, posting_line}
 use Rattle.stock_model.specs.VoucherLines.{moment_of}
 use Rattle.stock_model.specs.declared.records.Record.{Record}
-use Rattle.stock_model.proofs.Growth.{all_entries-after, length-posting_line}
-use Rattle.stock_model.proofs.Pairwise.{Each, Each-append, Each-weaker, Contains-later}
+use Rattle.stock_model.proofs.Growth.{length-posting_line}
+use Rattle.stock_model.proofs.Pairwise.{Each, Contains-later}
 use Rattle.stock_laws.proofs.EntryRecords.{IsOfRecord}
 use Rattle.stock_laws.proofs.Legality.{AreSound-from, IsHeld-legal}
+use Rattle.stock_laws.proofs.LiveEntries.{IsBetween, entries_after-between, Each-live}
 use Rattle.stock_laws.proofs.PostingLine.{IsInPostingOrder-posting_line}
 use Rattle.stock_laws.proofs.RecordsAt.{what_at, what_at-once}
 use Rattle.quantity_check.specs.OwnPlaces.{HaveOwnPlaces}
 use Rattle.quantity_check.proofs.OwnPlaceLemmas.{HaveOwnPlaces-put_all}
 use Rattle.repost_laws.specs.Fetches.{AreDated, AreNew}
 use Rattle.repost_laws.specs.Touched.{is_new}
-use Rattle.repost_laws.proofs.MoreRecords.{IsOfNumber, movements-number, all_entries-more, Contains-parts, Contains-front, of_line, in_line, known-in_line}
+use Rattle.repost_laws.proofs.MoreRecords.{all_entries-more, Contains-parts, Contains-front, of_line, in_line, known-in_line}
 use Rattle.repost_laws.proofs.Spreading.{Each-Contains}
 
--- the movement is of a record after the first ones and among so many
-abbrev IsBetween : ℕ → ℕ → Entry → Type 0
-IsBetween first last e = (first < e.place.voucher.0) × (e.place.voucher.0 ≤ last)
-
-entries_after-between : (journal more : List Record)
-    → Each (IsBetween (length journal) (length (journal ++ more))) (entries_after journal more)
-entries_after-between journal [] = tt
-entries_after-between journal (r ∷ more) =
-    let next = journal ++ r ∷ [] in
-    let between = IsBetween (length journal) (length (journal ++ r ∷ more)) in
-    let longer = length-append journal (r ∷ []) in
-    let all = ap length (append_assoc journal (r ∷ []) more) in
-    let count = length-append next more in
-    Each-append between (entries journal r) (entries_after next more)
-    (Each-weaker (IsOfNumber (length journal + 1)) between (λ e is. (omega (arith, is), omega (arith, is, longer, all, count)))
-    (entries journal r) (movements-number journal (length journal + 1) r.what))
-    (Each-weaker (IsBetween (length next) (length (next ++ more))) between
-    (λ e is. (omega (arith, is.0, longer), omega (arith, is.1, all))) (entries_after next more)
-    (entries_after-between next more))
-
 all_entries-between : (journal : List Record) → Each (IsBetween 0 (length journal)) (all_entries journal)
-all_entries-between journal = rw all_entries-after (entries_after-between [] journal)
+all_entries-between journal = Each-live (IsBetween 0 (length journal)) journal (entries_after-between [] journal)
 
 -- each movement in the line has the number of one of the records
 in_line-between : (journal : List Record) (e : Entry) → Contains (posting_line journal) e → IsBetween 0 (length journal) e

@@ -1,26 +1,23 @@
 -- The movements of a journal with more records are the old ones and new ones, in one order.
-use Rattle.std.proofs.Common.{◌≡◌, ℕ, ◌+◌, ◌<◌, ◌≤◌, true, ◌||◌, List, [], ◌∷◌, ◌++◌, length, filter, inl, inr, refl, sym, ap, ◌∙◌, subst, arith, append_assoc, length-append, Contains, ◌⊎◌}
+use Rattle.std.proofs.Common.{◌≡◌, ℕ, ◌+◌, ◌<◌, ◌≤◌, true, ◌||◌, List, [], ◌∷◌, ◌++◌, length, filter, inl, inr, sym, ap, ◌∙◌, subst, arith, Contains, ◌⊎◌}
 use Rattle.std.proofs.lemmas.Bool.Decides.{nat_tests}
-use Rattle.std.proofs.lemmas.List.{append-nil}
 use Rattle.std.proofs.lemmas.List.Kept.{AllPairs-filter}
 use Rattle.std.proofs.lemmas.List.Sorted.{IsPermutation-sym, Contains-permutation}
 use Rattle.stock_nums.specs.declared.cause.Cause.{Cause}
 use Rattle.stock_nums.specs.declared.cause.Cause.TheVariants.{Receipt, Issue, TransferLeaves, TransferEnters, CustomerReturn, SupplierReturn}
 use Rattle.stock_nums.specs.declared.entry.Entry.{Entry}
-use Rattle.stock_model.specs.Entries.{movements, entries, entries_after, all_entries}
+use Rattle.stock_model.specs.Entries.{entries_after, all_entries}
 use Rattle.stock_model.specs.InOrder.{IsBefore}
 use Rattle.stock_model.specs.Journals.{AreLegal, AreSound}
 use Rattle.stock_model.specs.LandedCost.{added}
 use Rattle.stock_model.specs.PostingOrder.{posting_line}
-use Rattle.stock_model.specs.VoucherLines.{moves_of}
 use Rattle.stock_model.specs.declared.records.Record.{Record}
-use Rattle.stock_model.specs.declared.vouchers.What.{What}
-use Rattle.stock_model.proofs.Growth.{all_entries-after}
-use Rattle.stock_model.proofs.Pairwise.{Each, Each-all, Each-append, Each-weaker, Pairwise-from_AllPairs, Pairwise-unique, Contains-cases, Contains-first, Contains-later}
+use Rattle.stock_model.proofs.Growth.{all_entries-after, entries_after-append}
+use Rattle.stock_model.proofs.Pairwise.{Each, Each-weaker, Pairwise-from_AllPairs, Pairwise-unique, Contains-cases, Contains-first, Contains-later}
 use Rattle.stock_laws.proofs.EntryRecords.{KnowsTarget, IsOfRecord}
 use Rattle.stock_laws.proofs.KnownEntries.{entries-known}
 use Rattle.stock_laws.proofs.Legality.{AreSound-from}
-use Rattle.stock_laws.proofs.LineEntries.{HoldsOf, movements-each}
+use Rattle.stock_laws.proofs.LiveEntries.{IsBetween, entries_after-between}
 use Rattle.stock_laws.proofs.PostingLine.{IsInPostingOrder-posting_line, IsPermutation-posting_line}
 use Rattle.stock_laws.proofs.RecordsAt.{what_at-within}
 use Rattle.repost_laws.specs.Builds.{Suspects, IsOfOldLine, IsFetch}
@@ -31,37 +28,14 @@ use Rattle.repost_laws.proofs.JournalFronts.{AreSoundAfter-first}
 use Rattle.repost_laws.proofs.MoreCharges.{added-more}
 use Rattle.repost_laws.proofs.Spreading.{Each-Contains}
 
--- the movements of further records are of these
-abbrev pub IsOfNumber : ℕ → Entry → Type 0
-IsOfNumber n e = e.place.voucher.0 ≡ n
-
+-- the movement is of a record after so many
 abbrev IsAfter : ℕ → Entry → Type 0
 IsAfter n e = n < e.place.voucher.0
 
-pub movements-number : (journal : List Record) (n : ℕ) (what : What) → Each (IsOfNumber n) (movements journal n what)
-movements-number journal n what =
-    movements-each journal n what (IsOfNumber n)
-    (λ at timed i line is found found_is item named. Each-all (HoldsOf n at (1 + i) line item (IsOfNumber n))
-    (λ move store. refl) (moves_of what line found))
-
 entries-new : (journal more : List Record) → Each (IsAfter (length journal)) (entries_after journal more)
-entries-new journal [] = tt
-entries-new journal (r ∷ more) =
-    let longer = length-append journal (r ∷ []) in
-    Each-append (IsAfter (length journal)) (entries journal r) (entries_after (journal ++ r ∷ []) more)
-    (Each-weaker (IsOfNumber (length journal + 1)) (IsAfter (length journal)) (λ e is. omega (arith, is)) _
-    (movements-number journal (length journal + 1) r.what))
-    (Each-weaker (IsAfter (length (journal ++ r ∷ []))) (IsAfter (length journal)) (λ e is. omega (arith, is, longer)) _
-    (entries-new (journal ++ r ∷ []) more))
-
-entries_after-append : (done xs ys : List Record) → entries_after done (xs ++ ys)
-    ≡ entries_after done xs ++ entries_after (done ++ xs) ys
-entries_after-append done [] ys = ap (λ (j : List Record). entries_after j ys) (sym (append-nil done))
-entries_after-append done (x ∷ xs) ys =
-    ap (λ (es : List Entry). entries done x ++ es)
-    (entries_after-append (done ++ x ∷ []) xs ys ∙ ap (λ (j : List Record). entries_after
-    (done ++ x ∷ []) xs ++ entries_after j ys) (append_assoc done (x ∷ []) xs))
-    ∙ sym (append_assoc (entries done x) (entries_after (done ++ x ∷ []) xs) (entries_after (done ++ x ∷ xs) ys))
+entries-new journal more =
+    Each-weaker (IsBetween (length journal) (length (journal ++ more))) (IsAfter (length journal)) (λ e is. is.0)
+    (entries_after journal more) (entries_after-between journal more)
 
 pub all_entries-more : (journal more : List Record) → all_entries (journal ++ more)
     ≡ all_entries journal ++ entries_after journal more
@@ -103,10 +77,10 @@ pub known-in_line : (journal : List Record) (e : Entry) → AreSound journal →
 known-in_line journal e sound held = Each-Contains (IsOfRecord journal) (all_entries journal) e (entries-known journal sound)
     (of_line journal e held)
 
-old-number : (n : ℕ) (e : Entry) → is_old n e ≡ true → e.place.voucher.0 ≤ n
+pub old-number : (n : ℕ) (e : Entry) → is_old n e ≡ true → e.place.voucher.0 ≤ n
 old-number n e is = grind (arith, nat_tests)
 
-is_old-from : (n : ℕ) (e : Entry) → e.place.voucher.0 ≤ n → is_old n e ≡ true
+pub is_old-from : (n : ℕ) (e : Entry) → e.place.voucher.0 ≤ n → is_old n e ≡ true
 is_old-from n e few = grind (arith, nat_tests)
 
 -- the old movements stand as they stood
@@ -146,7 +120,7 @@ in_line-old journal e sound held =
     is_old-from (length journal) e (what_at-within journal e.place.voucher.0 known.what known.held)
 
 -- what an old movement returns is of a line of an old record
-old_line : (journal : List Record) (n : ℕ) (e : Entry) (cause : Cause) → KnowsTarget journal e cause → e.place.voucher.0 ≤ n
+pub old_line : (journal : List Record) (n : ℕ) (e : Entry) (cause : Cause) → KnowsTarget journal e cause → e.place.voucher.0 ≤ n
     → IsOfOldLine n cause
 old_line journal n e (Receipt amount) knows few = tt
 old_line journal n e (Issue sold) knows few = tt

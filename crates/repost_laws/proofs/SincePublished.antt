@@ -72,7 +72,7 @@ IsSincePublished-turn n published charged line found suspects e new_found new_su
     }
 
 -- the movements that were not valued since
-abbrev is_as_published_at : ValuedSince → Entry → Bool
+abbrev pub is_as_published_at : ValuedSince → Entry → Bool
 is_as_published_at valued e = not (valued e.place)
 
 -- where all that pass one test pass another, those that pass both are those that pass the first

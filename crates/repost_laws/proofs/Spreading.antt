@@ -28,12 +28,12 @@ module _ {X : Type 0} (P : X → Type 0) where
         | inr later ↦ Each-Contains xs x all.1 later
       ]
 
-  Each-reverse : (xs : List X) → Each P xs → Each P (reverse xs)
+  pub Each-reverse : (xs : List X) → Each P xs → Each P (reverse xs)
   Each-reverse [] all = tt
   Each-reverse (x ∷ xs) all = subst (Each P) (sym (reverse-append (x ∷ []) xs))
       (Each-append P (reverse xs) (x ∷ []) (Each-reverse xs all.1) (all.0, tt))
 
-  Each-filter : (p : X → Bool) (xs : List X) → Each P xs → Each P (filter p xs)
+  pub Each-filter : (p : X → Bool) (xs : List X) → Each P xs → Each P (filter p xs)
   Each-filter p [] all = tt
   Each-filter p (x ∷ xs) all =
       elim (p x) as (λ b. Each P (cond b (x ∷ filter p xs) (filter p xs))) [
@@ -42,7 +42,7 @@ module _ {X : Type 0} (P : X → Type 0) where
       ]
 
   -- what is found is one of them
-  Each-find : (p : X → Bool) (xs : List X) (x : X) → Each P xs → find p xs ≡ Some x → P x
+  pub Each-find : (p : X → Bool) (xs : List X) (x : X) → Each P xs → find p xs ≡ Some x → P x
   Each-find p [] x all is = cc
   Each-find p (y ∷ xs) x all is = by_cases (p y) is (Each-find p xs x all.1)
     where
@@ -51,7 +51,7 @@ module _ {X : Type 0} (P : X → Type 0) where
       by_cases false h rest = rest h
 
 -- those that pass
-Each-passes : {X : Type 0} (p : X → Bool) (xs : List X) → Each (λ x. p x ≡ true) (filter p xs)
+pub Each-passes : {X : Type 0} (p : X → Bool) (xs : List X) → Each (λ x. p x ≡ true) (filter p xs)
 Each-passes p [] = tt
 Each-passes p (x ∷ xs) = by_cases (p x) refl (Each-passes p xs)
   where
@@ -85,7 +85,7 @@ Each-taken P Fifo past e all =
     (pieces entry_units (filter (enters_under key) past) out (out + e.qty.0))
     (Each-pieces P (filter (enters_under key) past) out (out + e.qty.0) (Each-filter P (enters_under key) past all))
 
-Each-sources : (P : Entry → Type 0) (past : List Entry) (e : Entry) (cause : Cause) → Each P past
+pub Each-sources : (P : Entry → Type 0) (past : List Entry) (e : Entry) (cause : Cause) → Each P past
     → Each (λ (piece : Piece Entry). P piece.giver) (sources_by past e cause)
 Each-sources P past e (Receipt amount) all = tt
 Each-sources P past e (Issue sold) all = Each-taken P e.method past e all

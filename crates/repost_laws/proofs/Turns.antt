@@ -65,7 +65,7 @@ value-same None now same = absurd (false≢true same)
 value-same (Some was) now same = (Decides-int_eq was.worth.value.0 now.worth.value.0).0 same
 
 -- sums of the same numbers
-sum_by-agree : {X : Type 0} (f g : X → ℕ) (xs : List X) → ((x : X) → Contains xs x → f x ≡ g x) → sum_by f xs ≡ sum_by g xs
+pub sum_by-agree : {X : Type 0} (f g : X → ℕ) (xs : List X) → ((x : X) → Contains xs x → f x ≡ g x) → sum_by f xs ≡ sum_by g xs
 sum_by-agree f g [] agree = refl
 sum_by-agree f g (x ∷ xs) agree =
     omega (

@@ -1,5 +1,5 @@
 -- What a build keeps is kept by each of its steps.
-use Rattle.std.proofs.Common.{◌≡◌, ℕ, pos, ◌+◌, ◌≤◌, ◌≤ℤ◌, ℤ, Bool, true, false, cond, ◌&&◌, ◌||◌, List, [], ◌∷◌, ◌++◌, length, take, drop, filter, Some, None, inl, inr, refl, sym, ap, ◌∙◌, subst, arith, int_le, length-take, length-append, Contains}
+use Rattle.std.proofs.Common.{◌≡◌, ℕ, pos, ◌+◌, ◌*◌, ◌≤◌, ◌≤ℤ◌, ℤ, Bool, true, false, cond, ◌&&◌, ◌||◌, List, [], ◌∷◌, ◌++◌, length, take, drop, filter, Some, None, inl, inr, refl, sym, ap, ◌∙◌, subst, arith, int_le, length-take, length-append, Contains}
 use Rattle.std.proofs.lemmas.Bool.Decides.{nat_tests}
 use Rattle.std.proofs.lemmas.Int.{ints}
 use Rattle.std.proofs.lemmas.List.{take-append-le, take-append-drop, take_all}
@@ -16,15 +16,17 @@ use Rattle.stock_model.specs.Replay.{replay}
 use Rattle.stock_model.specs.declared.records.Record.{Record}
 use Rattle.stock_laws.proofs.Legality.{AreLegal-take}
 use Rattle.stock_laws.proofs.PostingLine.{IsInPostingOrder-posting_line}
-use Rattle.repost_laws.specs.Builds.{Suspects, IsBuilt, IsClean, IsTurn, ValuedSince, IsValuedAt, IsSincePublished, is_as_published}
-use Rattle.repost_laws.specs.Touched.{is_old, is_touched, is_charged_by}
+use Rattle.repost_laws.specs.Builds.{Suspects, IsBuilt, IsClean, IsTurn, ValuedSince, IsValuedAt, IsSince, is_as_published, is_row_left}
+use Rattle.repost_laws.specs.Changes.{goes_with, both_lines, is_recharged, HasLiveTargets}
+use Rattle.repost_laws.specs.Touched.{is_touched, is_touched_by, is_charged_by}
 use Rattle.repost_laws.specs.Valuations.{Valued, Found, nothing_found, worth_of, no_worth, valuation, found_rows}
-use Rattle.repost_laws.specs.WholeBuilds.{worth_at, IsWorthInRange, IsBuildOf, none_suspect, none_valued}
+use Rattle.repost_laws.specs.WholeBuilds.{made, worth_at, IsWorthInRange, IsBuildOf, none_suspect, none_valued}
 use Rattle.repost_laws.proofs.FirstSuspect.{first-can}
 use Rattle.repost_laws.proofs.LocalRows.{found_rows-replay}
-use Rattle.repost_laws.proofs.LongerLines.{IsBuilt-fetch}
-use Rattle.repost_laws.proofs.MoreRecords.{IsFetch-more}
-use Rattle.repost_laws.proofs.SincePublished.{IsSincePublished-start, IsSincePublished-fetch, IsSincePublished-turn, replay-left}
+use Rattle.repost_laws.proofs.ChangedLines.{IsBuilt-change}
+use Rattle.repost_laws.proofs.ChangedJournals.{IsChange-more}
+use Rattle.repost_laws.proofs.NothingGone.{HasLiveTargets-all, touched-none, rows-none, length-line-made, made-line, made-grows}
+use Rattle.repost_laws.proofs.SinceChanges.{IsSince-start, IsSince-change, IsSince-turn, replay-changed}
 use Rattle.repost_laws.proofs.TurnCounts.{AreAhead-turn, AreFew-start, AreFew-fetch, AreFew-turn}
 use Rattle.repost_laws.proofs.Turns.{place-cases, IsBuilt-turn}
 
@@ -42,7 +44,7 @@ IsBuildOf-start =
       legal = tt;
       built = λ e held. absurd (no-entry e held);
       in_range = in_range-none;
-      counted = record { last = None; ahead = λ e held. absurd (no-entry e held); few = AreFew-start (posting_line []) none_suspect None (length (posting_line [])) (omega arith) (λ e held. refl) };
+      counted = record { last = None; ahead = λ e held. absurd (no-entry e held); few = AreFew-start (posting_line []) none_suspect None (made []) (length-line-made []) (λ e held. refl) };
       published =
           record {
             within = omega arith;
@@ -50,7 +52,7 @@ IsBuildOf-start =
             clean = none_suspect;
             built = λ e held. absurd (no-entry e held);
             none_suspect = λ e held. refl;
-            since = record { kept = λ place is. refl; later = λ e held. absurd (no-entry e held) };
+            since = record { kept = λ e held old is. refl; later = λ e held. absurd (no-entry e held) };
           };
     }
 
@@ -58,33 +60,29 @@ IsBuildOf-start =
 first-same : (journal more : List Record) (n : ℕ) → n ≤ length journal → take n journal ≡ take n (journal ++ more)
 first-same journal more n within = sym (take-append-le n journal more within)
 
-filter-short : (test : Entry → Bool) (es : List Entry) → length (filter test es) ≤ length es
-filter-short test [] = omega arith
-filter-short test (e ∷ es) =
-    let rest = filter-short test es in
-    let longer : length (e ∷ es) ≡ length es + 1 = omega arith in
-    elim (test e) as (λ b. length (cond b (e ∷ filter test es) (filter test es)) ≤ length (e ∷ es)) [ true ↦ omega (arith, rest, longer) | false ↦ omega (arith, rest, longer) ]
-
-pub IsBuildOf-fetch : (journal more : List Record) (n : ℕ) (found : Found) (suspects new_suspects : Suspects)
+-- further records, which bring movements and may take some away
+pub IsBuildOf-change : (journal more : List Record) (n : ℕ) (found : Found) (suspects new_suspects : Suspects)
     (valued : ValuedSince) (fetches turns : ℕ) → IsBuildOf journal n found suspects valued fetches turns
-    → AreLegal (journal ++ more)
+    → AreLegal (journal ++ more) → HasLiveTargets (journal ++ more)
     → ((e : Entry) → Contains (posting_line (journal ++ more)) e → new_suspects e.place
-    ≡ (suspects e.place || is_touched (length journal) (is_charged_by more) (posting_line (journal ++ more)) e))
+    ≡ (suspects e.place || is_touched_by (length journal) (goes_with journal more) (is_recharged journal more) (both_lines journal more) e))
     → IsBuildOf (journal ++ more) n found new_suspects valued (fetches + 1) (turns + 1)
-IsBuildOf-fetch journal more n found suspects new_suspects valued fetches turns build legal marked =
+IsBuildOf-change journal more n found suspects new_suspects valued fetches turns build legal live marked =
     let line = posting_line journal in
     let all = journal ++ more in
     let new_line = posting_line all in
-    let fetch = IsFetch-more journal more suspects new_suspects legal marked in
-    let grown : length line ≤ length new_line =
-    subst (λ (es : List Entry). length es ≤ length new_line) fetch.old (filter-short (is_old (length journal)) new_line) in
+    let m = length journal in
+    let gone = goes_with journal more in
+    let charged_by = is_recharged journal more in
+    let both = both_lines journal more in
+    let change = IsChange-more journal more found suspects new_suspects legal live marked in
     let was = build.published in
     let first = first-same journal more n was.within in
     record {
       legal = legal;
-      built = IsBuilt-fetch (length journal) (is_charged_by more) (added journal) line suspects (added all) new_line new_suspects found fetch build.built;
+      built = IsBuilt-change m gone charged_by both (added journal) line found suspects (added all) new_line found new_suspects change build.built;
       in_range = build.in_range;
-      counted = record { last = None; ahead = λ e held suspect. refl; few = AreFew-fetch line new_line suspects new_suspects build.counted.last (length line) (length new_line) fetches turns grown (omega arith) build.counted.few };
+      counted = record { last = None; ahead = λ e held suspect. refl; few = AreFew-fetch line new_line suspects new_suspects build.counted.last (made journal) (made all) fetches turns (made-grows journal more) (length-line-made all) build.counted.few };
       published =
           record {
             within = omega (arith, was.within, length-append journal more);
@@ -92,9 +90,20 @@ IsBuildOf-fetch journal more n found suspects new_suspects valued fetches turns 
             clean = was.clean;
             built = subst (λ (j : List Record). IsBuilt (added j) (posting_line j) was.published was.clean) first was.built;
             none_suspect = subst (λ (j : List Record). IsClean (posting_line j) was.clean) first was.none_suspect;
-            since = IsSincePublished-fetch n (length journal) was.published found (is_charged_by more) (added journal) line suspects (added all) new_line new_suspects valued fetch was.since;
+            since = IsSince-change n m was.published gone charged_by both (added journal) line found suspects (added all) new_line found new_suspects valued was.within change was.since;
           };
     }
+
+-- as yet none takes any away
+pub IsBuildOf-fetch : (journal more : List Record) (n : ℕ) (found : Found) (suspects new_suspects : Suspects)
+    (valued : ValuedSince) (fetches turns : ℕ) → IsBuildOf journal n found suspects valued fetches turns
+    → AreLegal (journal ++ more)
+    → ((e : Entry) → Contains (posting_line (journal ++ more)) e → new_suspects e.place
+    ≡ (suspects e.place || is_touched (length journal) (is_charged_by more) (posting_line (journal ++ more)) e))
+    → IsBuildOf (journal ++ more) n found new_suspects valued (fetches + 1) (turns + 1)
+IsBuildOf-fetch journal more n found suspects new_suspects valued fetches turns build legal marked =
+    IsBuildOf-change journal more n found suspects new_suspects valued fetches turns build legal (HasLiveTargets-all (journal ++ more))
+    (λ e held. marked e held ∙ ap (λ (b : Bool). suspects e.place || b) (sym (touched-none journal more e)))
 
 -- what is valued is worth from 0 to 3*10^17
 range-of : (v : ℤ) → (int_le (pos 0) v && int_le v (pos MAX_VALUE)) ≡ true → (pos 0 ≤ℤ v) × (v ≤ℤ pos MAX_VALUE)
@@ -132,7 +141,7 @@ IsBuildOf-turn journal n found new_found suspects new_suspects valued new_valued
       counted = record {
         last = Some e.place;
         ahead = AreAhead-turn (added journal) line found suspects e new_found new_suspects turn;
-        few = AreFew-turn (added journal) line found suspects e new_found new_suspects build.counted.last (length line) fetches turns turn build.counted.ahead build.counted.few;
+        few = AreFew-turn (added journal) line found suspects e new_found new_suspects build.counted.last (made journal) fetches turns turn build.counted.ahead build.counted.few;
       };
       published =
           record {
@@ -141,7 +150,7 @@ IsBuildOf-turn journal n found new_found suspects new_suspects valued new_valued
             clean = was.clean;
             built = was.built;
             none_suspect = was.none_suspect;
-            since = IsSincePublished-turn n was.published (added journal) line found suspects e new_found new_suspects valued new_valued turn at was.since;
+            since = IsSince-turn n was.published (added journal) line found suspects e new_found new_suspects valued new_valued turn at was.since;
           };
     }
 
@@ -155,7 +164,7 @@ IsBuildOf-published journal n found suspects valued fetches turns build clean =
       legal = build.legal;
       built = build.built;
       in_range = build.in_range;
-      counted = record { last = None; ahead = λ e held suspect. refl; few = AreFew-start line suspects None (length line) (omega arith) clean };
+      counted = record { last = None; ahead = λ e held suspect. refl; few = AreFew-start line suspects None (made journal) (length-line-made journal) clean };
       published =
           record {
             within = omega arith;
@@ -163,7 +172,7 @@ IsBuildOf-published journal n found suspects valued fetches turns build clean =
             clean = suspects;
             built = subst (λ (j : List Record). IsBuilt (added j) (posting_line j) found suspects) whole build.built;
             none_suspect = subst (λ (j : List Record). IsClean (posting_line j) suspects) whole clean;
-            since = IsSincePublished-start journal found suspects none_valued build.legal (λ place. refl);
+            since = IsSince-start journal found suspects none_valued build.legal (λ place. refl);
           };
     }
 
@@ -172,18 +181,34 @@ pub rows-clean : (journal : List Record) (n : ℕ) (found : Found) (suspects : S
     → found_rows found (posting_line journal) ≡ replay journal
 rows-clean journal n found suspects valued fetches turns build clean = found_rows-replay journal found build.legal (λ e held. build.built e held (clean e held))
 
+pub rows-changed : (journal : List Record) (n : ℕ) (found : Found) (suspects : Suspects) (valued : ValuedSince)
+    (fetches turns : ℕ) → IsBuildOf journal n found suspects valued fetches turns → IsClean (posting_line journal) suspects
+    → filter (is_as_published valued) (replay journal)
+    ≡ filter (is_as_published valued) (filter (is_row_left (goes_with (take n journal) (drop n journal))) (replay (take n journal)))
+rows-changed journal n found suspects valued fetches turns build clean =
+    let was = build.published in
+    let front = take n journal in
+    let rest = drop n journal in
+    let whole : journal ≡ front ++ rest = sym (take-append-drop n journal) in
+    let count : n ≡ length front = omega (arith, length-take n journal, was.within) in
+    subst (λ (j : List Record). filter (is_as_published valued) (replay j) ≡ filter (is_as_published valued) (filter (is_row_left (goes_with front rest)) (replay front))) (sym whole)
+    (replay-changed front rest was.published found suspects was.clean valued (AreLegal-take journal n build.legal)
+    (subst AreLegal whole build.legal) was.built was.none_suspect
+    (subst (λ (j : List Record). IsBuilt (added j) (posting_line j) found suspects) whole build.built)
+    (subst (λ (j : List Record). IsClean (posting_line j) suspects) whole clean)
+    (subst (λ (m : ℕ). IsSince m was.published (posting_line (front ++ rest)) found suspects valued) count
+    (subst (λ (j : List Record). IsSince n was.published (posting_line j) found suspects valued) whole was.since)))
+
+-- as yet no row goes
 pub rows-others : (journal : List Record) (n : ℕ) (found : Found) (suspects : Suspects) (valued : ValuedSince)
     (fetches turns : ℕ) → IsBuildOf journal n found suspects valued fetches turns → IsClean (posting_line journal) suspects
     → filter (is_as_published valued) (replay journal) ≡ filter (is_as_published valued) (replay (take n journal))
 rows-others journal n found suspects valued fetches turns build clean =
-    let was = build.published in
-    let front = take n journal in
-    let whole : journal ≡ front ++ drop n journal = sym (take-append-drop n journal) in
-    let count : n ≡ length front = omega (arith, length-take n journal, was.within) in
-    subst (λ (j : List Record). filter (is_as_published valued) (replay j) ≡ filter (is_as_published valued) (replay front)) (sym whole)
-    (replay-left front (drop n journal) was.published found suspects was.clean valued (AreLegal-take journal n build.legal)
-    (subst AreLegal whole build.legal) was.built was.none_suspect
-    (subst (λ (j : List Record). IsBuilt (added j) (posting_line j) found suspects) whole build.built)
-    (subst (λ (j : List Record). IsClean (posting_line j) suspects) whole clean)
-    (subst (λ (m : ℕ). IsSincePublished m was.published (posting_line (front ++ drop n journal)) found suspects valued) count
-    (subst (λ (j : List Record). IsSincePublished n was.published (posting_line j) found suspects valued) whole was.since)))
+    rows-changed journal n found suspects valued fetches turns build clean
+    ∙ ap (filter (is_as_published valued)) (rows-none (take n journal) (drop n journal) (replay (take n journal)))
+
+-- and there were no more movements than there are
+pub few-turns : {journal : List Record} {n : ℕ} {found : Found} {suspects : Suspects} {valued : ValuedSince} {fetches turns : ℕ}
+    → IsBuildOf journal n found suspects valued fetches turns → turns ≤ fetches * (length (posting_line journal) + 1)
+few-turns {journal} {n} {found} {suspects} {valued} {fetches} {turns} build =
+    subst (λ (entries : ℕ). turns ≤ fetches * (entries + 1)) (made-line journal) build.counted.few.bound

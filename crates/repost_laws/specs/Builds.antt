@@ -30,7 +30,7 @@ use Rattle.stock_nums.specs.declared.cause.Target.{Target}
 use Rattle.stock_nums.specs.declared.entry.Entry.{Entry}
 use Rattle.stock_nums.specs.declared.entry.Row.{Row}
 use Rattle.stock_nums.specs.declared.place.Place.{Place}
-use Rattle.repost_laws.specs.Touched.{is_new, is_old, is_touched, IsMarked}
+use Rattle.repost_laws.specs.Touched.{is_new, is_old, is_left, is_touched, is_touched_by, IsMarked}
 use Rattle.repost_laws.specs.Valuations.{Valued, Found, valuation, IsLocal}
 
 -- whether the movement at a place is suspect: its value may have to change
@@ -58,6 +58,25 @@ pub record IsFetch (n : ℕ) (is_charged : Target → Bool) (charged : Target �
   pub returned : (e : Entry) → Contains new_line e → is_old n e ≡ true → IsOfOldLine n e.cause
   pub others : (target : Target) → is_charged target ≡ false → new_charged target ≡ charged target
   pub marked : (e : Entry) → Contains new_line e → new_suspects e.place ≡ (suspects e.place || is_touched n is_charged new_line e)
+
+-- where the cause is a customer's return, it is of a line of one of the first n records, and of one that stays
+abbrev pub IsOfKeptLine : ℕ → (ℕ → Bool) → Cause → Type 0
+IsOfKeptLine n gone (CustomerReturn target issued) = (target.voucher.0 ≤ n) × (gone target.voucher.0 ≡ false)
+IsOfKeptLine n gone _ = Unit {0}
+
+-- records come after the first n ones and others go. Among all movements that were there or are there now, those of the first n
+-- records are the line before, and those that do not go the line now. What old movements return is of lines of records that
+-- stay, only lines that are told have another sum of charges, what was found of the movements stays, and what comes and goes
+-- makes suspect what it touches
+pub record IsChange (n : ℕ) (gone : ℕ → Bool) (is_charged : Target → Bool) (both : List Entry) (charged : Target → ℕ)
+    (line : List Entry) (found : Found) (suspects : Suspects) (new_charged : Target → ℕ) (new_line : List Entry)
+    (new_found : Found) (new_suspects : Suspects) : Type 0 where
+  pub old : filter (is_old n) both ≡ line
+  pub left : filter (is_left gone) both ≡ new_line
+  pub returned : (e : Entry) → Contains new_line e → is_old n e ≡ true → IsOfKeptLine n gone e.cause
+  pub others : (target : Target) → is_charged target ≡ false → new_charged target ≡ charged target
+  pub found_stays : (e : Entry) → Contains new_line e → new_found e.place ≡ found e.place
+  pub marked : (e : Entry) → Contains new_line e → new_suspects e.place ≡ (suspects e.place || is_touched_by n gone is_charged both e)
 
 -- this is now found at the place, and what was found elsewhere stays
 pub record IsFoundAt (found new_found : Found) (place : Place) (now : Valued) : Type 0 where
@@ -116,6 +135,17 @@ pub record IsSincePublished (n : ℕ) (published : Found) (line : List Entry) (f
     (valued : ValuedSince) : Type 0 where
   pub kept : (place : Place) → valued place ≡ false → found place ≡ published place
   pub later : (e : Entry) → Contains line e → is_new n e ≡ true → suspects e.place ≡ false → valued e.place ≡ true
+
+-- the same where movements may go: what is found of those of the first n records that were not valued since is what was
+-- published
+pub record IsSince (n : ℕ) (published : Found) (line : List Entry) (found : Found) (suspects : Suspects)
+    (valued : ValuedSince) : Type 0 where
+  pub kept : (e : Entry) → Contains line e → is_old n e ≡ true → valued e.place ≡ false → found e.place ≡ published e.place
+  pub later : (e : Entry) → Contains line e → is_new n e ≡ true → suspects e.place ≡ false → valued e.place ≡ true
+
+-- the row is of a movement that does not go
+abbrev pub is_row_left : (ℕ → Bool) → Row → Bool
+is_row_left gone row = is_left gone row.entry
 
 -- the row is of a movement that was not valued since
 abbrev pub is_as_published : ValuedSince → Row → Bool

@@ -6,3 +6,4 @@ pub mod Ranges
 pub mod WholeBuilds
 pub mod Fetches
 pub mod Looks
+pub mod Changes

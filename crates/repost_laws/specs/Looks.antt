@@ -34,34 +34,49 @@ IsLinkedTo e f = (is_entering e.place.side ≡ false) × (is_before e.place f.pl
 abbrev pub TakesUnits : List Entry → Entry → Entry → Type 0
 TakesUnits line e f = (f.method ≡ Fifo) × (is_entering f.place.side ≡ false) × RangesMeet line e f
 
--- the first is a new movement before the second, of its item in its warehouse, and no other stands between them
-pub record IsNextAfterNew (n : ℕ) (line : List Entry) (g f : Entry) : Type 0 where
+-- the first is a movement before the second that passes a test, of its item in its warehouse, and no other such stands between
+-- them
+pub record IsNextAfter (test : Entry → Bool) (line : List Entry) (g f : Entry) : Type 0 where
   pub held : Contains line g
-  pub new : is_new n g ≡ true
+  pub new : test g ≡ true
   pub of_key : is_of_key (entry_key f) g ≡ true
   pub before : is_before g.place f.place ≡ true
-  pub none_between : (h : Entry) → Contains line h → is_new n h ≡ true → is_of_key (entry_key f) h ≡ true
+  pub none_between : (h : Entry) → Contains line h → test h ≡ true → is_of_key (entry_key f) h ≡ true
       → is_before g.place h.place ≡ true → is_before h.place f.place ≡ true → ⊥
 
--- at the moving average, the movement starts from a new one
-abbrev pub StartsFromNew : ℕ → List Entry → Entry → Type 0
-StartsFromNew n line f =
+-- at the moving average, the movement starts from one that passes
+abbrev pub StartsFromOne : (Entry → Bool) → List Entry → Entry → Type 0
+StartsFromOne test line f =
     (f.method ≡ Average)
-    × (g : Entry) × (is_new n g ≡ true) × Contains line g × (next_of_key line g ≡ Some f)
+    × (g : Entry) × (test g ≡ true) × Contains line g × (next_of_key line g ≡ Some f)
 
--- first in, first out, it leaves after a new one of its item in its warehouse
-abbrev pub LeavesAfterNew : ℕ → List Entry → Entry → Type 0
-LeavesAfterNew n line f = (f.method ≡ Fifo) × (is_entering f.place.side ≡ false) × (g : Entry) × IsNextAfterNew n line g f
+-- first in, first out, it leaves after one that passes of its item in its warehouse
+abbrev pub LeavesAfterOne : (Entry → Bool) → List Entry → Entry → Type 0
+LeavesAfterOne test line f =
+    (f.method ≡ Fifo) × (is_entering f.place.side ≡ false) × (g : Entry) × IsNextAfter test line g f
 
--- it is a return, and a new return of the same line comes before it
-pub record FollowsNewReturn (n : ℕ) (line : List Entry) (f : Entry) : Type 0 where
+-- it is a return, and a return of the same line that passes comes before it
+pub record FollowsReturn (test : Entry → Bool) (line : List Entry) (f : Entry) : Type 0 where
   pub target : Target
   pub returns : is_return_of target f.cause ≡ true
   pub g : Entry
   pub held : Contains line g
-  pub new : is_new n g ≡ true
+  pub new : test g ≡ true
   pub same : returns_of target g ≡ true
   pub before : is_before g.place f.place ≡ true
+
+-- the same of new movements
+abbrev pub IsNextAfterNew : ℕ → List Entry → Entry → Entry → Type 0
+IsNextAfterNew n = IsNextAfter (is_new n)
+
+abbrev pub StartsFromNew : ℕ → List Entry → Entry → Type 0
+StartsFromNew n = StartsFromOne (is_new n)
+
+abbrev pub LeavesAfterNew : ℕ → List Entry → Entry → Type 0
+LeavesAfterNew n = LeavesAfterOne (is_new n)
+
+abbrev pub FollowsNewReturn : ℕ → List Entry → Entry → Type 0
+FollowsNewReturn n = FollowsReturn (is_new n)
 
 -- the movement is an issue, the side of a transfer that leaves, or a return to a supplier
 abbrev pub IsIssue : Entry → Type 0

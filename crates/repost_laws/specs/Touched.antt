@@ -31,6 +31,17 @@ is_new n e = nat_lt n e.place.voucher.0
 abbrev pub is_old : ℕ → Entry → Bool
 is_old n e = not (is_new n e)
 
+-- the movement is of a record that goes, or of none of those
+abbrev pub is_gone : (ℕ → Bool) → Entry → Bool
+is_gone gone e = gone e.place.voucher.0
+
+abbrev pub is_left : (ℕ → Bool) → Entry → Bool
+is_left gone e = not (is_gone gone e)
+
+-- it comes, or it goes
+abbrev pub is_changed : ℕ → (ℕ → Bool) → Entry → Bool
+is_changed n gone e = is_new n e || is_gone gone e
+
 -- a movement that passes changed what the stock is before this one: at the moving average it is the last one of the same
 -- item in the same warehouse, and first in, first out it is any earlier one, where this one leaves
 abbrev pub follows_by : Method → (Entry → Bool) → List Entry → Entry → Bool
@@ -51,6 +62,11 @@ follows_any test past e = follows_by e.method test past e || follows_return test
 -- the moving average the next one, first in, first out all that leave, and of returns all further ones of the same line
 abbrev pub is_touched : ℕ → (Target → Bool) → List Entry → Entry → Bool
 is_touched n is_charged line e = is_new n e || (is_charged (own_line e) || follows_any (is_new n) (earlier line e) e)
+
+-- where records come and others go, they touch the movements that come, those whose line another sum is charged to, and those
+-- that come after what comes or goes, among all that were there or are there now
+abbrev pub is_touched_by : ℕ → (ℕ → Bool) → (Target → Bool) → List Entry → Entry → Bool
+is_touched_by n gone is_charged both e = is_new n e || (is_charged (own_line e) || follows_any (is_changed n gone) (earlier both e) e)
 
 -- the movement starts from what is held after the one at the place
 abbrev pub StartsFrom : List Entry → Place → Entry → Type 0

@@ -10,7 +10,7 @@ ghost use Rattle.stock_model.specs.LandedCost.{added};
 ghost use Rattle.stock_model.specs.PostingOrder.{posting_line};
 ghost use Rattle.stock_model.specs.Replay.{replay};
 ghost use Rattle.stock_model.specs.declared.records.Record.{Record};
-ghost use Rattle.repost_laws.specs.Builds.{Suspects, IsBuilt, IsClean, IsFetch, IsTurn};
+ghost use Rattle.repost_laws.specs.Builds.{Suspects, IsBuilt, IsClean, IsFetch, IsChange, IsTurn};
 ghost use Rattle.repost_laws.specs.Touched.{SpreadsTo};
 ghost use Rattle.repost_laws.specs.Valuations.{Found, found_rows};
 
@@ -26,6 +26,16 @@ pub fn a_fetch_keeps_what_is_built()
         (new_charged : Target → ℕ) (new_line : List Entry) (new_suspects : Suspects) (found : Found) →
         IsFetch n is_charged charged line suspects new_charged new_line new_suspects
         → IsBuilt charged line found suspects → IsBuilt new_charged new_line found new_suspects }
+{}
+
+/// Where records come and others go, no movement that stays and that they do not touch changes its value: what holds from turn
+/// to turn of the movements that were there, holds of those that are there now.
+pub fn a_change_keeps_what_is_built()
+    ensures { (n : ℕ) (gone : ℕ → Bool) (is_charged : Target → Bool) (both : List Entry) (charged : Target → ℕ)
+        (line : List Entry) (found : Found) (suspects : Suspects) (new_charged : Target → ℕ) (new_line : List Entry)
+        (new_found : Found) (new_suspects : Suspects)
+        → IsChange n gone is_charged both charged line found suspects new_charged new_line new_found new_suspects
+        → IsBuilt charged line found suspects → IsBuilt new_charged new_line new_found new_suspects }
 {}
 
 /// And so does a turn that values one suspect and marks those that its value spreads to, where the value changed.

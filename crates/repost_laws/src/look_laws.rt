@@ -10,8 +10,9 @@ ghost use Rattle.stock_model.specs.Enough.{IsEnough};
 ghost use Rattle.stock_model.specs.InOrder.{IsInPostingOrder};
 ghost use Rattle.stock_model.specs.Values.{own_line};
 ghost use Rattle.repost_laws.specs.Looks.{HaveOneMoment, IsLinkedTo, TakesUnits, StartsFromNew, LeavesAfterNew, FollowsNewReturn};
+ghost use Rattle.repost_laws.specs.Looks.{StartsFromOne, LeavesAfterOne, FollowsReturn};
 ghost use Rattle.repost_laws.specs.Looks.{GoesOut};
-ghost use Rattle.repost_laws.specs.Touched.{is_new, is_touched, next_of_key, StartsFrom, TakesFrom};
+ghost use Rattle.repost_laws.specs.Touched.{is_new, is_changed, is_touched, is_touched_by, next_of_key, StartsFrom, TakesFrom};
 ghost use Rattle.repost_laws.specs.Valuations.{Found, found_value, earlier, pieces_taken_by, left_by, sources, taken_over};
 
 /// A movement starts from another exactly where it is at the moving average and the next one after it, of its item in its
@@ -36,6 +37,15 @@ pub fn is_touched_when()
         → (is_touched n charged line f ≡ true)
         ↔ ((is_new n f ≡ true) ⊎ (charged (own_line f) ≡ true) ⊎ StartsFromNew n line f ⊎ LeavesAfterNew n line f
         ⊎ FollowsNewReturn n line f) }
+{}
+
+/// Where movements come and others go, those touch the same that come, and those whose line another sum is charged to; and of those
+/// that come or go, among all that were there or are there now, what new ones touch that come after theirs.
+pub fn is_touched_by_when()
+    ensures { (n : ℕ) (gone : ℕ → Bool) (charged : Target → Bool) (both : List Entry) (f : Entry) → IsInPostingOrder both → Contains both f
+        → (is_touched_by n gone charged both f ≡ true)
+        ↔ ((is_new n f ≡ true) ⊎ (charged (own_line f) ≡ true) ⊎ StartsFromOne (is_changed n gone) both f
+        ⊎ LeavesAfterOne (is_changed n gone) both f ⊎ FollowsReturn (is_changed n gone) both f) }
 {}
 
 /// By a line of a voucher at most one movement leaves, where movements of one record have one moment. What left by the line

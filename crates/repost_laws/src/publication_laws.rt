@@ -9,7 +9,8 @@ ghost use Rattle.stock_model.specs.PostingOrder.{posting_line};
 ghost use Rattle.stock_model.specs.Replay.{replay};
 ghost use Rattle.stock_model.specs.declared.records.Record.{Record};
 ghost use Rattle.repost_laws.specs.Builds.{Suspects, IsBuilt, IsClean, IsFetch, IsTurn};
-ghost use Rattle.repost_laws.specs.Builds.{ValuedSince, IsValuedAt, IsSincePublished, is_as_published};
+ghost use Rattle.repost_laws.specs.Builds.{IsChange, ValuedSince, IsValuedAt, IsSincePublished, IsSince, is_as_published, is_row_left};
+ghost use Rattle.repost_laws.specs.Changes.{goes_with};
 ghost use Rattle.repost_laws.specs.Valuations.{Found};
 
 /// From a publication on it is known where what was found may differ from what was published: at the places that were
@@ -41,4 +42,34 @@ pub fn a_publication_changes_what_was_valued()
         → IsClean (posting_line (journal ++ more)) suspects
         → IsSincePublished (length journal) published (posting_line (journal ++ more)) found suspects valued
         → filter (is_as_published valued) (replay (journal ++ more)) ≡ filter (is_as_published valued) (replay journal) }
+{}
+
+/// The same where movements go: it is known where what was found of those that are left may differ from what was published.
+pub fn what_was_valued_since_is_known_of_those_left()
+    ensures start { (journal : List Record) (found : Found) (suspects : Suspects) (valued : ValuedSince) → AreLegal journal
+        → ((place : Place) → valued place ≡ false)
+        → IsSince (length journal) found (posting_line journal) found suspects valued }
+    ensures change { (n m : ℕ) (published : Found) (gone : ℕ → Bool) (is_charged : Target → Bool) (both : List Entry)
+        (charged : Target → ℕ) (line : List Entry) (found : Found) (suspects : Suspects) (new_charged : Target → ℕ)
+        (new_line : List Entry) (new_found : Found) (new_suspects : Suspects) (valued : ValuedSince) → n ≤ m
+        → IsChange m gone is_charged both charged line found suspects new_charged new_line new_found new_suspects
+        → IsSince n published line found suspects valued → IsSince n published new_line new_found new_suspects valued }
+    ensures turn { (n : ℕ) (published : Found) (charged : Target → ℕ) (line : List Entry) (found : Found)
+        (suspects : Suspects) (e : Entry) (new_found : Found) (new_suspects : Suspects) (valued new_valued : ValuedSince)
+        → IsTurn charged line found suspects e new_found new_suspects → IsValuedAt valued new_valued e.place
+        → IsSince n published line found suspects valued → IsSince n published line new_found new_suspects new_valued }
+{}
+
+/// Where there is no suspect, the replay of a journal with more records has the rows of the replay that was published but for
+/// those of movements that go, and for those at places that were valued since.
+pub fn a_publication_changes_what_goes_and_what_was_valued()
+    ensures { (journal more : List Record) (published found : Found) (suspects first_suspects : Suspects)
+        (valued : ValuedSince) → AreLegal journal → AreLegal (journal ++ more)
+        → IsBuilt (added journal) (posting_line journal) published first_suspects
+        → IsClean (posting_line journal) first_suspects
+        → IsBuilt (added (journal ++ more)) (posting_line (journal ++ more)) found suspects
+        → IsClean (posting_line (journal ++ more)) suspects
+        → IsSince (length journal) published (posting_line (journal ++ more)) found suspects valued
+        → filter (is_as_published valued) (replay (journal ++ more))
+        ≡ filter (is_as_published valued) (filter (is_row_left (goes_with journal more)) (replay journal)) }
 {}

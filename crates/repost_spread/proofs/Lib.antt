@@ -1,6 +1,8 @@
 pub mod Kept
 pub mod Puts
 pub mod ReturnedOnes
+pub mod Permuted
+pub mod LeftOnes
 pub mod TakingUnits
 pub mod TakingLayers
 pub mod TakingLines

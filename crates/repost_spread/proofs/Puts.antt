@@ -67,7 +67,7 @@ AreDated-next line es e dated =
     }
 
 -- the rest begins with the next
-rest-is : (es : List Entry) (i : ℕ) (e : Entry) → i < length es → e ≡ get_or es i e → drop i es ≡ e ∷ drop (i + 1) es
+pub rest-is : (es : List Entry) (i : ℕ) (e : Entry) → i < length es → e ≡ get_or es i e → drop i es ≡ e ∷ drop (i + 1) es
 rest-is es i e within is =
     let one_more : suc i ≡ i + 1 = omega arith in
     drop-cons es i e within ∙ ap (λ (f : Entry). f ∷ drop (suc i) es) (sym is) ∙ ap (λ (k : ℕ). e ∷ drop k es) one_more

@@ -1,5 +1,5 @@
 //! Movements with what was found of each, and those that look at one another.
-ghost use Rattle.std.specs.Prelude.{◌≡◌, ◌+◌, ◌^◌, ◌<◌, ◌≤◌, [], ◌++◌, length, ℕ, map, take, drop, List, OnOk, OnErr};
+ghost use Rattle.std.specs.Prelude.{◌≡◌, ◌+◌, ◌^◌, ◌<◌, ◌≤◌, [], ◌++◌, length, ℕ, map, take, drop, List, Contains, OnOk, OnErr};
 ghost use Rattle.std.specs.List.{find};
 ghost use Rattle.std.specs.Option.{option_copied};
 ghost use Rattle.stock_nums.specs.declared.cause.Target.{Target};
@@ -8,11 +8,13 @@ ghost use Rattle.stock_model.specs.InOrder.{IsInPostingOrder};
 ghost use Rattle.stock_model.specs.PostingOrder.{put, put_all};
 ghost use Rattle.quantity_check.specs.OwnPlaces.{HaveOwnPlaces};
 ghost use Rattle.cost_links.specs.Charged.{charge_pairs, charged_to};
-ghost use Rattle.repost_frontier.specs.Slots.{is_suspect, as_published, slot_at, with_value};
+ghost use Rattle.posting_order.specs.Timelines.{without};
+ghost use Rattle.repost_frontier.specs.Slots.{is_suspect, as_published, slot_at, slots_without, with_value};
 ghost use Rattle.repost_laws.specs.Fetches.{AreDated};
 ghost use Rattle.repost_spread.specs.Adding.{put_new, put_all_new};
 ghost use Rattle.repost_index.specs.Indexed.{AreIndexed, CanBeIndexed, HasNoMoreRoom, HasRoom};
 ghost use Rattle.repost_spread.specs.Movements.{AreKept, HaveNoMoreRoom, entries_of, line_of, slots_of, charged_by};
+ghost use Rattle.repost_spread.specs.Removing.{slots_but_all, line_but_all};
 
 use cost_links::charges::Charge;
 use cost_links::links::Links;
@@ -84,6 +86,22 @@ impl Movements {
         // The room was taken for the worst case of all of them.
         give_back(&mut self.frontier, &mut self.index);
         Ok(())
+    }
+
+    /// Takes movements out, each of which is there, with what was found of them, and takes charges off. It takes no memory.
+    pub fn remove(&mut self, gone: &[Entry], uncharged: &[Charge])
+        requires kept { AreKept self.old }
+        requires held { (e : Entry) → Contains gone.now e → Contains (line_of self.old) e }
+        requires apart { HaveOwnPlaces gone.now }
+        requires within { (line : Target) → charged_to line (charge_pairs uncharged.now) ≤ charged_by self.old line }
+        ensures kept { AreKept self.new }
+        ensures slots { slots_of self.new ≡ slots_but_all (slots_of self.old) gone.now }
+        ensures line { line_of self.new ≡ line_but_all (line_of self.old) gone.now }
+        ensures charged { (line : Target) → charged_by self.new line + charged_to line (charge_pairs uncharged.now)
+            ≡ charged_by self.old line }
+    {
+        take_all(&mut self.frontier, &mut self.index, gone);
+        self.links.remove(gone, uncharged);
     }
 
     /// The movement at the place, with what was found of it. None exactly where there is none. It takes no memory.
@@ -180,4 +198,32 @@ fn give_back(frontier: &mut Frontier, index: &mut Index)
 {
     frontier.release();
     index.release();
+}
+
+// Takes movements out, each of which is there.
+fn take_all(frontier: &mut Frontier, index: &mut Index, gone: &[Entry])
+    requires indexed { AreIndexed (entries_of frontier.old.slots) index.old }
+    requires held { (e : Entry) → Contains gone.now e → Contains (entries_of frontier.old.slots) e }
+    requires apart { HaveOwnPlaces gone.now }
+    ensures slots { frontier.new.slots ≡ slots_but_all frontier.old.slots gone.now }
+    ensures line { entries_of frontier.new.slots ≡ line_but_all (entries_of frontier.old.slots) gone.now }
+    ensures indexed { AreIndexed (entries_of frontier.new.slots) index.new }
+{
+    for entry in gone {
+        take(frontier, index, entry);
+    }
+}
+
+// Takes a movement out, which is there.
+fn take(frontier: &mut Frontier, index: &mut Index, entry: &Entry)
+    ghost line: { List Entry }
+    requires same { entries_of frontier.old.slots ≡ line }
+    requires indexed { AreIndexed line index.old }
+    requires held { Contains line entry.now }
+    ensures slots { frontier.new.slots ≡ slots_without frontier.old.slots entry.now.place }
+    ensures line { entries_of frontier.new.slots ≡ without line entry.now.place }
+    ensures indexed { AreIndexed (without line entry.now.place) index.new }
+{
+    index.remove(entry);
+    frontier.remove(&entry.place);
 }

@@ -14,6 +14,7 @@ use Rattle.stock_model.specs.declared.records.Record.{Record}
 use Rattle.stock_laws.proofs.Histories.{records-append, covered_after-append}
 use Rattle.stock_model.proofs.Pairwise.{Contains-first, Contains-later}
 use Rattle.repost_laws.specs.Touched.{is_new}
+use Rattle.repost_laws.proofs.WholeSteps.{few-turns}
 use Rattle.repost_build.specs.Readings.{turns_of, fetches_of, target_of, IsUnchanged}
 use Rattle.repost_build.specs.declared.build.Build.{Build}
 use Rattle.repost_worker.specs.Paces.{Pace, pace_of, movements_of, movements_after, IsInPace, IsAtRest, IsSamePace, WorksInPace, StopsInPace}
@@ -97,7 +98,7 @@ few-counted history build work =
     let front = movements-front (records history) (target_of build) in
     omega (
       arith,
-      work.of.built.counted.few.bound,
+      few-turns work.of.built,
       mul-le-mul_left (fetches_of build) (let more : length (posting_line (records_of history build)) + 1 ≤ all + 1 = omega (arith, front) in more),
       mul-le-mul_left (all + 1) work.fetches,
       mul_comm (fetches_of build) (all + 1),

@@ -12,6 +12,7 @@ use Rattle.repost_frontier.specs.Readings.{found_of, suspects_of, revalued_of}
 use Rattle.repost_frontier.specs.declared.slot.Slot.{Slot}
 use Rattle.repost_laws.specs.Builds.{IsClean}
 use Rattle.repost_laws.specs.Touched.{is_touched, is_charged_by}
+use Rattle.repost_laws.proofs.WholeSteps.{few-turns}
 use Rattle.repost_build.specs.Builds.{IsOf}
 use Rattle.repost_build.specs.Readings.{suspects_in, target_of, fetches_of, turns_of, IsUnchanged}
 use Rattle.repost_build.specs.declared.build.Build.{Build}
@@ -98,7 +99,7 @@ module _ (history : List Deed) (old mid : Build) (same : IsUnchanged old mid) wh
 -- without a fetch there was no turn
 pub turns-none : (journal : List Record) (build : Build) → IsOf journal build → fetches_of build ≡ 0 → turns_of build ≡ 0
 turns-none journal build of none =
-    let bound = subst (λ (f : ℕ). turns_of build ≤ f * (length (posting_line journal) + 1)) none of.built.counted.few.bound in
+    let bound = subst (λ (f : ℕ). turns_of build ≤ f * (length (posting_line journal) + 1)) none (few-turns of.built) in
     omega (arith, bound)
 
 -- a build that is of no more than is covered made none since that was published

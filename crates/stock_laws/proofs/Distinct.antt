@@ -19,8 +19,8 @@ use Rattle.stock_model.specs.Entries.{moved, move_made, moves_made, found_made, 
 use Rattle.stock_model.specs.Masters.{store_with}
 use Rattle.stock_model.specs.TargetLines.{coded_item, line_found}
 use Rattle.stock_model.specs.VoucherLines.{Subject, Coded, OfTarget, VoucherLine, lines_of, moves_of, return_moves, customer_return, supplier_return}
-use Rattle.stock_model.proofs.Growth.{all_entries-after}
-use Rattle.stock_laws.proofs.LineEntries.{HoldsOf, moves-each, line-each, movements-by, movements-each}
+use Rattle.stock_laws.proofs.LineEntries.{HoldsOf, moves-each, line-each, movements-by}
+use Rattle.stock_laws.proofs.LiveEntries.{IsOfNumber, movements-number, IsBetween, entries_after-between, Pairwise-live}
 use Rattle.stock_model.proofs.Pairwise.{Each, Precedes, Pairwise, Each-all, Each-append, Each-weaker, Each-from_Precedes, Precedes-from_Each, Pairwise-append, Across-from_Each}
 
 -- two movements have not all of record number, line and side the same
@@ -30,14 +30,6 @@ Differ a b = a.place.voucher.0 ≡ b.place.voucher.0 → a.place.line ≡ b.plac
 -- a movement is of the record with this number, from this line on
 abbrev IsFromLine : ℕ → ℕ → Entry → Type 0
 IsFromLine n k e = (e.place.voucher.0 ≡ n) × (k ≤ e.place.line)
-
--- a movement is of the record with this number
-abbrev IsOf : ℕ → Entry → Type 0
-IsOf n e = e.place.voucher.0 ≡ n
-
--- a movement is of the record with this number or of a later one
-abbrev IsSince : ℕ → Entry → Type 0
-IsSince n e = n ≤ e.place.voucher.0
 
 -- a movement is of the record and the line with these numbers
 abbrev IsOfLine : ℕ → ℕ → Entry → Type 0
@@ -117,9 +109,6 @@ lines-Pairwise by n k (line ∷ lines) own apart =
     (Across-from_Each Differ (IsOfLine n k) (IsFromLine n (k + 1)) (λ a b p q same_voucher same_line same_side. omega (arith, p.1, q.1, same_line)) _ _ (own k line) (lines-is_from_line by n (k + 1) lines own))
 
 -- the movements of one record
-movements-is_of : (journal : List Record) (n : ℕ) (what : What) → Each (IsOf n) (movements journal n what)
-movements-is_of journal n what = movements-each journal n what (IsOf n) (λ at timed i line is found found_is item named. Each-all (HoldsOf n at (1 + i) line item (IsOf n)) (λ move store. refl) (moves_of what line found))
-
 movements-Pairwise : (journal : List Record) (n : ℕ) (what : What) → Pairwise Differ (movements journal n what)
 movements-Pairwise journal n what =
     movements-by journal n what (Pairwise Differ) tt
@@ -130,23 +119,16 @@ movements-Pairwise journal n what =
     (line-Pairwise journal n at what)))
 
 -- the movements of further records
-entries_after-is_since : (journal records : List Record) → Each (IsSince (length journal + 1)) (entries_after journal records)
-entries_after-is_since journal [] = tt
-entries_after-is_since journal (r ∷ rs) =
-    let n = length journal + 1 in
-    let longer = length-append journal (r ∷ []) in
-    Each-append (IsSince n) (entries journal r) (entries_after (journal ++ r ∷ []) rs)
-    (Each-weaker (IsOf n) (IsSince n) (λ e p. omega arith) _ (movements-is_of journal n r.what))
-    (Each-weaker (IsSince (length (journal ++ r ∷ []) + 1)) (IsSince n) (λ e p. omega arith) _ (entries_after-is_since (journal ++ r ∷ []) rs))
-
-entries_after-Pairwise : (journal records : List Record) → Pairwise Differ (entries_after journal records)
+pub entries_after-Pairwise : (journal records : List Record) → Pairwise Differ (entries_after journal records)
 entries_after-Pairwise journal [] = tt
 entries_after-Pairwise journal (r ∷ rs) =
     let n = length journal + 1 in
+    let next = journal ++ r ∷ [] in
     let longer = length-append journal (r ∷ []) in
-    Pairwise-append Differ (entries journal r) (entries_after (journal ++ r ∷ []) rs) (movements-Pairwise journal n r.what) (entries_after-Pairwise (journal ++ r ∷ []) rs)
-    (Across-from_Each Differ (IsOf n) (IsSince (length (journal ++ r ∷ []) + 1)) (λ a b p q same_voucher same_line same_side. omega arith) _ _ (movements-is_of journal n r.what) (entries_after-is_since (journal ++ r ∷ []) rs))
+    Pairwise-append Differ (entries journal r) (entries_after next rs) (movements-Pairwise journal n r.what) (entries_after-Pairwise next rs)
+    (Across-from_Each Differ (IsOfNumber n) (IsBetween (length next) (length (next ++ rs)))
+    (λ a b p q same_voucher same_line same_side. omega (arith, p, q.0, same_voucher, longer)) _ _ (movements-number journal n r.what) (entries_after-between next rs))
 
 -- the movements of a journal differ in their record number, in their line or in their side
 pub all_entries-Pairwise : (journal : List Record) → Pairwise Differ (all_entries journal)
-all_entries-Pairwise journal = rw all_entries-after (entries_after-Pairwise [] journal)
+all_entries-Pairwise journal = Pairwise-live Differ journal (entries_after-Pairwise [] journal)

@@ -20,8 +20,8 @@ use Rattle.stock_model.specs.Masters.{item_made, item_numbered, item_with}
 use Rattle.stock_model.specs.PostingOrder.{put, put_all, posting_line}
 use Rattle.stock_model.specs.TargetLines.{coded_item}
 use Rattle.stock_model.specs.VoucherLines.{Subject, Coded, OfTarget, moves_of}
-use Rattle.stock_model.proofs.Growth.{all_entries-after}
 use Rattle.stock_laws.proofs.LineEntries.{HoldsOf, movements-each}
+use Rattle.stock_laws.proofs.LiveEntries.{Each-live}
 use Rattle.stock_model.proofs.Pairwise.{Each, Each-all, Each-append}
 
 -- the formula of the item that the record makes, if it makes one
@@ -151,5 +151,6 @@ unfolding posting_line
 posting_line-formula journal = (
   formula_from 1 journal,
   All-from_Each (HasFormula (formula_from 1 journal)) (put_all [] (all_entries journal))
-      (put_all-Each (HasFormula (formula_from 1 journal)) [] (all_entries journal) tt (rw all_entries-after (entries_after-formula [] journal))),
+      (put_all-Each (HasFormula (formula_from 1 journal)) [] (all_entries journal) tt
+      (Each-live (HasFormula (formula_from 1 journal)) journal (entries_after-formula [] journal))),
 )

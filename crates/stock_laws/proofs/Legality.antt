@@ -1,5 +1,5 @@
 -- Records without a fault, and journals of such records.
-use Rattle.std.proofs.Common.{◌≡◌, ℕ, zero, suc, ◌+◌, ◌<◌, ◌≤◌, List, [], ◌∷◌, ◌++◌, length, take, None, ap, subst, arith, append_assoc, length-append}
+use Rattle.std.proofs.Common.{◌≡◌, ℕ, zero, suc, ◌+◌, ◌<◌, ◌≤◌, List, [], ◌∷◌, ◌++◌, length, take, None, subst, arith, append_assoc, length-append}
 use Rattle.std.proofs.lemmas.Bool.Decides.{nat_tests}
 use Rattle.std.proofs.lemmas.List.{append-nil}
 use Rattle.stock_nums.specs.declared.limits.TheConstants.{MAX_RECORDS, MAX_ENTRIES}
@@ -13,7 +13,7 @@ use Rattle.stock_model.specs.History.{records, IsLegalAfter, IsLegal}
 use Rattle.stock_model.specs.Journals.{AreLegalAfter, AreLegal, AreSoundAfter, AreSound}
 use Rattle.stock_model.specs.PostingOrder.{posting_line}
 use Rattle.stock_laws.proofs.Enough.{IsEnough-from_none, IsEnough-nil}
-use Rattle.stock_model.proofs.Growth.{all_entries-after, all_entries-snoc}
+use Rattle.stock_laws.proofs.LiveEntries.{length-all_entries-step}
 use Rattle.stock_model.proofs.NoFaults.{neither, none-map}
 
 tested_room : (journal : List Record) (item : Record) → full journal item ≡ None
@@ -78,12 +78,12 @@ pub record IsHeld (journal : List Record) : Type 0 where
   pub enough : IsEnough (posting_line journal)
 
 IsHeld-nil : IsHeld []
-unfolding posting_line
+unfolding posting_line all_entries
 IsHeld-nil =
     record {
       records = omega arith;
-      few = omega (arith, ap length (all_entries-after []));
-      enough = rw all_entries-after IsEnough-nil;
+      few = omega arith;
+      enough = IsEnough-nil;
     }
 
 IsHeld-after : (journal rest : List Record) → IsHeld journal → AreLegalAfter journal rest → IsHeld (journal ++ rest)
@@ -93,7 +93,7 @@ IsHeld-after journal (item ∷ rest) held legal =
     let next : IsHeld (journal ++ item ∷ []) =
     record {
       records = omega (arith, length-append journal (item ∷ []), none.records);
-      few = omega (arith, ap length (all_entries-snoc journal item), length-append (all_entries journal) (entries journal item), none.few);
+      few = omega (arith, length-all_entries-step journal item, none.few);
       enough = IsEnough-from_none (posting_line (journal ++ item ∷ [])) none.enough;
     } in
     subst IsHeld (append_assoc journal (item ∷ []) rest) (IsHeld-after (journal ++ item ∷ []) rest next legal.1)

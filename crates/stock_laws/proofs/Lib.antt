@@ -1,7 +1,9 @@
 pub mod Bounds
 pub mod LineEntries
+pub mod LiveEntries
 pub mod Distinct
 pub mod PostingLine
+pub mod LiveLines
 pub mod Histories
 pub mod Enough
 pub mod FirstOut

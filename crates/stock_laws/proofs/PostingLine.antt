@@ -35,7 +35,7 @@ IsBefore-turned a b differ not_before =
     ]
 
 -- a movement that comes before the first of those in order comes before all
-Precedes-along : (e f : Entry) (fs : List Entry) → IsBefore e f → Precedes IsBefore f fs → Precedes IsBefore e fs
+pub Precedes-along : (e f : Entry) (fs : List Entry) → IsBefore e f → Precedes IsBefore f fs → Precedes IsBefore e fs
 Precedes-along e f [] h k = tt
 Precedes-along e f (g ∷ gs) h k =
     (is_before-transitive e.place f.place g.place h k.0, Precedes-along e f gs h k.1)
@@ -50,7 +50,7 @@ put-Precedes R x (f ∷ fs) e h r =
     ]
 
 -- a movement put among those in order, from all of which it differs, leaves them in order
-put-Pairwise : (line : List Entry) (e : Entry) → Pairwise IsBefore line → Precedes Differ e line → Pairwise IsBefore (put line e)
+pub put-Pairwise : (line : List Entry) (e : Entry) → Pairwise IsBefore line → Precedes Differ e line → Pairwise IsBefore (put line e)
 put-Pairwise [] e h d = (tt, tt)
 put-Pairwise (f ∷ fs) e h d =
     let step : (b : Bool) → is_before e.place f.place ≡ b → Pairwise IsBefore (cond b (e ∷ f ∷ fs) (f ∷ put fs e)) =
@@ -61,20 +61,20 @@ put-Pairwise (f ∷ fs) e h d =
     step (is_before e.place f.place) refl
 
 -- further movements that differ from those of a line and from one more differ from those of the line with that one
-put-Across : (es line : List Entry) (e : Entry) → Across Differ es line → Precedes Differ e es → Across Differ es (put line e)
+pub put-Across : (es line : List Entry) (e : Entry) → Across Differ es line → Precedes Differ e es → Across Differ es (put line e)
 put-Across [] line e a h = tt
 put-Across (f ∷ fs) line e a h = (
   put-Precedes Differ f line e a.0 (λ same_voucher same_line same_side. h.0 (sym same_voucher) (sym same_line) (sym same_side)),
   put-Across fs line e a.1 h.1,
 )
 
-put_all-Pairwise : (line es : List Entry) → Pairwise IsBefore line → Pairwise Differ es → Across Differ es line → Pairwise IsBefore (put_all line es)
+pub put_all-Pairwise : (line es : List Entry) → Pairwise IsBefore line → Pairwise Differ es → Across Differ es line → Pairwise IsBefore (put_all line es)
 put_all-Pairwise line [] h k a = h
 put_all-Pairwise line (e ∷ es) h k a =
     put_all-Pairwise (put line e) es (put-Pairwise line e h a.0) k.1 (put-Across es line e a.1 k.0)
 
 -- no movement is in the empty line
-Across-nil : (es : List Entry) → Across Differ es []
+pub Across-nil : (es : List Entry) → Across Differ es []
 Across-nil [] = tt
 Across-nil (e ∷ es) = (tt, Across-nil es)
 

@@ -1,6 +1,6 @@
 -- What was received is worth its purchase prices and no more charges than the journal's landed vouchers part.
-use Rattle.std.proofs.Common.{◌≡◌, ℕ, ◌+◌, ◌*◌, ◌≤◌, ℤ, pos, ◌+ℤ◌, Bool, true, false, ◌&&◌, List, [], ◌∷◌, ◌++◌, length, get_or, map, filter, sum_by, sum, refl, ap, ◌∙◌, arith, unsigned_abs}
-use Rattle.std.specs.List.{All, flat_map, zip}
+use Rattle.std.proofs.Common.{◌≡◌, ℕ, ◌+◌, ◌*◌, ◌≤◌, ℤ, pos, ◌+ℤ◌, Bool, true, false, ◌&&◌, cond, List, [], ◌∷◌, ◌++◌, length, get_or, map, filter, sum_by, sum, refl, ap, ◌∙◌, arith, unsigned_abs}
+use Rattle.std.specs.List.{All, flat_map, enumerate_from, zip}
 use Rattle.std.proofs.lemmas.Bool.Decides.{nat_tests}
 use Rattle.std.proofs.lemmas.Int.{ints}
 use Rattle.std.proofs.lemmas.List.Sums.{sum_by-append, sum_by-cons, sum_by-le}
@@ -16,8 +16,9 @@ use Rattle.stock_nums.proofs.SharesLemmas.{sum-cons, sum-shares-le}
 use Rattle.stock_model.specs.declared.records.Record.{Record}
 use Rattle.stock_model.specs.declared.vouchers.What.{What}
 use Rattle.stock_model.specs.declared.vouchers.What.TheVariants.{Item, Store, Receipt, Issue, Transfer, CustomerReturn, SupplierReturn, Landed}
-use Rattle.stock_model.specs.Conservation.{is_receipt, price_by, price_of, purchases, charge_by, record_charge, charges, received}
-use Rattle.stock_model.specs.LandedCost.{weights, charged, record_charged, all_charged, is_charge_of, charge_amount, added}
+use Rattle.stock_model.specs.Conservation.{is_receipt, price_by, price_of, purchases, charge_by, record_charge, charge_if, charges, received}
+use Rattle.stock_model.specs.Entries.{is_live}
+use Rattle.stock_model.specs.LandedCost.{weights, charged, record_charged, charged_if, all_charged, is_charge_of, charge_amount, added}
 use Rattle.stock_model.specs.Limits.{is_within_limits}
 use Rattle.stock_model.specs.Sums.{row_entry, value_of}
 use Rattle.stock_model.specs.Values.{own_line}
@@ -166,21 +167,28 @@ charged-le journal (SupplierReturn at lines) = omega arith
 charged-le journal (Landed charge basis targets) =
     omega (arith, zip-le targets (shares (unsigned_abs charge.0) (weights journal basis targets)), sum-shares-le (unsigned_abs charge.0) (weights journal basis targets))
 
-charges_of-le : (journal records : List Record) → sum_by charge_amount (flat_map (record_charged journal) records) ≤ charges records
-charges_of-le journal [] = omega arith
-charges_of-le journal (item ∷ records) =
+-- in force or not
+charged_if-le : (b : Bool) (journal : List Record) (item : Record) → sum_by charge_amount (cond b (record_charged journal item) []) ≤ cond b (record_charge item) 0
+charged_if-le true journal item = charged-le journal item.what
+charged_if-le false journal item = omega arith
+
+charges_of-le : (live : ℕ → Bool) (journal : List Record) (k : ℕ) (records : List Record)
+    → sum_by charge_amount (flat_map (charged_if live journal) (enumerate_from k records)) ≤ sum_by (charge_if live) (enumerate_from k records)
+charges_of-le live journal k [] = omega arith
+charges_of-le live journal k (item ∷ records) =
+    let rest = enumerate_from (k + 1) records in
     omega (
       arith,
-      sum_by-append charge_amount (record_charged journal item) (flat_map (record_charged journal) records),
-      charged-le journal item.what,
-      charges_of-le journal records,
-      sum_by-cons record_charge item records,
+      sum_by-append charge_amount (charged_if live journal (k, item)) (flat_map (charged_if live journal) rest),
+      charged_if-le (live k) journal item,
+      charges_of-le live journal (k + 1) records,
+      sum_by-cons (charge_if live) (k, item) rest,
     )
 
 -- what was received is worth no more than the purchases and all charges
 pub received-le : (journal : List Record) (rows : List Row) → Received journal rows → received rows ≤ purchases rows + charges journal
 received-le journal rows before =
-    omega (arith, before.prices, before.charged_once any_line, tested-le charge_amount (is_charge_where any_line) (all_charged journal), charges_of-le journal journal)
+    omega (arith, before.prices, before.charged_once any_line, tested-le charge_amount (is_charge_where any_line) (all_charged journal), charges_of-le (is_live journal) journal 1 journal)
 
 charge-le : (what : What) → is_within_limits what ≡ true → charge_by what ≤ 1_000_000_000_000
 charge-le (Item code method) h = omega arith
@@ -192,7 +200,15 @@ charge-le (CustomerReturn at lines) h = omega arith
 charge-le (SupplierReturn at lines) h = omega arith
 charge-le (Landed charge basis targets) h = amount-le charge.0 (both-first (is_line_amount charge.0) _ h)
 
+charge_if-le : (b : Bool) (item : Record) → cond b (record_charge item) 0 ≤ 1_000_000_000_000
+charge_if-le true item = charge-le item.what item.limits
+charge_if-le false item = omega arith
+
+charges_from-le : (live : ℕ → Bool) (k : ℕ) (records : List Record) → sum_by (charge_if live) (enumerate_from k records) ≤ length records * 1_000_000_000_000
+charges_from-le live k [] = omega arith
+charges_from-le live k (item ∷ records) =
+    omega (arith, sum_by-cons (charge_if live) (k, item) (enumerate_from (k + 1) records), charge_if-le (live k) item, charges_from-le live (k + 1) records)
+
 -- the charges of a journal are at most 10^12 for each of its records
 pub charges-le : (journal : List Record) → charges journal ≤ length journal * 1_000_000_000_000
-charges-le [] = omega arith
-charges-le (item ∷ records) = omega (arith, sum_by-cons record_charge item records, charge-le item.what item.limits, charges-le records)
+charges-le journal = charges_from-le (is_live journal) 1 journal

@@ -23,14 +23,15 @@ use Rattle.stock_model.specs.declared.vouchers.ReturnLine.{ReturnLine}
 use Rattle.stock_model.specs.declared.vouchers.What.{What}
 use Rattle.stock_model.specs.declared.vouchers.What.TheVariants.{Item, Store, Receipt, Issue, Transfer, CustomerReturn, SupplierReturn, Landed}
 use Rattle.stock_model.specs.Enough.{entry_units}
-use Rattle.stock_model.specs.Entries.{moved, move_made, moves_made, found_made, line_made, lines_made, movements, entries, all_entries}
+use Rattle.stock_model.specs.Entries.{moved, move_made, moves_made, found_made, line_made, lines_made, movements, entries, is_spared, all_entries}
 use Rattle.stock_model.specs.Faults.{is_unknown_store, asks_more, is_less, left_to_return, first_repeated, is_among, name_one_line, voucher_fault}
 use Rattle.stock_model.specs.Journals.{AreSound, AreSoundAfter}
 use Rattle.stock_model.specs.Masters.{record_at, store_with}
 use Rattle.stock_model.specs.Returns.{is_return_of, returns_of, returned, returns_line, line_units, units_named}
 use Rattle.stock_model.specs.TargetLines.{line_numbered, target_line, coded_item}
 use Rattle.stock_model.specs.VoucherLines.{VoucherLine, lines_of, moves_of, receipt_line, issue_line, transfer_line, return_line, return_target}
-use Rattle.stock_model.proofs.Growth.{all_entries-after, all_entries-snoc}
+use Rattle.stock_model.proofs.Growth.{all_entries-snoc}
+use Rattle.stock_laws.proofs.LiveEntries.{all_entries-step}
 use Rattle.stock_model.proofs.MovementCount.{IsMade, lines-IsMade}
 use Rattle.stock_model.proofs.NoFaults.{NoFaults, NoFaults-from}
 use Rattle.stock_model.proofs.Numbered.{Fails, first_line-none}
@@ -47,6 +48,17 @@ returned-cons e es target =
     elim (returns_of target e) as (λ b. sum_by entry_units (cond b (e ∷ filter (returns_of target) es) (filter (returns_of target) es)) ≡ cond b e.qty.0 0 + returned es target) [
       | true ↦ sum_by-cons entry_units e (filter (returns_of target) es)
       | false ↦ omega arith
+    ]
+
+-- fewer movements return no more units
+returned-filter-le : (p : Entry → Bool) (es : List Entry) (target : Target) → returned (filter p es) target ≤ returned es target
+returned-filter-le p [] target = omega arith
+returned-filter-le p (e ∷ es) target =
+    let rest = returned-filter-le p es target in
+    let own = returned-cons e es target in
+    elim (p e) as (λ b. returned (cond b (e ∷ filter p es) (filter p es)) target ≤ returned (e ∷ es) target) [
+      | true ↦ omega (arith, returned-cons e (filter p es) target, own, rest)
+      | false ↦ omega (arith, own, rest)
     ]
 
 pub units_named-cons : (line : VoucherLine) (lines : List VoucherLine) (target : Target) → units_named (line ∷ lines) target ≡ cond (returns_line target line) line.qty.0 0 + units_named lines target
@@ -152,6 +164,19 @@ returned-snoc journal item target sound none =
     ap (λ (es : List Entry). returned es target) (all_entries-snoc journal item)
     ∙ returned-append (all_entries journal) (entries journal item) target
     ∙ ap (λ (x : ℕ). returned (all_entries journal) target + x) (movements-returned journal (length journal + 1) item.what target sound (NoFaults-from journal item.what none))
+
+-- they are no more than those of before and those that it names
+pub returned-step : (journal : List Record) (item : Record) (target : Target) → AreSound journal → voucher_fault journal item.what ≡ None
+    → returned (all_entries (journal ++ item ∷ [])) target ≤ returned (all_entries journal) target + units_named (lines_of item.what) target
+returned-step journal item target sound none =
+    let spared = filter (is_spared item) (all_entries journal) in
+    omega (
+      arith,
+      ap (λ (es : List Entry). returned es target) (all_entries-step journal item),
+      returned-append spared (entries journal item) target,
+      returned-filter-le (is_spared item) (all_entries journal) target,
+      movements-returned journal (length journal + 1) item.what target sound (NoFaults-from journal item.what none),
+    )
 
 -- the line of a record with the target's number
 abbrev pub line_of_record : Target → Record → Option VoucherLine
@@ -312,7 +337,7 @@ AreSoundAfter-within : (journal rest : List Record) (target : Target) → AreSou
 AreSoundAfter-within journal [] target sound after held snoc = rw append-nil held
 AreSoundAfter-within journal (item ∷ rest) target sound after held snoc =
     let none = NoFaults-from journal item.what after.0 in
-    let more = returned-snoc journal item target sound after.0 in
+    let more = returned-step journal item target sound after.0 in
     let within = units-within journal item.what target none held in
     let grown = units_at-append journal (item ∷ []) target in
     subst (λ (all : List Record). returned (all_entries all) target ≤ units_at all target) (append_assoc journal (item ∷ []) rest)
@@ -329,8 +354,8 @@ AreSound-snoc journal item sound none = sound_after-snoc [] journal item sound n
 
 -- of each line no more units are returned than it has
 pub returned-within : (journal : List Record) (target : Target) → AreSound journal → returned (all_entries journal) target ≤ units_at journal target
-returned-within journal target sound =
-    AreSoundAfter-within [] journal target tt sound (omega (arith, ap (λ (es : List Entry). returned es target) (all_entries-after []))) AreSound-snoc
+unfolding all_entries
+returned-within journal target sound = AreSoundAfter-within [] journal target tt sound (omega arith) AreSound-snoc
 
 -- and no more than a line can have
 pub units_at-le : (journal : List Record) (target : Target) → units_at journal target ≤ 1_000_000_000

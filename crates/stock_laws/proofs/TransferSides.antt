@@ -1,10 +1,10 @@
 -- A journal has as many sides of transfers that leave as sides that enter, line by line.
-use Rattle.std.proofs.Common.{◌≡◌, ℕ, ◌+◌, Bool, false, List, [], ◌∷◌, ◌++◌, length, sum_by, Option, Some, None, refl, sym, ◌∙◌, subst, arith, append_assoc}
+use Rattle.std.proofs.Common.{◌≡◌, ℕ, ◌+◌, Bool, false, List, [], ◌∷◌, ◌++◌, length, filter, sum_by, Option, Some, None, refl, sym, ◌∙◌, subst, arith}
 use Rattle.std.specs.Prelude.{is_none}
 use Rattle.std.specs.Option.{option_map, option_to_list}
 use Rattle.std.specs.List.{filter_map, flat_map, enumerate_from, cons_option, zip, list_any}
 use Rattle.std.proofs.lemmas.Bool.{or_parts}
-use Rattle.std.proofs.lemmas.List.{append-nil}
+use Rattle.std.proofs.lemmas.List.Elements.{filter-append}
 use Rattle.std.proofs.lemmas.List.Sums.{sum_by-append, sum_by-cons}
 use Rattle.stock_nums.specs.declared.cause.Cause.{Cause}
 use Rattle.stock_nums.specs.declared.cause.Method.{Method}
@@ -17,15 +17,15 @@ use Rattle.stock_model.specs.declared.seen.Move.{Move}
 use Rattle.stock_model.specs.declared.vouchers.What.{What}
 use Rattle.stock_model.specs.declared.vouchers.What.TheVariants.{Item, Store, Receipt, Issue, Transfer, CustomerReturn, SupplierReturn, Landed}
 use Rattle.stock_model.specs.Conservation.{is_sent, is_arrived}
-use Rattle.stock_model.specs.Entries.{moved, move_made, moves_made, found_made, line_made, lines_made, entries, all_entries}
+use Rattle.stock_model.specs.Entries.{moved, move_made, moves_made, found_made, line_made, lines_made, entries, entries_after, is_live_entry, all_entries}
 use Rattle.stock_model.specs.Faults.{is_unknown_store, voucher_fault}
 use Rattle.stock_model.specs.Journals.{AreSound, AreSoundAfter}
 use Rattle.stock_model.specs.Masters.{store_with}
 use Rattle.stock_model.specs.TargetLines.{coded_item}
 use Rattle.stock_model.specs.Values.{own_line}
 use Rattle.stock_model.specs.VoucherLines.{Subject, Coded, OfTarget, VoucherLine, lines_of, moves_of, return_moves, customer_return, supplier_return}
-use Rattle.stock_model.proofs.Growth.{all_entries-after, all_entries-snoc}
 use Rattle.stock_laws.proofs.LineEntries.{movements-by}
+use Rattle.stock_laws.proofs.LiveEntries.{movements-number, live-alike}
 use Rattle.stock_model.proofs.MovementCount.{IsMade, lines-IsMade}
 use Rattle.stock_model.proofs.NoFaults.{NoFaults-from}
 use Rattle.stock_model.proofs.Pairwise.{Each}
@@ -122,15 +122,18 @@ entries-even journal item weight sound none =
     (λ at timed. AreEven-append weight (lines_made journal (length journal + 1) item.what at) []
     (lines-even journal (length journal + 1) at item.what 1 (lines_of item.what) weight made) refl)
 
-even-after : (done rest : List Record) (weight : Moment → Target → ℕ) → AreSound done → AreSoundAfter done rest → AreEven weight (all_entries done) → AreEven weight (all_entries (done ++ rest))
-even-after done [] weight sound after even = rw append-nil even
-even-after done (item ∷ rest) weight sound after even =
-    let more : AreEven weight (all_entries (done ++ item ∷ [])) =
-    subst (AreEven weight) (sym (all_entries-snoc done item)) (AreEven-append weight (all_entries done) (entries done item) even (entries-even done item weight sound after.0)) in
-    subst (λ (all : List Record). AreEven weight (all_entries all)) (append_assoc done (item ∷ []) rest)
-    (even-after (done ++ item ∷ []) rest weight (AreSound-snoc done item sound after.0) after.1 more)
+-- so those of further records are that are in force, since those of one record are together
+even-live : (journal done rest : List Record) (weight : Moment → Target → ℕ) → AreSound done → AreSoundAfter done rest → AreEven weight (filter (is_live_entry journal) (entries_after done rest))
+even-live journal done [] weight sound after = refl
+even-live journal done (item ∷ rest) weight sound after =
+    let next = done ++ item ∷ [] in
+    let live = is_live_entry journal in
+    subst (AreEven weight) (sym (filter-append live (entries done item) (entries_after next rest)))
+    (AreEven-append weight (filter live (entries done item)) (filter live (entries_after next rest))
+    (live-alike (AreEven weight) journal (length done + 1) (entries done item) (movements-number done (length done + 1) item.what) refl (entries-even done item weight sound after.0))
+    (even-live journal next rest weight (AreSound-snoc done item sound after.0) after.1))
 
 -- and so are the movements of a sound journal
 pub all_entries-even : (journal : List Record) (weight : Moment → Target → ℕ) → AreSound journal → AreEven weight (all_entries journal)
-all_entries-even journal weight sound =
-    even-after [] journal weight tt sound (subst (AreEven weight) (sym (all_entries-after [])) refl)
+unfolding all_entries
+all_entries-even journal weight sound = even-live journal [] journal weight tt sound

@@ -1,18 +1,31 @@
 //! Laws of the definitions.
-ghost use Rattle.std.specs.Prelude.{◌≡◌, List};
+ghost use Rattle.std.specs.Prelude.{◌≡◌, List, [], ◌∷◌, ◌++◌, filter};
 ghost use Rattle.std.specs.List.Sorted.{IsPermutation};
 ghost use Rattle.stock_nums.specs.declared.entry.Entry.{Entry};
 ghost use Rattle.stock_model.specs.declared.records.Record.{Record};
-ghost use Rattle.stock_model.specs.Entries.{all_entries};
+ghost use Rattle.stock_model.specs.Entries.{entries, entries_after, is_live_entry, is_spared, all_entries};
 ghost use Rattle.stock_model.specs.Formulas.{HaveOneFormula};
 ghost use Rattle.stock_model.specs.InOrder.{IsInPostingOrder};
-ghost use Rattle.stock_model.specs.PostingOrder.{posting_line};
+ghost use Rattle.stock_model.specs.PostingOrder.{put_all, posting_line};
 
 /// The posting line of a journal has each of its movements, in posting order, and is the only list that has.
 pub fn posting_line_is_the_order()
     ensures in_order { (journal : List Record) → IsInPostingOrder (posting_line journal) }
     ensures complete { (journal : List Record) → IsPermutation (all_entries journal) (posting_line journal) }
     ensures only { (journal : List Record) (line : List Entry) → IsPermutation (all_entries journal) line → IsInPostingOrder line → line ≡ posting_line journal }
+{}
+
+/// One more record takes away the movements of the records that it takes back, and brings its own.
+pub fn one_more_record()
+    ensures line { (journal : List Record) (item : Record) → posting_line (journal ++ item ∷ [])
+        ≡ put_all (filter (is_spared item) (posting_line journal)) (entries journal item) }
+    ensures entries { (journal : List Record) (item : Record) → all_entries (journal ++ item ∷ []) ≡ filter (is_spared item) (all_entries journal) ++ entries journal item }
+{}
+
+/// Further records leave those movements that are in force with them, and bring those of theirs that are.
+pub fn further_records()
+    ensures { (journal more : List Record) → posting_line (journal ++ more)
+        ≡ put_all (filter (is_live_entry (journal ++ more)) (posting_line journal)) (filter (is_live_entry (journal ++ more)) (entries_after journal more)) }
 {}
 
 /// Of the movements of a journal, all of one item have one cost formula (IAS 2.25).

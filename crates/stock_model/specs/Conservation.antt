@@ -1,11 +1,13 @@
 -- Where the value is that was received: in stock, on its way, or gone by what was sold, used or given back.
-use Rattle.std.specs.Prelude.{ℕ, ◌-◌, Bool, true, false, not, List, filter, sum_by, unsigned_abs}
+use Rattle.std.specs.Prelude.{ℕ, ◌-◌, Bool, true, false, not, List, filter, sum_by, unsigned_abs, if◌then◌else◌}
+use Rattle.std.specs.List.{enumerate_from}
 use Rattle.stock_nums.specs.declared.cause.Cause.{Cause}
 use Rattle.stock_nums.specs.declared.cause.Cause.TheVariants.{Receipt, Issue, TransferLeaves, TransferEnters, CustomerReturn, SupplierReturn}
 use Rattle.stock_nums.specs.declared.entry.Row.{Row}
 use Rattle.stock_model.specs.declared.records.Record.{Record}
 use Rattle.stock_model.specs.declared.vouchers.What.{What}
 use Rattle.stock_model.specs.declared.vouchers.What.TheVariants.{Landed}
+use Rattle.stock_model.specs.Entries.{is_live}
 use Rattle.stock_model.specs.Sheets.{keys_of}
 use Rattle.stock_model.specs.Sums.{value_of, stock_value}
 
@@ -68,9 +70,13 @@ charge_by _ = 0
 abbrev pub record_charge : Record → ℕ
 record_charge item = charge_by item.what
 
--- the landed charges of a journal
+-- what the record with this number charges in all, where it is in force
+abbrev pub charge_if : (ℕ → Bool) → ℕ × Record → ℕ
+charge_if live (n, item) = if live n then record_charge item else 0
+
+-- the landed charges of a journal that are in force
 abbrev pub charges : List Record → ℕ
-charges journal = sum_by record_charge journal
+charges journal = sum_by (charge_if (is_live journal)) (enumerate_from 1 journal)
 
 -- what was received, with its landed charges
 abbrev pub received : List Row → ℕ

@@ -1,7 +1,7 @@
 -- The movements of a record: one for one item and one warehouse each.
-use Rattle.std.specs.Prelude.{ℕ, ◌+◌, ◌-◌, Bool, true, List, [], ◌∷◌, ◌++◌, length, take, filter, Option}
+use Rattle.std.specs.Prelude.{ℕ, ◌+◌, ◌-◌, Bool, false, not, List, [], ◌∷◌, ◌++◌, length, take, drop, filter, Option}
 use Rattle.std.specs.Option.{option_map, option_to_list}
-use Rattle.std.specs.List.{filter_map, enumerate_from, flat_map, zip}
+use Rattle.std.specs.List.{filter_map, enumerate_from, flat_map, zip, list_any}
 use Rattle.stock_nums.specs.declared.moment.Moment.{Moment}
 use Rattle.stock_nums.specs.declared.numbers.ItemNo.{ItemNo}
 use Rattle.stock_nums.specs.declared.numbers.StoreNo.{StoreNo}
@@ -64,12 +64,23 @@ abbrev pub entries_after : List Record → List Record → List Entry
 entries_after journal [] = []
 entries_after journal (item ∷ rest) = entries journal item ++ entries_after (journal ++ item ∷ []) rest
 
--- the record with this number is in force in the journal: none takes a record back
+-- what says this takes the record with this number back: as yet nothing does
+unfoldable pub cancels : ℕ → What → Bool
+cancels n what = false
+
+abbrev pub takes_back : ℕ → Record → Bool
+takes_back n item = cancels n item.what
+
+-- the record with this number, from 1, is in force in the journal: no later one takes it back
 abbrev pub is_live : List Record → ℕ → Bool
-is_live journal n = true
+is_live journal n = not (list_any (takes_back n) (drop n journal))
 
 abbrev pub is_live_entry : List Record → Entry → Bool
 is_live_entry journal e = is_live journal e.place.voucher.0
+
+-- the record doesn't take back the one whose movement this is
+abbrev pub is_spared : Record → Entry → Bool
+is_spared item e = not (takes_back e.place.voucher.0 item)
 
 -- the movements of all records of a journal that are in force, in the order of the records
 unfoldable pub all_entries : List Record → List Entry

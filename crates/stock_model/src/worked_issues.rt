@@ -9,7 +9,7 @@ ghost use Rattle.stock_model.specs.Faults.{fault};
 ghost use Rattle.stock_model.specs.WorkedIssues.{first, third, fourth, fifth, bought, sold_at, sales, lacks_one, holds, published, balance_of};
 
 /// Three units that cost 100 together are sold one a day, at 33, 34 and 33.
-#[tactic(auto, unfolding(crate::specs::Reports::selected, crate::specs::Replay::replay, crate::specs::PostingOrder::posting_line, crate::specs::Entries::all_entries, crate::specs::Sheets::balance))]
+#[tactic(auto, unfolding(crate::specs::Reports::selected, crate::specs::Replay::replay, crate::specs::PostingOrder::posting_line, crate::specs::Entries::cancels, crate::specs::Entries::all_entries, crate::specs::Sheets::balance))]
 pub fn balances_of_sales()
     ensures one { balance (balance_of 0) (selected (published (take 4 sales) 4) (balance_of 0)) ≡ holds 2 67 }
     ensures two { balance (balance_of 0) (selected (published (take 5 sales) 5) (balance_of 0)) ≡ holds 1 33 }
@@ -18,7 +18,7 @@ pub fn balances_of_sales()
 
 /// A further sale on the third is short at the sale of the fifth, and one before anything was bought is
 /// short at its own place.
-#[tactic(auto, unfolding(crate::specs::Faults::fault, crate::specs::Entries::all_entries, crate::specs::PostingOrder::posting_line, crate::specs::Enough::shortage))]
+#[tactic(auto, unfolding(crate::specs::Faults::fault, crate::specs::Entries::cancels, crate::specs::Entries::all_entries, crate::specs::PostingOrder::posting_line, crate::specs::Enough::shortage))]
 pub fn late_sales()
     ensures accepted { fault (take 5 sales) (sold_at fifth) ≡ None }
     ensures later { fault sales (sold_at third) ≡ Some (lacks_one fifth 6) }
@@ -26,7 +26,7 @@ pub fn late_sales()
 {}
 
 /// A report that has to cover a record is answered, pending, or of no such record.
-#[tactic(auto, unfolding(crate::specs::Reports::selected, crate::specs::Replay::replay, crate::specs::PostingOrder::posting_line, crate::specs::Entries::all_entries, crate::specs::Sheets::balance))]
+#[tactic(auto, unfolding(crate::specs::Reports::selected, crate::specs::Replay::replay, crate::specs::PostingOrder::posting_line, crate::specs::Entries::cancels, crate::specs::Entries::all_entries, crate::specs::Sheets::balance))]
 pub fn needs()
     ensures covered { report (published sales 6 ++ Kept bought ∷ []) (balance_of 6) ≡ Shown (balance_of 6) (selected (published sales 6 ++ Kept bought ∷ []) (balance_of 6)) }
     ensures pending { report (published sales 6 ++ Kept bought ∷ []) (balance_of 7) ≡ Told (Pending (record { 0 = 6 }) (record { 0 = 7 })) [] }

@@ -1,4 +1,4 @@
-use Rattle.repost_laws.proofs.LongerLines.{IsBuilt-fetch}
+use Rattle.repost_laws.proofs.ChangedLines.{IsBuilt-fetch}
 use Rattle.repost_laws.proofs.build_laws.a_fetch_keeps_what_is_built.Goals as goal
 
 pub returns : goal.returns
