@@ -1,8 +1,13 @@
 -- What passes a test among the elements of a list in another order.
 use Rattle.std.proofs.Common.{◌≡◌, ℕ, zero, suc, ◌<◌, Bool, true, false, cond, List, [], ◌∷◌, length, get_or, set, filter, sym, subst, arith}
-use Rattle.core.proofs.slice.Lists.{hd, swap_is}
 use Rattle.std.specs.List.Sorted.{IsPermutation}
+use Rattle.std.proofs.lemmas.List.Edits.{swap_is}
 use Rattle.std.proofs.lemmas.List.Sorted.{IsPermutation-refl, IsPermutation-trans, IsPermutation-cons, IsPermutation-middle, IsPermutation-keeps}
+
+-- an element of a list that has one
+first_of : {X : Type 0} (xs : List X) (i : ℕ) → i < length xs → X
+first_of [] i within = absurd (omega (arith, within))
+first_of (x ∷ xs) i within = x
 
 module _ {X : Type 0} (p : X → Bool) where
   -- the first two in the other order
@@ -52,7 +57,7 @@ module _ {X : Type 0} (p : X → Bool) where
   IsPermutation-filter xs ys same =
       IsPermutation-keeps xs (λ (l : List X). IsPermutation (filter p xs) (filter p l)) (IsPermutation-refl (filter p xs))
       (λ l i j within also so_far.
-      let d : X = hd l (omega arith) in
+      let d : X = first_of l i within in
       let made = set (set l i (get_or l j d)) j (get_or l i d) in
       subst (λ (m : List X). IsPermutation (filter p xs) (filter p m)) (swap_is l i j d within also)
       (IsPermutation-trans (filter p xs) (filter p l) (filter p made) so_far (swapped d l i j within also))) ys same
