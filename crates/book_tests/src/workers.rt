@@ -2,9 +2,9 @@
 ghost use Rattle.std.specs.Prelude.{◌≡◌, ◌<◌, Option, None};
 
 use crate::records::{ITEM, RECEIPT, SALE, STORE, record};
-use repost_worker::gate::{Gate, Go};
+use locked_worker::gate::{Gate, Go};
+use locked_worker::run_worker::run_worker;
 use repost_worker::revalued_book::RevaluedBook;
-use repost_worker::run_worker::run_worker;
 use repost_worker::turn::Turned;
 use std::alloc::Global;
 use std::marker::Brand;

@@ -8,13 +8,13 @@ use Rattle.turn_lock.specs.declared.view.View.{View}
 use Rattle.turn_lock.proofs.Lists.{begins_through, made_through_two, made_in_first}
 use Rattle.session_laws.specs.Makers.{with_makers, without_makers}
 use Rattle.repost_build.specs.declared.build.Build.{Build}
-use Rattle.repost_worker.specs.GatedRuns.{IsTurnWith, AreTurnsWith}
-use Rattle.repost_worker.specs.LockedTurns.{IsStop}
+use Rattle.locked_worker.specs.GatedRuns.{IsTurnWith, AreTurnsWith}
+use Rattle.locked_worker.specs.LockedTurns.{IsStop}
 use Rattle.repost_worker.specs.Turns.{IsWorkOf, publications}
 use Rattle.repost_worker.specs.declared.turn.Turned.{Turned}
 use Rattle.repost_worker.specs.declared.turn.Turned.TheVariants.{Valued, Fetched, Published, Idle}
-use Rattle.repost_worker.proofs.LockedHistories.{with_makers-begins, past-grown}
-use Rattle.repost_worker.proofs.LockedTurns.{work-handed}
+use Rattle.locked_worker.proofs.LockedHistories.{with_makers-begins, past-grown}
+use Rattle.locked_worker.proofs.LockedTurns.{work-handed}
 
 -- past the first history the pass made all that has the number 0
 pub record Owns (first : List (ℕ × Deed)) (view : View Deed) : Type 0 where

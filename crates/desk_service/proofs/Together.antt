@@ -21,7 +21,7 @@ use Rattle.session_laws.proofs.MakersOf.{without_makers-with_makers, without_mak
 use Rattle.session_laws.proofs.Serving.{Served-by_session}
 use Rattle.repost_build.specs.declared.build.Build.{Build}
 use Rattle.repost_worker.specs.Turns.{IsWorkOf}
-use Rattle.repost_worker.proofs.GatedRuns.{publishes-turns}
+use Rattle.locked_worker.proofs.GatedRuns.{publishes-turns}
 use Rattle.desk_service.specs.Desks.{IsAttended, Work, AreAttended, last_first}
 use Rattle.desk_service.specs.Endings.{IsClosed}
 use Rattle.desk_service.specs.Listening.{Heard, Accepts, HangsUp}

@@ -5,7 +5,7 @@ use Rattle.stock_keeper.specs.declared.fault.KeepFault.{KeepFault}
 use Rattle.turn_lock.specs.Passes.{PassView}
 use Rattle.session_laws.specs.Makers.{without_makers}
 use Rattle.repost_build.specs.declared.build.Build.{Build}
-use Rattle.repost_worker.specs.GatedRuns.{AreTurnsWith}
+use Rattle.locked_worker.specs.GatedRuns.{AreTurnsWith}
 use Rattle.repost_worker.specs.Turns.{IsWorkOf}
 use Rattle.repost_worker.specs.declared.turn.Turned.{Turned}
 use Rattle.desk_server.specs.Exchanging.{LeavesRest}

@@ -2,7 +2,7 @@
 ghost use Rattle.std.specs.Prelude.{◌≡◌, ℕ, Bool};
 ghost use Rattle.stock_io.specs.Counts.{raised};
 
-use repost_worker::gate::{Gate, Go};
+use locked_worker::gate::{Gate, Go};
 use repost_worker::turn::Turned;
 use stock_keeper::fault::KeepFault;
 
@@ -32,7 +32,7 @@ pub struct UntilShutdown<S> {
 
 impl<S: Shutdown> Gate for UntilShutdown<S> {
     ghost use Rattle.std.specs.Prelude.{None, if◌then◌else◌};
-    ghost use Rattle.repost_worker.specs.declared.gate.Go.TheVariants.{Work, Stop};
+    ghost use Rattle.locked_worker.specs.declared.gate.Go.TheVariants.{Work, Stop};
     ghost use Rattle.desk_service.specs.Rests.{rests_after};
 
     ghost told = { λ _. None };

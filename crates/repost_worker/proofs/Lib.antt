@@ -1,17 +1,11 @@
-pub mod FewTurns
 pub mod FreshTurns
-pub mod GatedRuns
-pub mod LockedHistories
-pub mod LockedTurns
 pub mod OpenedBooks
 pub mod OpenedOrder
 pub mod Paces
 pub mod RunLaws
 pub mod Running
 pub mod Settling
-pub mod Stops
 pub mod StoredPosts
 pub mod TurnsAhead
-pub mod UnderWay
 pub mod Working
 pub mod Works

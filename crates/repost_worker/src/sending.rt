@@ -1,7 +1,5 @@
-//! That what a turn or a run did, what a turn under the lock left, and why a ledger was not opened, may cross from one thread
-//! to another.
+//! That what a turn or a run did, and why a ledger was not opened, may cross from one thread to another.
 
-use crate::locked_turn::Worked;
 use crate::opening::NotOpened;
 use crate::run::Ran;
 use crate::turn::Turned;
@@ -12,7 +10,6 @@ fn sent<T: Send>() {}
 fn what_was_done_may_cross_threads() {
     sent::<Turned>();
     sent::<Ran>();
-    sent::<Worked<Nowhere>>();
 }
 
 fn what_was_not_opened_may_cross_threads() {

@@ -1,0 +1,6 @@
+pub mod FewTurns
+pub mod GatedRuns
+pub mod LockedHistories
+pub mod LockedTurns
+pub mod Stops
+pub mod UnderWay

@@ -1,0 +1,2 @@
+pub mod LockedTurns
+pub mod GatedRuns

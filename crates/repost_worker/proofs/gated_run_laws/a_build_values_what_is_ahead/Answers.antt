@@ -1,5 +1,0 @@
-use Rattle.repost_worker.proofs.FewTurns.{few-valued}
-use Rattle.repost_worker.proofs.gated_run_laws.a_build_values_what_is_ahead.Goals as goal
-
-pub returns : goal.returns
-returns c = few-valued
