@@ -1,15 +1,18 @@
 -- What a build of a legal journal gives the calls of a turn.
-use Rattle.std.proofs.Common.{◌≡◌, ◌↔◌, ◌∙◌, ℕ, false, List, Option, Some, None, Contains, refl, sym, subst}
+use Rattle.std.proofs.Common.{◌≡◌, ◌↔◌, ◌∙◌, ℕ, ◌+◌, ◌^◌, ◌<◌, ◌≤◌, length, arith, false, List, Option, Some, None, Contains, refl, sym, subst}
 use Rattle.std.specs.List.{find}
 use Rattle.std.specs.Option.{is_some}
 use Rattle.std.proofs.Math.Path.{fun_ext}
 use Rattle.std.proofs.lemmas.Bool.{false≢true}
+use Rattle.std.proofs.lemmas.Nat.{mul-le}
 use Rattle.stock_nums.specs.declared.cause.Target.{Target}
 use Rattle.stock_nums.specs.declared.entry.Entry.{Entry}
 use Rattle.stock_model.specs.Enough.{IsEnough}
 use Rattle.stock_model.specs.LandedCost.{added}
 use Rattle.stock_model.specs.PostingOrder.{posting_line}
 use Rattle.stock_model.specs.declared.records.Record.{Record}
+use Rattle.stock_model.proofs.Growth.{length-posting_line}
+use Rattle.stock_laws.proofs.Legality.{IsHeld-legal}
 use Rattle.cost_links.specs.Taken.{CanBeTaken}
 use Rattle.repost_frontier.specs.Slots.{is_suspect}
 use Rattle.repost_frontier.specs.declared.slot.Slot.{Slot}
@@ -19,9 +22,10 @@ use Rattle.repost_laws.specs.Fetches.{HaveOneMethod}
 use Rattle.repost_laws.specs.Valuations.{earlier, taken_from}
 use Rattle.repost_laws.proofs.FirstSuspect.{first-can}
 use Rattle.repost_laws.proofs.JournalFronts.{IsEnough-legal, HaveOneMethod-posting_line}
+use Rattle.repost_laws.proofs.WholeSteps.{few-turns}
 use Rattle.repost_spread.specs.Movements.{line_of, charged_by}
 use Rattle.repost_build.specs.Builds.{IsOf}
-use Rattle.repost_build.specs.Readings.{slots_in, found_in, suspects_in}
+use Rattle.repost_build.specs.Readings.{slots_in, found_in, suspects_in, fetches_of, turns_of}
 use Rattle.repost_build.specs.declared.build.Build.{Build}
 
 module _ (journal : List Record) (build : Build) (of : IsOf journal build) where
@@ -33,6 +37,14 @@ module _ (journal : List Record) (build : Build) (of : IsOf journal build) where
 
   pub one_method-of : HaveOneMethod (line_of build.movements)
   one_method-of = subst HaveOneMethod (sym of.line) (HaveOneMethod-posting_line journal)
+
+  -- there is room to count one turn more
+  pub turns-fit : turns_of build + 1 < 2 ^ 64
+  turns-fit =
+      let held = IsHeld-legal journal of.built.legal in
+      let entries : length (posting_line journal) + 1 ≤ 200_001 = omega (arith, length-posting_line journal, held.few) in
+      let fetches : fetches_of build ≤ 50_000 = omega (arith, of.fetched, of.target, held.records) in
+      omega (arith, few-turns of.built, mul-le (fetches_of build) (length (posting_line journal) + 1) 50_000 200_001 fetches entries)
 
   pub first-of : (s : Slot) → find is_suspect (slots_in build) ≡ Some s → IsFirst (line_of build.movements) (suspects_in build) s.entry
   first-of s is = first-first (slots_in build) s of.kept.indexed.in_order is

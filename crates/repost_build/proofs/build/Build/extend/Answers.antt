@@ -20,6 +20,7 @@ use Rattle.repost_spread.specs.declared.movements.Movements.{Movements}
 use Rattle.repost_build.specs.Builds.{IsOf}
 use Rattle.repost_build.specs.Readings.{target_of, slots_in, suspects_in}
 use Rattle.repost_build.proofs.Extending.{apart-of, few-of, dated-of, fits-of, new-of, held-of, found-is, valued-is, touched-is, of-extended}
+use Rattle.repost_build.proofs.Givens.{turns-fit}
 use Rattle.repost_build.proofs.build.Build.extend.Goals as goal
 
 -- all records are legal
@@ -164,3 +165,6 @@ returns-clause-of g c =
     (some-more g.journal n c.requires.1.1.0) old.base refl
     (λ line. c.in_ok-add.ensures.charged line
     ∙ ap (λ (cs : List Charge). charged_by old.movements line + charged_to line (charge_pairs cs)) c.as_slice-charges.ensures))
+
+pub overflow_add-self-2 : goal.overflow_add-self-2
+overflow_add-self-2 g c = omega (arith, turns-fit (take (target_of c.args.self.now) g.journal) c.args.self.now c.requires.0)

@@ -1,12 +1,12 @@
 -- What the calls make of the movements is a turn.
-use Rattle.std.proofs.Common.{◌+◌, List, refl, sym, ◌∙◌, subst}
+use Rattle.std.proofs.Common.{◌+◌, arith, List, refl, sym, ◌∙◌, subst}
 use Rattle.stock_nums.specs.declared.entry.Entry.{Entry}
 use Rattle.cost_links.specs.Taken.{Taken, taken_of, CanBeTaken}
 use Rattle.repost_frontier.proofs.SlotReadings.{clean-first}
 use Rattle.repost_laws.specs.Builds.{IsClean}
 use Rattle.repost_build.specs.Readings.{slots_in, suspects_in}
 use Rattle.repost_build.specs.declared.build.Build.{Build}
-use Rattle.repost_build.proofs.Givens.{enough-of, one_method-of, first-of, can-of}
+use Rattle.repost_build.proofs.Givens.{enough-of, one_method-of, turns-fit, first-of, can-of}
 use Rattle.repost_build.proofs.Turned.{found-with, turned-build, of-turned, line-stays}
 use Rattle.repost_build.proofs.build.Build.turn.Goals as goal
 
@@ -14,6 +14,9 @@ pub returns-in_err-entry-clause-clean : goal.returns-in_err-entry-clause-clean
 returns-in_err-entry-clause-clean g c none =
     subst (λ (line : List Entry). IsClean line (suspects_in c.args.self.now)) c.requires.1.line
     (clean-first (slots_in c.args.self.now) (sym c.in_err-entry.ensures.first))
+
+pub overflow_add-self : goal.overflow_add-self
+overflow_add-self g c = omega (arith, turns-fit g.journal c.args.self.now c.requires.1)
 
 pub taken_over-taken-requires-clause-held : goal.taken_over-taken-requires-clause-held
 taken_over-taken-requires-clause-held g c =
