@@ -7,3 +7,4 @@ pub mod NoFaults
 pub mod StoreFaults
 pub mod TargetItems
 pub mod MovementCount
+pub mod Freezes

@@ -13,7 +13,7 @@ use Rattle.stock_model.specs.declared.targets.TargetKind.{TargetKind}
 use Rattle.stock_model.specs.declared.targets.TargetKind.TheVariants.{OfSale, OfReceipt}
 use Rattle.stock_model.specs.declared.vouchers.ReturnLine.{ReturnLine}
 use Rattle.stock_model.specs.declared.vouchers.What.{What}
-use Rattle.stock_model.specs.declared.vouchers.What.TheVariants.{Item, Store, Receipt, Issue, Transfer, CustomerReturn, SupplierReturn, Landed}
+use Rattle.stock_model.specs.declared.vouchers.What.TheVariants.{Item, Store, Receipt, Issue, Transfer, CustomerReturn, SupplierReturn, Landed, Freeze}
 use Rattle.stock_model.specs.Entries.{moved, move_made, moves_made, found_made, line_made, lines_made, movements}
 use Rattle.stock_model.specs.Faults.{lacks_item, is_unknown_item, lacks_store, is_unknown_store, lacks_target, voucher_fault}
 use Rattle.stock_model.specs.Journals.{AreSound}
@@ -95,6 +95,7 @@ lines-move (Transfer at lines) = Each-map (MovesEach (Transfer at lines)) transf
 lines-move (CustomerReturn at lines) = Each-map (MovesEach (CustomerReturn at lines)) (return_line OfSale) (λ line found. refl) lines
 lines-move (SupplierReturn at lines) = Each-map (MovesEach (SupplierReturn at lines)) (return_line OfReceipt) (λ line found. refl) lines
 lines-move (Landed charge basis targets) = tt
+lines-move (Freeze until) = tt
 
 -- where the item is that of a target, the target is known
 abbrev pub HasTarget : List Record → Subject → Type 0
@@ -117,6 +118,7 @@ lines-targets journal (Transfer at lines) all = Each-map (LineHasTarget journal)
 lines-targets journal (CustomerReturn at lines) all = returns-targets journal OfSale lines all
 lines-targets journal (SupplierReturn at lines) all = returns-targets journal OfReceipt lines all
 lines-targets journal (Landed charge basis targets) all = tt
+lines-targets journal (Freeze until) all = tt
 
 -- a line whose item or target is there is known
 known-having : (journal : List Record) (line : VoucherLine) (subject : Subject) → AreSound journal → line.item ≡ subject → is_unknown_item journal subject ≡ false → HasTarget journal subject
@@ -161,6 +163,7 @@ movements-count journal n (Transfer at lines) sound none = count-timed journal n
 movements-count journal n (CustomerReturn at lines) sound none = count-timed journal n at (CustomerReturn at lines) (lines-IsMade journal (CustomerReturn at lines) sound (NoFaults-from journal (CustomerReturn at lines) none))
 movements-count journal n (SupplierReturn at lines) sound none = count-timed journal n at (SupplierReturn at lines) (lines-IsMade journal (SupplierReturn at lines) sound (NoFaults-from journal (SupplierReturn at lines) none))
 movements-count journal n (Landed charge basis targets) sound none = refl
+movements-count journal n (Freeze until) sound none = refl
 
 -- as many for each line
 each-count : {X : Type 0} (line : X → VoucherLine) (m : ℕ) → ((x : X) → store_count (line x) ≡ m) → (xs : List X) → sum_by store_count (map line xs) ≡ length (map line xs) * m
@@ -176,3 +179,4 @@ move_count-each (Transfer at lines) = sym (each-count transfer_line 2 (λ line. 
 move_count-each (CustomerReturn at lines) = sym (each-count (return_line OfSale) 1 (λ line. refl) lines)
 move_count-each (SupplierReturn at lines) = sym (each-count (return_line OfReceipt) 1 (λ line. refl) lines)
 move_count-each (Landed charge basis targets) = refl
+move_count-each (Freeze until) = refl

@@ -4,7 +4,7 @@ use Rattle.std.specs.Option.{option_map, option_or, option_and_then}
 use Rattle.stock_model.specs.declared.faults.PostFault.TheVariants.{NoBasis}
 use Rattle.stock_model.specs.declared.records.Record.{Record}
 use Rattle.stock_model.specs.declared.vouchers.What.{What}
-use Rattle.stock_model.specs.Faults.{first_line, first_repeated, lacks_item, lacks_store, stays, lacks_target, first_later, asks_more, has_no_basis, master_fault, lines_fault, targets_fault, unknown_item, unknown_store, same_store, unknown_target, link_later, repeated_target, over_return, no_basis, voucher_fault}
+use Rattle.stock_model.specs.Faults.{first_line, first_repeated, lacks_item, lacks_store, stays, lacks_target, first_later, asks_more, has_no_basis, master_fault, lines_fault, targets_fault, frozen_fault, unknown_item, unknown_store, same_store, unknown_target, link_later, repeated_target, over_return, no_basis, voucher_fault}
 use Rattle.stock_model.specs.VoucherLines.{lines_of, targets_of, moment_of}
 
 -- of two faults there is none only where there is neither
@@ -31,12 +31,14 @@ pub record NoFaults (journal : List Record) (what : What) : Type 0 where
   pub once : first_repeated [] 1 (targets_of what) ≡ None
   pub left : first_line (asks_more journal) 1 (lines_of what) ≡ None
   pub basis : has_no_basis journal what ≡ false
+  pub unclosed : frozen_fault journal what ≡ None
 
 pub NoFaults-from : (journal : List Record) (what : What) → voucher_fault journal what ≡ None → NoFaults journal what
 NoFaults-from journal what none =
-    let all = neither (master_fault journal what) (option_or (lines_fault journal what) (option_or (targets_fault journal what) None)) none in
-    let more = neither (lines_fault journal what) (option_or (targets_fault journal what) None) all.1 in
-    let last = neither (targets_fault journal what) None more.1 in
+    let all = neither (master_fault journal what) (option_or (lines_fault journal what) (option_or (targets_fault journal what) (option_or (frozen_fault journal what) None))) none in
+    let more = neither (lines_fault journal what) (option_or (targets_fault journal what) (option_or (frozen_fault journal what) None)) all.1 in
+    let last = neither (targets_fault journal what) (option_or (frozen_fault journal what) None) more.1 in
+    let closed = neither (frozen_fault journal what) None last.1 in
     let item = neither (unknown_item journal what) _ more.0 in
     let store = neither (unknown_store journal what) _ item.1 in
     let same = neither (same_store what) None store.1 in
@@ -55,4 +57,5 @@ NoFaults-from journal what none =
       once = none-map _ _ again.0;
       left = none-map _ _ over.0;
       basis = basis-none (has_no_basis journal what) base.0;
+      unclosed = closed.0;
     }

@@ -8,9 +8,10 @@ use Rattle.stock_nums.specs.Codes.{is_code}
 use Rattle.stock_nums.specs.Places.{is_later}
 use Rattle.stock_nums.specs.Targets.{is_same_target}
 use Rattle.stock_nums.specs.declared.limits.TheConstants.{MAX_RECORDS, MAX_ENTRIES}
+use Rattle.stock_nums.specs.declared.cause.Target.{Target}
 use Rattle.stock_nums.specs.declared.moment.Moment.{Moment}
 use Rattle.stock_model.specs.declared.faults.PostFault.{PostFault}
-use Rattle.stock_model.specs.declared.faults.PostFault.TheVariants.{CodeTaken, CodeShape, AccountRange, UnknownItem, UnknownStore, SameStore, UnknownTarget, LinkLater, RepeatedTarget, OverReturn, NoBasis, Full, Short}
+use Rattle.stock_model.specs.declared.faults.PostFault.TheVariants.{CodeTaken, CodeShape, AccountRange, UnknownItem, UnknownStore, SameStore, UnknownTarget, LinkLater, RepeatedTarget, OverReturn, NoBasis, Frozen, Full, Short}
 use Rattle.stock_model.specs.declared.line_faults.LineTest.{LineTest}
 use Rattle.stock_model.specs.declared.line_faults.LineTest.TheVariants.{LacksItem, LacksStore, Stays, AsksMore}
 use Rattle.stock_model.specs.declared.target_faults.TargetTest.{TargetTest}
@@ -21,11 +22,12 @@ use Rattle.stock_model.specs.declared.vouchers.What.TheVariants.{Item, Store, La
 use Rattle.stock_model.specs.declared.shortages.Shortage.{Shortage}
 use Rattle.stock_model.specs.declared.records.Record.{Record}
 use Rattle.stock_model.specs.Masters.{item_with, store_with}
-use Rattle.stock_model.specs.VoucherLines.{Subject, Coded, OfTarget, VoucherLine, moment_of, lines_of, targets_of}
+use Rattle.stock_model.specs.VoucherLines.{Subject, Coded, OfTarget, VoucherLine, moment_of, lines_of, targets_of, charged_targets}
 use Rattle.stock_model.specs.TargetLines.{line_numbered, target_line, target_moment}
 use Rattle.stock_model.specs.Entries.{entries, all_entries}
 use Rattle.stock_model.specs.Returns.{returned, line_units}
 use Rattle.stock_model.specs.LandedCost.{weights}
+use Rattle.stock_model.specs.Freezing.{is_closed, frozen}
 use Rattle.stock_model.specs.PostingOrder.{posting_line}
 use Rattle.stock_model.specs.Enough.{shortage}
 
@@ -170,6 +172,21 @@ has_no_basis journal _ = false
 abbrev pub no_basis : List Record → What → Option PostFault
 no_basis journal what = if has_no_basis journal what then Some NoBasis else None
 
+-- the target's voucher is of a closed moment, where the past is closed up to this one
+abbrev pub was_closed : List Record → Moment → Target → Bool
+was_closed journal until target = option_map_or (is_closed until) (target_moment journal target) false
+
+-- the voucher moves goods at a closed moment, or charges goods that were received at one
+abbrev pub changes_closed : List Record → What → Moment → Bool
+changes_closed journal what until = option_map_or (is_closed until) (moment_of what) false || list_any (was_closed journal until) (charged_targets what)
+
+abbrev pub frozen_by : List Record → What → Moment → Option PostFault
+frozen_by journal what until = if changes_closed journal what until then Some (Frozen until) else None
+
+-- the voucher changes what is closed
+abbrev pub frozen_fault : List Record → What → Option PostFault
+frozen_fault journal what = option_and_then (frozen_by journal what) (frozen journal)
+
 -- the first fault of these
 abbrev pub first_fault : List (Option PostFault) → Option PostFault
 first_fault [] = None
@@ -190,7 +207,7 @@ targets_fault journal what =
 
 -- the first fault of what the record says, whatever room there is
 abbrev pub voucher_fault : List Record → What → Option PostFault
-voucher_fault journal what = first_fault (master_fault journal what ∷ lines_fault journal what ∷ targets_fault journal what ∷ [])
+voucher_fault journal what = first_fault (master_fault journal what ∷ lines_fault journal what ∷ targets_fault journal what ∷ frozen_fault journal what ∷ [])
 
 -- there is no room for the record or its movements
 abbrev pub full : List Record → Record → Option PostFault

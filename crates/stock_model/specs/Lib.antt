@@ -7,6 +7,7 @@ pub mod Entries
 pub mod PostingOrder
 pub mod Returns
 pub mod LandedCost
+pub mod Freezing
 pub mod Sums
 pub mod Values
 pub mod Replay

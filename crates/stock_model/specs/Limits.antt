@@ -5,7 +5,7 @@ use Rattle.stock_nums.specs.declared.limits.TheConstants.{MAX_LINES, MAX_SAID_AC
 use Rattle.stock_nums.specs.Quantities.{is_line_amount}
 use Rattle.stock_nums.specs.Targets.{is_target}
 use Rattle.stock_model.specs.declared.vouchers.What.{What}
-use Rattle.stock_model.specs.declared.vouchers.What.TheVariants.{Item, Store, Receipt, Issue, Transfer, CustomerReturn, SupplierReturn, Landed}
+use Rattle.stock_model.specs.declared.vouchers.What.TheVariants.{Item, Store, Receipt, Issue, Transfer, CustomerReturn, SupplierReturn, Landed, Freeze}
 
 -- from 1 to 100
 abbrev pub is_line_count : ℕ → Bool
@@ -22,3 +22,4 @@ is_within_limits (Transfer at lines) = is_line_count (length lines)
 is_within_limits (CustomerReturn at lines) = is_line_count (length lines)
 is_within_limits (SupplierReturn at lines) = is_line_count (length lines)
 is_within_limits (Landed charge basis targets) = is_line_amount charge.0 && (is_line_count (length targets) && list_all is_target targets)
+is_within_limits (Freeze until) = true

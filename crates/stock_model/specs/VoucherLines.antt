@@ -55,6 +55,11 @@ return_target kind line = record { kind = kind; target = line.target }
 abbrev pub landed_target : Target → NamedTarget
 landed_target target = record { kind = OfReceipt; target = target }
 
+-- the lines of receipts whose goods a charge is for
+abbrev pub charged_targets : What → List Target
+charged_targets (Landed charge basis targets) = targets
+charged_targets _ = []
+
 -- the lines of earlier vouchers that the voucher names, each with the kind of voucher that it has to be of
 abbrev pub targets_of : What → List NamedTarget
 targets_of (CustomerReturn at lines) = map (return_target OfSale) lines

@@ -1,5 +1,6 @@
 //! Why a record is not accepted.
 
+use stock_nums::moment::Moment;
 use stock_nums::numbers::{ItemNo, Qty, StoreNo};
 use stock_nums::place::Place;
 
@@ -45,6 +46,11 @@ pub enum PostFault {
     },
     /// The weights of all targets sum to 0.
     NoBasis,
+    /// The past is closed up to this moment, which is closed too, and the record moves goods at a moment that is
+    /// closed, or is a charge for goods that were received at one.
+    Frozen {
+        until: Moment,
+    },
     /// 50,000 records are held, or the movements held and the new ones are more than 200,000. The numbers
     /// are those held.
     Full {

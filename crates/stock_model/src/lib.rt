@@ -5,6 +5,7 @@
 pub mod answers;
 pub mod deeds;
 pub mod faults;
+pub mod freezing;
 pub mod landed_weights;
 pub mod ledger_lines;
 pub mod line_faults;

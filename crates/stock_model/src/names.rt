@@ -3,6 +3,7 @@ ghost use Rattle.std.specs.Prelude.{◌≡◌, ◌^◌, ◌<◌, List, length};
 ghost use Rattle.std.specs.Option.{option_copied};
 ghost use Rattle.stock_model.specs.declared.records.Record.{Record};
 ghost use Rattle.stock_model.specs.Entries.{all_entries};
+ghost use Rattle.stock_model.specs.Freezing.{frozen};
 ghost use Rattle.stock_model.specs.Masters.{item_with, store_with, record_at};
 ghost use Rattle.stock_model.specs.Returns.{returned};
 
@@ -10,6 +11,7 @@ use crate::masters;
 use crate::records::Record;
 use stock_nums::cause::{Method, Target};
 use stock_nums::code::Code;
+use stock_nums::moment::Moment;
 use stock_nums::numbers::{AccountNo, ItemNo, Qty, RecordNo, StoreNo};
 
 /// What a voucher may name: the items, warehouses and records of a journal.
@@ -30,11 +32,15 @@ pub trait Names {
         ensures { option_copied result ≡ record_at (journal self.now) number.0 };
 }
 
-/// What a voucher may name, and how many units of lines were returned.
+/// What a voucher may name, how many units of lines were returned, and up to which moment the past is closed.
 pub trait Returns: Names {
     /// How many units of the line all vouchers of the journal return, whatever their moments.
     fn returned(&self, target: Target) -> Qty
         ensures { result.0 ≡ returned (all_entries (Self.Names.journal self.now)) target };
+
+    /// Up to which moment, this one included, the past is closed. None exactly where no record closes any.
+    fn frozen(&self) -> Option<Moment>
+        ensures { result ≡ frozen (Self.Names.journal self.now) };
 }
 
 /// The items, warehouses and records among these records, found by going over them all.

@@ -7,6 +7,7 @@ ghost use Rattle.stock_model.specs.LineViews.{seen};
 ghost use Rattle.stock_model.specs.VoucherLines.{lines_of, targets_of};
 
 use crate::faults::PostFault;
+use crate::freezing::frozen_fault;
 use crate::landed_weights::has_no_basis;
 use crate::line_faults::{LineTest, first_line, left_to_return};
 use crate::line_views::{line_at, moment_of};
@@ -30,7 +31,10 @@ pub fn voucher_fault<N: Returns>(names: &N, item: &Record) -> Option<PostFault>
     if let Some(fault) = lines_fault(names, &item.what) {
         return Some(fault);
     }
-    targets_fault(names, &item.what)
+    if let Some(fault) = targets_fault(names, &item.what) {
+        return Some(fault);
+    }
+    frozen_fault(names, &item.what)
 }
 
 // The first fault of a new item or a new warehouse.

@@ -124,6 +124,11 @@ pub enum What {
         basis: Basis,
         targets: Lines<Target>,
     },
+    /// The past is closed up to this moment, which is closed too: no later record moves goods at a moment that is
+    /// closed, or changes what goods cost that were received at one. A freeze is never taken back. It moves no goods.
+    Freeze {
+        until: Moment,
+    },
 }
 
 /// A line of which an equal one can be made.
@@ -225,6 +230,7 @@ impl What {
                 basis: *basis,
                 targets: copy_lines(alloc, targets.as_slice())?,
             }),
+            What::Freeze { until } => Ok(What::Freeze { until: *until }),
         }
     }
 }

@@ -23,7 +23,7 @@ pub fn three_lines()
 {}
 
 /// An item, a warehouse and a receipt into it are accepted, one after another.
-#[tactic(auto, unfolding(crate::specs::Faults::fault, crate::specs::Entries::cancels, crate::specs::Entries::all_entries, crate::specs::PostingOrder::posting_line, crate::specs::Enough::shortage))]
+#[tactic(auto, unfolding(crate::specs::Faults::fault, crate::specs::Freezing::frozen, crate::specs::Entries::cancels, crate::specs::Entries::all_entries, crate::specs::PostingOrder::posting_line, crate::specs::Enough::shortage))]
 pub fn first_records()
     ensures item { fault [] item_b ≡ None }
     ensures store { fault (item_b ∷ []) store_w1 ≡ None }
@@ -31,7 +31,7 @@ pub fn first_records()
 {}
 
 /// An item with a code that is taken, and a receipt of an item that there is not, are refused.
-#[tactic(auto, unfolding(crate::specs::Faults::fault, crate::specs::Entries::cancels, crate::specs::Entries::all_entries))]
+#[tactic(auto, unfolding(crate::specs::Faults::fault, crate::specs::Freezing::frozen, crate::specs::Entries::cancels, crate::specs::Entries::all_entries))]
 pub fn first_refusals()
     ensures taken { fault first_journal item_b ≡ Some CodeTaken }
     ensures unknown { fault first_journal (receipt_of (67 ∷ [])) ≡ Some (UnknownItem 1) }

@@ -18,7 +18,7 @@ pub fn balances_of_sales()
 
 /// A further sale on the third is short at the sale of the fifth, and one before anything was bought is
 /// short at its own place.
-#[tactic(auto, unfolding(crate::specs::Faults::fault, crate::specs::Entries::cancels, crate::specs::Entries::all_entries, crate::specs::PostingOrder::posting_line, crate::specs::Enough::shortage))]
+#[tactic(auto, unfolding(crate::specs::Faults::fault, crate::specs::Freezing::frozen, crate::specs::Entries::cancels, crate::specs::Entries::all_entries, crate::specs::PostingOrder::posting_line, crate::specs::Enough::shortage))]
 pub fn late_sales()
     ensures accepted { fault (take 5 sales) (sold_at fifth) ≡ None }
     ensures later { fault sales (sold_at third) ≡ Some (lacks_one fifth 6) }
