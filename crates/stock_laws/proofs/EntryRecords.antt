@@ -15,7 +15,7 @@ use Rattle.stock_model.specs.declared.targets.NamedTarget.{NamedTarget}
 use Rattle.stock_model.specs.declared.targets.TargetKind.{TargetKind}
 use Rattle.stock_model.specs.declared.targets.TargetKind.TheVariants.{OfSale, OfReceipt}
 use Rattle.stock_model.specs.declared.vouchers.What.{What}
-use Rattle.stock_model.specs.declared.vouchers.What.TheVariants.{Item, Store, Receipt, Issue, Transfer, CustomerReturn, SupplierReturn, Landed}
+use Rattle.stock_model.specs.declared.vouchers.What.TheVariants.{Item, Store, Receipt, Issue, Transfer, CustomerReturn, SupplierReturn, Landed, Freeze}
 use Rattle.stock_model.specs.declared.vouchers.ReturnLine.{ReturnLine}
 use Rattle.stock_model.specs.Conservation.{is_receipt, is_sent, is_arrived, is_customer_return, is_supplier_return}
 use Rattle.stock_model.specs.Entries.{movements}
@@ -188,6 +188,7 @@ moves-known journal more (SupplierReturn m lines) sound held at timed i line is 
     ) in
     subst P own.2 of_line found_is
 moves-known journal more (Landed charge basis targets) sound held at timed i line is found found_is item = tt
+moves-known journal more (Freeze until) sound held at timed i line is found found_is item = tt
 
 -- each movement of a record without faults is known
 pub movements-known : (journal more : List Record) (what : What) → NoFaults journal what → what_at (journal ++ more) (length journal + 1) ≡ Some what

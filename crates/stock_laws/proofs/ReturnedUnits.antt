@@ -21,7 +21,7 @@ use Rattle.stock_model.specs.declared.targets.TargetKind.{TargetKind}
 use Rattle.stock_model.specs.declared.targets.TargetKind.TheVariants.{OfSale, OfReceipt}
 use Rattle.stock_model.specs.declared.vouchers.ReturnLine.{ReturnLine}
 use Rattle.stock_model.specs.declared.vouchers.What.{What}
-use Rattle.stock_model.specs.declared.vouchers.What.TheVariants.{Item, Store, Receipt, Issue, Transfer, CustomerReturn, SupplierReturn, Landed}
+use Rattle.stock_model.specs.declared.vouchers.What.TheVariants.{Item, Store, Receipt, Issue, Transfer, CustomerReturn, SupplierReturn, Landed, Freeze}
 use Rattle.stock_model.specs.Enough.{entry_units}
 use Rattle.stock_model.specs.Entries.{moved, move_made, moves_made, found_made, line_made, lines_made, movements, entries, is_spared, all_entries}
 use Rattle.stock_model.specs.Faults.{is_unknown_store, asks_more, is_less, left_to_return, first_repeated, is_among, name_one_line, voucher_fault}
@@ -120,6 +120,7 @@ lines-return (SupplierReturn at lines) target =
     Each-map (ReturnsWhatItNames (SupplierReturn at lines) target) (return_line OfReceipt)
     (λ line. record { moves = λ found. (refl, tt); once = single (is_same_target line.target target) line.qty.0 }) lines
 lines-return (Landed charge basis targets) target = tt
+lines-return (Freeze until) target = tt
 
 line-returned : (journal : List Record) (n : ℕ) (at : Moment) (what : What) (number : ℕ) (line : VoucherLine) (target : Target) → IsMade journal what line → ReturnsWhatItNames what target line
     → returned (line_made journal n at what (number, line)) target ≡ cond (returns_line target line) line.qty.0 0
@@ -156,6 +157,7 @@ movements-returned journal n (Transfer at lines) target sound none = timed-retur
 movements-returned journal n (CustomerReturn at lines) target sound none = timed-returned journal n at (CustomerReturn at lines) target (lines-IsMade journal (CustomerReturn at lines) sound none)
 movements-returned journal n (SupplierReturn at lines) target sound none = timed-returned journal n at (SupplierReturn at lines) target (lines-IsMade journal (SupplierReturn at lines) sound none)
 movements-returned journal n (Landed charge basis targets) target sound none = refl
+movements-returned journal n (Freeze until) target sound none = refl
 
 -- the units that are returned with one more record
 pub returned-snoc : (journal : List Record) (item : Record) (target : Target) → AreSound journal → voucher_fault journal item.what ≡ None
@@ -308,6 +310,7 @@ units-within journal (SupplierReturn at lines) target none held =
     let few = names-within journal OfReceipt [] 1 lines target none.once (first_line-none (asks_more journal) 1 (map (return_line OfReceipt) lines) none.left) in
     omega (arith, held, few.within, target_line-units journal (record { kind = OfReceipt; target = target }))
 units-within journal (Landed charge basis targets) target none held = omega (arith, held)
+units-within journal (Freeze until) target none held = omega (arith, held)
 
 -- one more record leaves the lines of those before
 slice_get-append : {X : Type 0} (xs ys : List X) (i : ℕ) (x : X) → slice_get xs i ≡ Some x → slice_get (xs ++ ys) i ≡ Some x
