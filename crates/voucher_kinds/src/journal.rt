@@ -4,6 +4,7 @@ ghost use Rattle.std.specs.Prelude.{◌≡◌, ◌⊎◌, ◌+◌, ◌-◌, ◌<
 ghost use Rattle.std.specs.Option.{option_copied};
 ghost use Rattle.stock_model.specs.Faults.{voucher_fault};
 ghost use Rattle.stock_model.specs.Entries.{entries, entries_of};
+ghost use Rattle.stock_model.specs.Freezing.{frozen};
 ghost use Rattle.stock_model.specs.Masters.{record_at};
 
 use crate::{heads, returned_units};
@@ -13,7 +14,7 @@ use std::marker::Model;
 use stock_model::faults::PostFault;
 use stock_model::names::{Listed, Names, Returns};
 use stock_model::records::Record;
-use stock_model::{movements, refusals};
+use stock_model::{freezing, movements, refusals};
 use stock_nums::cause::{Method, Target};
 use stock_nums::code::Code;
 use stock_nums::entry::Entry;
@@ -21,15 +22,18 @@ use stock_nums::limits::MAX_RECORDS;
 use stock_nums::line_sums::LineSums;
 use stock_nums::lines::Lines;
 use stock_nums::memory::NoMemory;
+use stock_nums::moment::Moment;
 use stock_nums::numbers::{AccountNo, ItemNo, Qty, RecordNo, StoreNo};
 
-/// The accepted records in the order of their numbers, their items and warehouses, and the units that they return,
-/// which are found without going over the records. Contracts see it as the list of the records.
+/// The accepted records in the order of their numbers, their items and warehouses, the units that they return, and up
+/// to which moment they close the past, which are found without going over the records. Contracts see it as the list
+/// of the records.
 #[derive(Drop)]
 pub struct Journal {
     records: Vec<Record>,
     master: Master,
     returned_units: LineSums,
+    frozen: Option<Moment>,
 }
 
 impl Model for Journal {
@@ -41,7 +45,7 @@ impl Model for Journal {
 
     ghost view = { λ journal. journal.records.items };
 
-    ghost invariant = { λ journal. IsJournal journal.records.items journal.master journal.returned_units };
+    ghost invariant = { λ journal. IsJournal journal.records.items journal.master journal.returned_units journal.frozen };
 }
 
 impl Names for Journal {
@@ -64,6 +68,10 @@ impl Returns for Journal {
     fn returned(&self, target: Target) -> Qty {
         Qty(self.returned_units.of(target) as u64)
     }
+
+    fn frozen(&self) -> Option<Moment> {
+        self.frozen
+    }
 }
 
 impl Journal {
@@ -75,6 +83,7 @@ impl Journal {
             records: Vec::new(alloc),
             master: Master::new(alloc),
             returned_units: LineSums::new(alloc),
+            frozen: None,
         }
     }
 
@@ -120,6 +129,7 @@ impl Journal {
     {
         let number = self.next();
         let made = heads::made_by(&item.what);
+        let frozen = freezing::frozen_with(self.frozen, &item.what);
         returned_units::make_room(&mut self.returned_units, &item.what)?;
         if heads::add_made(&mut self.master, number, &item.what).is_err() {
             return Err(NoMemory);
@@ -128,6 +138,7 @@ impl Journal {
             Ok(()) => {
                 let last = &self.records.as_slice()[number.0 as usize - 1];
                 returned_units::add_units(&mut self.returned_units, &last.what);
+                self.frozen = frozen;
                 Ok(number)
             }
             Err(_) => {
@@ -143,9 +154,11 @@ impl Journal {
         ensures { self.new ≡ take (length self.old - 1) self.old }
     {
         let index = self.records.len() - 1;
-        let last = &self.records.as_slice()[index];
+        let records = self.records.as_slice();
+        let last = &records[index];
         returned_units::take_units(&mut self.returned_units, &last.what);
         heads::take_away(&mut self.master, heads::made_by(&last.what));
+        self.frozen = freezing::frozen_without(self.frozen, &records[..index], &last.what);
         self.records.truncate(index);
     }
 
@@ -164,6 +177,14 @@ impl Journal {
             return None;
         }
         self.records.as_slice().get(number.0 as usize - 1)
+    }
+
+    /// Up to which moment, this one included, the records close the past. None exactly where none of them closes any.
+    /// It takes no memory.
+    pub fn frozen(&self) -> Option<Moment>
+        ensures { result ≡ frozen self.now }
+    {
+        self.frozen
     }
 
     /// How many records are held.
