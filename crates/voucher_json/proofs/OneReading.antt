@@ -22,7 +22,7 @@ use Rattle.stock_model.specs.declared.vouchers.What.TheVariants.{Receipt, Transf
 use Rattle.voucher_json.specs.Walks.{GoesOn, Then, Ends, Yields, found_or_bad, IsPresent, Field, IsOptional, Optional, Elements}
 use Rattle.voucher_json.specs.FieldNames.{field_text}
 use Rattle.voucher_json.specs.Fields.{IsObject, IsText, choose, IsWord, items_count, has_other, number_outcome, IsNumber, IsMomentText, IsMoment, list_outcome, IsList, NoOther}
-use Rattle.voucher_json.specs.Records.{record_kinds, methods, purposes, bases, IsItem, IsStore, receipt_line, issue_line, transfer_line, return_line, target_line, IsVoucher, IsIssue, IsLanded, IsWhat}
+use Rattle.voucher_json.specs.Records.{record_kinds, methods, purposes, bases, IsItem, IsStore, receipt_line, issue_line, transfer_line, return_line, target_line, IsVoucher, IsIssue, IsLanded, IsFreeze, IsWhat}
 use Rattle.voucher_json.specs.Requests.{kinds, sheets, formats, IsByKey, IsOfAccounts, IsOfVoucher, IsScope, fields_of, IsReport, IsWork, IsOfKind, IsRequest, IsReadAs}
 use Rattle.voucher_json.specs.StoredRecords.{record_fields, IsRecord, IsRecordReadAs}
 use Rattle.voucher_json.specs.Tables.{IsMoney, Cell, a_text, a_number, an_amount, IsCell, Values, LineTable, names_of, Cells, IsLine}
@@ -241,6 +241,11 @@ one_landed shared value =
     both _ _ (one_field (IsList (IsLine target_line)) (one_list (IsLine target_line) (one_line target_line is_target target_line-facts)) field.Targets 0 value) (λ targets.
     both _ _ (no_other (shared ++ field.Charge ∷ field.Basis ∷ field.Targets ∷ []) 0 value) (λ none. ends _))))
 
+one_freeze : (shared : List FieldName) (value : Data) → IsDecided (IsFreeze shared value)
+one_freeze shared value =
+    both _ _ (one_field IsMoment one_moment_in field.Until 0 value) (λ until.
+    both _ _ (no_other (shared ++ field.Until ∷ []) 0 value) (λ none. ends _))
+
 -- a sheet by items and warehouses
 one_by_key : (sheet : Sheet) (value : Data) → IsDecided (IsByKey sheet value)
 one_by_key sheet value =
@@ -281,6 +286,7 @@ one_what shared record_of.Transfer value = one_voucher transfer_line transfer_li
 one_what shared record_of.CustomerReturn value = one_voucher return_line return_line-facts CustomerReturn shared value
 one_what shared record_of.SupplierReturn value = one_voucher return_line return_line-facts SupplierReturn shared value
 one_what shared record_of.Landed value = one_landed shared value
+one_what shared record_of.Freeze value = one_freeze shared value
 
 one_work : (value : Data) → IsDecided (IsWork value)
 one_work value =

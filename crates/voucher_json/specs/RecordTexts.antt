@@ -14,7 +14,7 @@ use Rattle.stock_model.specs.declared.vouchers.Basis.TheVariants as part_by
 use Rattle.stock_model.specs.declared.vouchers.Purpose.{Purpose}
 use Rattle.stock_model.specs.declared.vouchers.Purpose.TheVariants.{Sold, Used}
 use Rattle.stock_model.specs.declared.vouchers.What.{What}
-use Rattle.stock_model.specs.declared.vouchers.What.TheVariants.{Item, Store, Receipt, Issue, Transfer, CustomerReturn, SupplierReturn, Landed}
+use Rattle.stock_model.specs.declared.vouchers.What.TheVariants.{Item, Store, Receipt, Issue, Transfer, CustomerReturn, SupplierReturn, Landed, Freeze}
 use Rattle.voucher_json.specs.Records.{receipt_line, issue_line, transfer_line, return_line, target_line}
 use Rattle.voucher_json.specs.Tables.{LineTable, line_data, line_codes}
 
@@ -74,6 +74,11 @@ what_data desk (Landed charge basis targets) =
     (member (codes "desk") (number (unsigned desk))
     (member (codes "do") (string (codes "landed"))
     (member (codes "targets") (array (items_of (map (line_data target_line) targets))) no_members)))))
+what_data desk (Freeze until) =
+    object
+    (member (codes "desk") (number (unsigned desk))
+    (member (codes "do") (string (codes "freeze"))
+    (member (codes "until") (string (moment_text until)) no_members)))
 
 -- the JSON value of a record
 abbrev pub record_data : Record → Data
@@ -93,3 +98,4 @@ codes_of (Transfer at lines) = flat_map (line_codes transfer_line) lines
 codes_of (CustomerReturn at lines) = flat_map (line_codes return_line) lines
 codes_of (SupplierReturn at lines) = flat_map (line_codes return_line) lines
 codes_of (Landed charge basis targets) = flat_map (line_codes target_line) targets
+codes_of (Freeze until) = []

@@ -19,7 +19,7 @@ use Rattle.stock_model.specs.declared.vouchers.ReceiptLine.{ReceiptLine}
 use Rattle.stock_model.specs.declared.vouchers.ReturnLine.{ReturnLine}
 use Rattle.stock_model.specs.declared.vouchers.TransferLine.{TransferLine}
 use Rattle.stock_model.specs.declared.vouchers.What.{What}
-use Rattle.stock_model.specs.declared.vouchers.What.TheVariants.{Item, Store, Receipt, Issue, Transfer, CustomerReturn, SupplierReturn, Landed}
+use Rattle.stock_model.specs.declared.vouchers.What.TheVariants.{Item, Store, Receipt, Issue, Transfer, CustomerReturn, SupplierReturn, Landed, Freeze}
 use Rattle.voucher_json.specs.Walks.{Then, Ends, Field}
 use Rattle.voucher_json.specs.Fields.{IsText, IsWord, IsNumber, IsMoment, IsList, NoOther}
 use Rattle.voucher_json.specs.Tables.{IsMoney, a_text, a_number, an_amount, LineTable, IsLine}
@@ -37,6 +37,7 @@ record_kinds =
     ∷ (codes "customer-return", kind_of.CustomerReturn)
     ∷ (codes "supplier-return", kind_of.SupplierReturn)
     ∷ (codes "landed", kind_of.Landed)
+    ∷ (codes "freeze", kind_of.Freeze)
     ∷ []
 
 -- the words of `method`
@@ -132,6 +133,13 @@ IsLanded shared value =
     Then (NoOther (shared ++ field.Charge ∷ field.Basis ∷ field.Targets ∷ []) 0 value) (λ none.
     Ends (Landed charge basis targets)))))
 
+-- the past is closed up to the moment `until`
+abbrev pub IsFreeze : List FieldName → Data → Result What ReadFault → Type 0
+IsFreeze shared value =
+    Then (Field IsMoment field.Until 0 value) (λ until.
+    Then (NoOther (shared ++ field.Until ∷ []) 0 value) (λ none.
+    Ends (Freeze until)))
+
 -- the fields of each kind
 abbrev pub IsWhat : List FieldName → RecordKind → Data → Result What ReadFault → Type 0
 IsWhat shared kind_of.Item = IsItem shared
@@ -142,3 +150,4 @@ IsWhat shared kind_of.Transfer = IsVoucher transfer_line Transfer shared
 IsWhat shared kind_of.CustomerReturn = IsVoucher return_line CustomerReturn shared
 IsWhat shared kind_of.SupplierReturn = IsVoucher return_line SupplierReturn shared
 IsWhat shared kind_of.Landed = IsLanded shared
+IsWhat shared kind_of.Freeze = IsFreeze shared

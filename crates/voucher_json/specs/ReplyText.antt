@@ -6,6 +6,7 @@ use Rattle.serde_json.specs.Data.{Data, null}
 use Rattle.serde_json.specs.Written.{compact_text}
 use Rattle.stock_nums.specs.MomentText.{moment_text}
 use Rattle.stock_nums.specs.declared.head.Head.{Head}
+use Rattle.stock_nums.specs.declared.moment.Moment.{Moment}
 use Rattle.stock_nums.specs.declared.place.Place.{Place}
 use Rattle.stock_model.specs.Masters.{code_of}
 use Rattle.stock_model.specs.declared.faults.PostFault.{PostFault}
@@ -35,6 +36,11 @@ over_return_data line asked left =
     object_of
     (count (codes "asked") asked ∷ text (codes "fault") (codes "over-return") ∷ count (codes "left") left ∷ count (codes "line") line ∷ status (codes "refused") ∷ [])
 
+-- the past is closed up to this moment
+abbrev pub frozen_data : Moment → Data
+frozen_data until =
+    object_of (text (codes "fault") (codes "frozen") ∷ status (codes "refused") ∷ text (codes "until") (moment_text until) ∷ [])
+
 -- so many records and movements are held
 abbrev pub full_data : ℕ → ℕ → Data
 full_data records entries =
@@ -61,6 +67,7 @@ refusal_data heads (fault_of.LinkLater line) = line_fault_data (codes "link-late
 refusal_data heads (fault_of.RepeatedTarget line) = line_fault_data (codes "repeated-target") line
 refusal_data heads (fault_of.OverReturn line asked left) = over_return_data line asked.0 left.0
 refusal_data heads fault_of.NoBasis = record_fault_data (codes "no-basis")
+refusal_data heads (fault_of.Frozen until) = frozen_data until
 refusal_data heads (fault_of.Full records entries) = full_data records entries
 refusal_data heads (fault_of.Short place item store lacking) = short_data place (code_of heads item.0) (code_of heads store.0) lacking.0
 refusal_data heads fault_of.KeeperFailed = null
@@ -125,6 +132,7 @@ IsTold (fault_of.LinkLater line) = Unit {0}
 IsTold (fault_of.RepeatedTarget line) = Unit {0}
 IsTold (fault_of.OverReturn line asked left) = Unit {0}
 IsTold fault_of.NoBasis = Unit {0}
+IsTold (fault_of.Frozen until) = Unit {0}
 IsTold (fault_of.Full records entries) = Unit {0}
 IsTold (fault_of.Short place item store lacking) = Unit {0}
 IsTold fault_of.KeeperFailed = ⊥

@@ -19,6 +19,7 @@ pub enum RecordKind {
     CustomerReturn,
     SupplierReturn,
     Landed,
+    Freeze,
 }
 
 /// What a request does.
@@ -86,6 +87,8 @@ pub fn record_kind_named(word: &str) -> Option<RecordKind>
         Some(RecordKind::SupplierReturn)
     } else if word == "landed" {
         Some(RecordKind::Landed)
+    } else if word == "freeze" {
+        Some(RecordKind::Freeze)
     } else {
         None
     }

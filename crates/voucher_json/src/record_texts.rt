@@ -66,6 +66,7 @@ fn record_value(alloc: Global, item: &Record) -> Result<Value, AllocError>
             basis,
             targets,
         } => landed_value(alloc, desk, *charge, *basis, targets),
+        What::Freeze { until } => freeze_value(alloc, desk, *until),
     }
 }
 
@@ -139,6 +140,14 @@ fn landed_value(
         "do": "landed",
         "targets": targets
     })
+}
+
+/// The JSON value of a freeze.
+fn freeze_value(alloc: Global, desk: u32, until: Moment) -> Result<Value, AllocError>
+    ensures { IfOk result (λ value. view value ≡ what_data desk (What.Freeze until)) }
+{
+    let until = moment_string(alloc, until)?;
+    json!(in alloc; {"desk": desk, "do": "freeze", "until": until})
 }
 
 /// The word of `method` for a cost formula.

@@ -3,7 +3,7 @@ ghost use Rattle.std.specs.Prelude.{◌≡◌, false, IfOk};
 ghost use Rattle.serde_json.specs.Written.{has_float, compact_text};
 ghost use Rattle.serde_json.specs.View.{view};
 ghost use Rattle.stock_model.specs.Masters.{code_of};
-ghost use Rattle.voucher_json.specs.ReplyText.{over_return_data, full_data, short_data, refusal_data, pending_data, missing_data, reply_text, IsTold, IsPrinted};
+ghost use Rattle.voucher_json.specs.ReplyText.{over_return_data, frozen_data, full_data, short_data, refusal_data, pending_data, missing_data, reply_text, IsTold, IsPrinted};
 
 use crate::moment_strings::moment_string;
 use crate::plain_texts::{bad_text, line_fault_text, numbered, record_fault_text};
@@ -16,6 +16,7 @@ use stock_nums::code::Code;
 use stock_nums::head::Head;
 use stock_nums::lines::Lines;
 use stock_nums::memory::NoMemory;
+use stock_nums::moment::Moment;
 use stock_nums::numbers::{ItemNo, Qty, RecordNo, StoreNo};
 use stock_nums::place::Place;
 
@@ -90,6 +91,7 @@ fn refusal_text(alloc: Global, fault: PostFault, heads: &[Head]) -> Result<Vec<u
             value_text(alloc, over_return_value(alloc, line, asked, left)?)
         }
         PostFault::NoBasis => record_fault_text(alloc, "no-basis"),
+        PostFault::Frozen { until } => value_text(alloc, frozen_value(alloc, until)?),
         PostFault::Full { records, entries } => {
             value_text(alloc, full_value(alloc, records, entries)?)
         }
@@ -108,6 +110,14 @@ fn over_return_value(alloc: Global, line: u32, asked: Qty, left: Qty) -> Result<
     ensures { IfOk result (λ value. view value ≡ over_return_data line asked.0 left.0) }
 {
     json!(in alloc; {"asked": asked.0, "fault": "over-return", "left": left.0, "line": line, "status": "refused"})
+}
+
+/// The JSON value of the refusal of a record that changes what is closed.
+fn frozen_value(alloc: Global, until: Moment) -> Result<Value, AllocError>
+    ensures { IfOk result (λ value. view value ≡ frozen_data until) }
+{
+    let until = moment_string(alloc, until)?;
+    json!(in alloc; {"fault": "frozen", "status": "refused", "until": until})
 }
 
 /// The JSON value of the refusal for want of room.

@@ -3,7 +3,7 @@ ghost use Rattle.std.specs.Prelude.{◌≤◌, length, IsTrue, IfOk};
 ghost use Rattle.serde_json.specs.View.{view};
 ghost use Rattle.stock_model.specs.Limits.{is_within_limits};
 ghost use Rattle.voucher_json.specs.Walks.{OrNoMemory};
-ghost use Rattle.voucher_json.specs.Records.{IsItem, IsStore, IsDated, IsIssue, IsLanded, IsWhat};
+ghost use Rattle.voucher_json.specs.Records.{IsItem, IsStore, IsDated, IsIssue, IsLanded, IsFreeze, IsWhat};
 
 use crate::fields::{
     amount_field, basis_field, code_field, method_field, moment_field, number_field, purpose_field,
@@ -51,6 +51,7 @@ pub fn read_what(
             Ok(What::SupplierReturn { at, lines })
         }
         RecordKind::Landed => read_landed(alloc, object, shared),
+        RecordKind::Freeze => read_freeze(object, shared),
     }
 }
 
@@ -122,4 +123,14 @@ fn read_landed(alloc: Global, object: &Value, shared: &[FieldName]) -> Result<Wh
         basis,
         targets,
     })
+}
+
+/// The freeze that an object says.
+fn read_freeze(object: &Value, shared: &[FieldName]) -> Result<What, ReadFault>
+    ensures outcome { OrNoMemory (IsFreeze shared.now (view object.now)) result }
+    ensures limits { IfOk result (λ what. IsTrue (is_within_limits what)) }
+{
+    let until = moment_field(object, FieldName::Until)?;
+    no_other(object, shared, &[FieldName::Until], 0)?;
+    Ok(What::Freeze { until })
 }

@@ -15,6 +15,9 @@ returns-in-Issue-clause-outcome c = rw c.in-Issue.is c.read_issue.ensures.outcom
 pub returns-in-Landed-clause-outcome : goal.returns-in-Landed-clause-outcome
 returns-in-Landed-clause-outcome c = rw c.in-Landed.is c.read_landed.ensures.outcome
 
+pub returns-in-Freeze-clause-outcome : goal.returns-in-Freeze-clause-outcome
+returns-in-Freeze-clause-outcome c = rw c.in-Freeze.is c.read_freeze.ensures.outcome
+
 pub returns-in_err-at-in-Receipt-clause-outcome : goal.returns-in_err-at-in-Receipt-clause-outcome
 returns-in_err-at-in-Receipt-clause-outcome c =
     let p = err_from_is_err_and c.from_residual.result c.from_residual.ensures.1 in
