@@ -13,6 +13,7 @@ pub mod ChangedCharges
 pub mod MoreRecords
 pub mod ChangedJournals
 pub mod MoreMovements
+pub mod ClosedRows
 pub mod SincePublished
 pub mod SinceChanges
 pub mod FirstSuspect

@@ -11,11 +11,11 @@ use Rattle.stock_model.specs.Faults.{lacks_target}
 use Rattle.stock_model.specs.Journals.{AreLegal, AreSoundAfter, AreSound}
 use Rattle.stock_model.specs.LandedCost.{line_weight, weight, weights, charged, record_charged, is_charge_of, added}
 use Rattle.stock_model.specs.TargetLines.{target_line}
-use Rattle.stock_model.specs.VoucherLines.{landed_target}
+use Rattle.stock_model.specs.VoucherLines.{landed_target, charged_targets}
 use Rattle.stock_model.specs.declared.records.Record.{Record}
 use Rattle.stock_model.specs.declared.vouchers.Basis.{Basis}
 use Rattle.stock_model.specs.declared.vouchers.What.{What}
-use Rattle.stock_model.specs.declared.vouchers.What.TheVariants.{Item, Store, Receipt, Issue, Transfer, CustomerReturn, SupplierReturn, Landed}
+use Rattle.stock_model.specs.declared.vouchers.What.TheVariants.{Item, Store, Receipt, Issue, Transfer, CustomerReturn, SupplierReturn, Landed, Freeze}
 use Rattle.stock_model.proofs.Growth.{all_charged-all}
 use Rattle.stock_model.proofs.NoFaults.{NoFaults, NoFaults-from}
 use Rattle.stock_model.proofs.Numbered.{Fails, first_line-none}
@@ -27,7 +27,7 @@ use Rattle.cost_links.specs.Charged.{charged_to}
 use Rattle.cost_links.proofs.ChargeSums.{charged_to-cons, charged_to-append, length-shares, length-weights}
 use Rattle.cost_links.proofs.LinkSteps.{added-le}
 use Rattle.repost_laws.specs.Fetches.{charges_after, is_charged_in}
-use Rattle.repost_laws.specs.Touched.{is_the_line, landed_lines, charges_to, is_charged_by}
+use Rattle.repost_laws.specs.Touched.{is_the_line, charges_to, is_charged_by}
 use Rattle.repost_laws.proofs.Filtered.{or_false}
 use Rattle.repost_laws.proofs.JournalFronts.{AreSoundAfter-first}
 
@@ -58,6 +58,7 @@ charged-longer journal more (Landed charge basis targets) sound =
     ap (λ (ws : List ℕ). zip targets (shares (unsigned_abs charge.0) ws))
     (weights-longer journal more basis targets (first_line-none (lacks_target journal) 1
     (map landed_target targets) sound.known))
+charged-longer journal more (Freeze until) sound = refl
 
 -- what the records of a sound journal charge, whatever records follow
 charges-longer : (done rest more : List Record) → AreSoundAfter done rest
@@ -86,7 +87,7 @@ zip-none line (target ∷ targets) (n ∷ ns) none =
     charged_to-cons line target n (zip targets ns) ∙ ap (λ (b : Bool). cond b n 0 + charged_to line (zip targets ns)) other.0 in
     omega (arith, own, zip-none line targets ns other.1)
 
-pub charged-none : (journal : List Record) (what : What) (line : Target) → list_any (is_the_line line) (landed_lines what) ≡ false
+pub charged-none : (journal : List Record) (what : What) (line : Target) → list_any (is_the_line line) (charged_targets what) ≡ false
     → charged_to line (charged journal what) ≡ 0
 charged-none journal (Item code method) line none = refl
 charged-none journal (Store code account) line none = refl
@@ -97,6 +98,7 @@ charged-none journal (CustomerReturn at lines) line none = refl
 charged-none journal (SupplierReturn at lines) line none = refl
 charged-none journal (Landed charge basis targets) line none = zip-none line targets
     (shares (unsigned_abs charge.0) (weights journal basis targets)) none
+charged-none journal (Freeze until) line none = refl
 
 charges-none : (journal more : List Record) (line : Target) → is_charged_by more line ≡ false
     → charged_to line (flat_map (record_charged journal) more) ≡ 0
@@ -136,7 +138,7 @@ any-zip line (target ∷ targets) (n ∷ ns) same =
     ap (λ (b : Bool). is_same_target target line || b) (any-zip line targets ns (omega (arith, same)))
 
 charged-named : (journal : List Record) (what : What) (line : Target)
-    → list_any (is_the_line line) (landed_lines what) ≡ list_any (is_charge_of line) (charged journal what)
+    → list_any (is_the_line line) (charged_targets what) ≡ list_any (is_charge_of line) (charged journal what)
 charged-named journal (Item code method) line = refl
 charged-named journal (Store code account) line = refl
 charged-named journal (Receipt at lines) line = refl
@@ -148,6 +150,7 @@ charged-named journal (Landed charge basis targets) line =
     let ws = weights journal basis targets in
     any-zip line targets (shares (unsigned_abs charge.0) ws)
     (length-shares (unsigned_abs charge.0) 0 (sum ws) ws ∙ length-weights journal basis targets)
+charged-named journal (Freeze until) line = refl
 
 charges-named : (journal more : List Record) (line : Target)
     → is_charged_by more line ≡ is_charged_in (flat_map (record_charged journal) more) line

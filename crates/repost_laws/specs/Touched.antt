@@ -16,9 +16,8 @@ use Rattle.stock_nums.specs.declared.place.Place.{Place}
 use Rattle.stock_model.specs.Enough.{entry_key, is_of_key}
 use Rattle.stock_model.specs.Returns.{returns_of}
 use Rattle.stock_model.specs.Values.{own_line}
+use Rattle.stock_model.specs.VoucherLines.{charged_targets}
 use Rattle.stock_model.specs.declared.records.Record.{Record}
-use Rattle.stock_model.specs.declared.vouchers.What.{What}
-use Rattle.stock_model.specs.declared.vouchers.What.TheVariants.{Landed}
 use Rattle.cost_links.specs.Sources.{entry_place}
 use Rattle.cost_links.specs.Tables.{Held}
 use Rattle.repost_laws.specs.Pieces.{Piece}
@@ -109,13 +108,8 @@ IsMarked line found place now e =
 abbrev pub is_the_line : Target → Target → Bool
 is_the_line line target = is_same_target target line
 
--- the lines of receipts that a voucher of landed charges charges something to
-abbrev pub landed_lines : What → List Target
-landed_lines (Landed charge basis targets) = targets
-landed_lines _ = []
-
 abbrev pub charges_to : Target → Record → Bool
-charges_to line item = list_any (is_the_line line) (landed_lines item.what)
+charges_to line item = list_any (is_the_line line) (charged_targets item.what)
 
 -- one of the records charges something to the line
 abbrev pub is_charged_by : List Record → Target → Bool

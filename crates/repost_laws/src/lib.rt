@@ -4,6 +4,7 @@
 #![tactic(auto)]
 
 pub mod build_laws;
+pub mod closing_laws;
 pub mod fetch_laws;
 pub mod index_laws;
 pub mod journal_laws;
