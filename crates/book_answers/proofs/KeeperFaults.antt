@@ -8,7 +8,7 @@ use Rattle.stock_nums.specs.declared.memory.NoMemory as memory
 use Rattle.stock_model.specs.PostReplies.{refusal}
 use Rattle.stock_model.specs.declared.answers.Answer.{Answer}
 use Rattle.stock_model.specs.declared.faults.PostFault.{PostFault}
-use Rattle.stock_model.specs.declared.faults.PostFault.TheVariants.{CodeTaken, CodeShape, AccountRange, UnknownItem, UnknownStore, SameStore, UnknownTarget, LinkLater, RepeatedTarget, OverReturn, NoBasis, Full, Short, KeeperFailed, NoMemory}
+use Rattle.stock_model.specs.declared.faults.PostFault.TheVariants.{CodeTaken, CodeShape, AccountRange, UnknownItem, UnknownStore, SameStore, UnknownTarget, LinkLater, RepeatedTarget, OverReturn, NoBasis, Frozen, Full, Short, KeeperFailed, NoMemory}
 use Rattle.stock_model.specs.declared.records.Record.{Record}
 use Rattle.generation_book.specs.Refusals.{IsAfterRefusal}
 use Rattle.session_laws.specs.Exchanges.{store_failures}
@@ -27,6 +27,7 @@ never_falls-refused (LinkLater n) old new after = omega (arith, ap (λ k. k.faul
 never_falls-refused (RepeatedTarget n) old new after = omega (arith, ap (λ k. k.faults) after)
 never_falls-refused (OverReturn n asked left) old new after = omega (arith, ap (λ k. k.faults) after)
 never_falls-refused NoBasis old new after = omega (arith, ap (λ k. k.faults) after)
+never_falls-refused (Frozen until) old new after = omega (arith, ap (λ k. k.faults) after)
 never_falls-refused (Full held entries) old new after = omega (arith, ap (λ k. k.faults) after)
 never_falls-refused (Short place item store lacking) old new after = omega (arith, ap (λ k. k.faults) after)
 never_falls-refused KeeperFailed old new after = after.never_falls
@@ -52,6 +53,7 @@ CountsFailure-refusal journal (LinkLater n) old new after = counts (refusal jour
 CountsFailure-refusal journal (RepeatedTarget n) old new after = counts (refusal journal (RepeatedTarget n)) (RepeatedTarget n) old new after refl
 CountsFailure-refusal journal (OverReturn n asked left) old new after = counts (refusal journal (OverReturn n asked left)) (OverReturn n asked left) old new after refl
 CountsFailure-refusal journal NoBasis old new after = counts (refusal journal NoBasis) NoBasis old new after refl
+CountsFailure-refusal journal (Frozen until) old new after = counts (refusal journal (Frozen until)) (Frozen until) old new after refl
 CountsFailure-refusal journal (Full held entries) old new after = counts (refusal journal (Full held entries)) (Full held entries) old new after refl
 CountsFailure-refusal journal (Short place item store lacking) old new after = counts (refusal journal (Short place item store lacking)) (Short place item store lacking) old new after refl
 CountsFailure-refusal journal KeeperFailed old new after =

@@ -7,7 +7,7 @@ use Rattle.stock_model.specs.declared.answers.Answer.TheVariants.{Told}
 use Rattle.stock_model.specs.declared.deeds.Deed.{Deed}
 use Rattle.stock_model.specs.declared.deeds.Deed.TheVariants.{Kept}
 use Rattle.stock_model.specs.declared.faults.PostFault.{PostFault}
-use Rattle.stock_model.specs.declared.faults.PostFault.TheVariants.{CodeTaken, CodeShape, AccountRange, UnknownItem, UnknownStore, SameStore, UnknownTarget, LinkLater, RepeatedTarget, OverReturn, NoBasis, Full, Short, KeeperFailed, NoMemory}
+use Rattle.stock_model.specs.declared.faults.PostFault.TheVariants.{CodeTaken, CodeShape, AccountRange, UnknownItem, UnknownStore, SameStore, UnknownTarget, LinkLater, RepeatedTarget, OverReturn, NoBasis, Frozen, Full, Short, KeeperFailed, NoMemory}
 use Rattle.stock_model.specs.declared.records.Record.{Record}
 use Rattle.stock_model.specs.declared.replies.Reply.TheVariants.{Accepted}
 use Rattle.stock_model.specs.Faults.{fault}
@@ -45,6 +45,7 @@ IsPostAnswer-told old new item (LinkLater n) is same told = IsPostAnswer-refused
 IsPostAnswer-told old new item (RepeatedTarget n) is same told = IsPostAnswer-refused old new item (RepeatedTarget n) is same
 IsPostAnswer-told old new item (OverReturn n asked left) is same told = IsPostAnswer-refused old new item (OverReturn n asked left) is same
 IsPostAnswer-told old new item NoBasis is same told = IsPostAnswer-refused old new item NoBasis is same
+IsPostAnswer-told old new item (Frozen until) is same told = IsPostAnswer-refused old new item (Frozen until) is same
 IsPostAnswer-told old new item (Full held entries) is same told = IsPostAnswer-refused old new item (Full held entries) is same
 IsPostAnswer-told old new item (Short place item' store lacking) is same told = IsPostAnswer-refused old new item (Short place item' store lacking) is same
 IsPostAnswer-told old new item KeeperFailed none same told = rw none (inr (refl, same))

@@ -10,7 +10,7 @@ use Rattle.stock_model.specs.declared.answers.Answer.{Answer}
 use Rattle.stock_model.specs.declared.deeds.Deed.{Deed}
 use Rattle.stock_model.specs.declared.deeds.Deed.TheVariants.{Kept, Published}
 use Rattle.stock_model.specs.declared.faults.PostFault.{PostFault}
-use Rattle.stock_model.specs.declared.faults.PostFault.TheVariants.{CodeTaken, CodeShape, AccountRange, UnknownItem, UnknownStore, SameStore, UnknownTarget, LinkLater, RepeatedTarget, OverReturn, NoBasis, Full, Short, KeeperFailed, NoMemory}
+use Rattle.stock_model.specs.declared.faults.PostFault.TheVariants.{CodeTaken, CodeShape, AccountRange, UnknownItem, UnknownStore, SameStore, UnknownTarget, LinkLater, RepeatedTarget, OverReturn, NoBasis, Frozen, Full, Short, KeeperFailed, NoMemory}
 use Rattle.stock_model.specs.declared.queries.Need.{Need}
 use Rattle.stock_model.specs.declared.queries.Need.TheVariants as need
 use Rattle.stock_model.specs.declared.queries.Query.{Query}
@@ -48,6 +48,7 @@ refusal-keeps journal (LinkLater line) = tt
 refusal-keeps journal (RepeatedTarget line) = tt
 refusal-keeps journal (OverReturn line asked left) = tt
 refusal-keeps journal NoBasis = tt
+refusal-keeps journal (Frozen until) = tt
 refusal-keeps journal (Full held entries) = tt
 refusal-keeps journal (Short place item store lacking) = tt
 refusal-keeps journal KeeperFailed = tt

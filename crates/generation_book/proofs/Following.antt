@@ -4,7 +4,7 @@ use Rattle.turn_lock.specs.declared.view.Start.{Start}
 use Rattle.stock_model.specs.declared.deeds.Deed.{Deed}
 use Rattle.stock_model.specs.declared.deeds.Deed.TheVariants.{Kept}
 use Rattle.stock_model.specs.declared.faults.PostFault.{PostFault}
-use Rattle.stock_model.specs.declared.faults.PostFault.TheVariants.{CodeTaken, CodeShape, AccountRange, UnknownItem, UnknownStore, SameStore, UnknownTarget, LinkLater, RepeatedTarget, OverReturn, NoBasis, Full, Short, KeeperFailed, NoMemory}
+use Rattle.stock_model.specs.declared.faults.PostFault.TheVariants.{CodeTaken, CodeShape, AccountRange, UnknownItem, UnknownStore, SameStore, UnknownTarget, LinkLater, RepeatedTarget, OverReturn, NoBasis, Frozen, Full, Short, KeeperFailed, NoMemory}
 use Rattle.stock_model.specs.declared.records.Record.{Record}
 use Rattle.stock_keeper.specs.Calls.{KeeperState, IsDone, HasCalled}
 use Rattle.stock_keeper.specs.declared.fault.KeepFault.TheVariants as keep
@@ -69,6 +69,7 @@ called-after (LinkLater n) old new after = called-same old new after
 called-after (RepeatedTarget n) old new after = called-same old new after
 called-after (OverReturn n asked left) old new after = called-same old new after
 called-after NoBasis old new after = called-same old new after
+called-after (Frozen until) old new after = called-same old new after
 called-after (Full held entries) old new after = called-same old new after
 called-after (Short place item store lacking) old new after = called-same old new after
 called-after KeeperFailed old new after = called-refused keep.Failed old new after

@@ -4,3 +4,4 @@ pub mod ChangedRows
 pub mod OwnFaults
 pub mod KeptBooks
 pub mod Following
+pub mod ClosedBooks

@@ -1,19 +1,21 @@
 -- A record's own fault is neither that its keeper failed nor want of memory.
 use Rattle.std.proofs.Common.{◌≡◌, ◌⊎◌, ℕ, Bool, true, false, List, [], ◌∷◌, ◌++◌, Option, Some, None, IfSome, inl, inr, refl, sym, subst}
 use Rattle.std.specs.Prelude.{if◌then◌else◌, is_some}
-use Rattle.std.specs.Option.{option_map, option_or}
+use Rattle.std.specs.Option.{option_map, option_or, option_and_then}
 use Rattle.stock_nums.specs.Accounts.{is_store_account}
 use Rattle.stock_nums.specs.Codes.{is_code}
+use Rattle.stock_nums.specs.declared.moment.Moment.{Moment}
 use Rattle.stock_io.specs.Counts.{raised}
-use Rattle.stock_model.specs.Faults.{fault, fault_but_short, full, short, short_of, voucher_fault, master_fault, lines_fault, targets_fault, first_fault, code_taken, code_shape, account_range, unknown_item, unknown_store, same_store, unknown_target, link_later, repeated_target, over_return, no_basis, over_return_at}
+use Rattle.stock_model.specs.Faults.{fault, fault_but_short, full, short, short_of, voucher_fault, master_fault, lines_fault, targets_fault, changes_closed, frozen_by, frozen_fault, first_fault, code_taken, code_shape, account_range, unknown_item, unknown_store, same_store, unknown_target, link_later, repeated_target, over_return, no_basis, over_return_at}
+use Rattle.stock_model.specs.Freezing.{frozen}
 use Rattle.stock_model.specs.Masters.{item_with, store_with}
 use Rattle.stock_model.specs.declared.deeds.Deed.{Deed}
 use Rattle.stock_model.specs.declared.faults.PostFault.{PostFault}
-use Rattle.stock_model.specs.declared.faults.PostFault.TheVariants.{CodeTaken, CodeShape, AccountRange, UnknownItem, UnknownStore, SameStore, UnknownTarget, LinkLater, RepeatedTarget, OverReturn, NoBasis, Full, Short, KeeperFailed, NoMemory}
+use Rattle.stock_model.specs.declared.faults.PostFault.TheVariants.{CodeTaken, CodeShape, AccountRange, UnknownItem, UnknownStore, SameStore, UnknownTarget, LinkLater, RepeatedTarget, OverReturn, NoBasis, Frozen, Full, Short, KeeperFailed, NoMemory}
 use Rattle.stock_model.specs.VoucherLines.{lines_of}
 use Rattle.stock_model.specs.declared.records.Record.{Record}
 use Rattle.stock_model.specs.declared.vouchers.What.{What}
-use Rattle.stock_model.specs.declared.vouchers.What.TheVariants.{Item, Store, Receipt, Issue, Transfer, CustomerReturn, SupplierReturn, Landed}
+use Rattle.stock_model.specs.declared.vouchers.What.TheVariants.{Item, Store, Receipt, Issue, Transfer, CustomerReturn, SupplierReturn, Landed, Freeze}
 use Rattle.stock_keeper.specs.Calls.{KeeperState}
 use Rattle.stock_keeper.specs.declared.fault.KeepFault.{KeepFault}
 use Rattle.stock_keeper.specs.declared.fault.KeepFault.TheVariants as keep
@@ -58,6 +60,7 @@ own-taken journal (Transfer at lines) = tt
 own-taken journal (CustomerReturn at lines) = tt
 own-taken journal (SupplierReturn at lines) = tt
 own-taken journal (Landed charge basis targets) = tt
+own-taken journal (Freeze until) = tt
 
 own-shape : (what : What) → IfSome (code_shape what) IsOwn
 own-shape (Item code method) = own-unless (is_code code) CodeShape tt
@@ -68,6 +71,7 @@ own-shape (Transfer at lines) = tt
 own-shape (CustomerReturn at lines) = tt
 own-shape (SupplierReturn at lines) = tt
 own-shape (Landed charge basis targets) = tt
+own-shape (Freeze until) = tt
 
 own-account : (what : What) → IfSome (account_range what) IsOwn
 own-account (Item code method) = tt
@@ -78,6 +82,11 @@ own-account (Transfer at lines) = tt
 own-account (CustomerReturn at lines) = tt
 own-account (SupplierReturn at lines) = tt
 own-account (Landed charge basis targets) = tt
+own-account (Freeze until) = tt
+
+own-frozen : (journal : List Record) (what : What) (until : Option Moment) → IfSome (option_and_then (frozen_by journal what) until) IsOwn
+own-frozen journal what None = tt
+own-frozen journal what (Some until) = own-if (changes_closed journal what until) (Frozen until) tt
 
 own-voucher : (journal : List Record) (what : What) → IfSome (voucher_fault journal what) IsOwn
 own-voucher journal what =
@@ -99,7 +108,8 @@ own-voucher journal what =
         ),
       ),
     ) in
-    own-first (master_fault journal what ∷ lines_fault journal what ∷ targets_fault journal what ∷ []) (masters, (lines, (targets, tt)))
+    own-first (master_fault journal what ∷ lines_fault journal what ∷ targets_fault journal what ∷ frozen_fault journal what ∷ [])
+    (masters, (lines, (targets, (own-frozen journal what (frozen journal), tt))))
 
 own-fault : (journal : List Record) (item : Record) → IfSome (fault journal item) IsOwn
 unfolding fault
@@ -120,6 +130,7 @@ by_fault journal item (LinkLater n) own is = is
 by_fault journal item (RepeatedTarget n) own is = is
 by_fault journal item (OverReturn n asked left) own is = is
 by_fault journal item NoBasis own is = is
+by_fault journal item (Frozen until) own is = is
 by_fault journal item (Full records entries) own is = is
 by_fault journal item (Short place item' store lacking) own is = is
 by_fault journal item KeeperFailed own is = absurd own
@@ -137,6 +148,7 @@ uncalled (LinkLater n) keeper own = refl
 uncalled (RepeatedTarget n) keeper own = refl
 uncalled (OverReturn n asked left) keeper own = refl
 uncalled NoBasis keeper own = refl
+uncalled (Frozen until) keeper own = refl
 uncalled (Full records entries) keeper own = refl
 uncalled (Short place item store lacking) keeper own = refl
 uncalled KeeperFailed keeper own = absurd own
@@ -173,6 +185,7 @@ untried (LinkLater n) event tried own = refl
 untried (RepeatedTarget n) event tried own = refl
 untried (OverReturn n asked left) event tried own = refl
 untried NoBasis event tried own = refl
+untried (Frozen until) event tried own = refl
 untried (Full records entries) event tried own = refl
 untried (Short place item store lacking) event tried own = refl
 untried KeeperFailed event tried own = absurd own
@@ -206,6 +219,7 @@ unasked (LinkLater n) calls own = refl
 unasked (RepeatedTarget n) calls own = refl
 unasked (OverReturn n asked left) calls own = refl
 unasked NoBasis calls own = refl
+unasked (Frozen until) calls own = refl
 unasked (Full records entries) calls own = refl
 unasked (Short place item store lacking) calls own = refl
 unasked KeeperFailed calls own = absurd own

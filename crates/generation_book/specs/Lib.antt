@@ -4,3 +4,4 @@ pub mod Merged
 pub mod Refusals
 pub mod Handed
 pub mod Follows
+pub mod ClosedRows

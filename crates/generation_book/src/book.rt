@@ -16,6 +16,7 @@ ghost use Rattle.repost_fetch.specs.Changes.{AreChanges};
 ghost use Rattle.repost_fetch.specs.Fetched.{IsFetchedOf};
 ghost use Rattle.kept_tables.specs.Kept.{IsKept};
 ghost use Rattle.generation_book.specs.State.{first_book};
+ghost use Rattle.generation_book.specs.ClosedRows.{HasClosedRows};
 ghost use Rattle.generation_book.specs.Handed.{IsHanded, AreHanded};
 ghost use Rattle.generation_book.specs.Refusals.{refusal_of, IsRefusalOf, IsAfterRefusal, HasTried, HasTriedFor, HasAsked, HasAskedFor};
 
@@ -167,6 +168,9 @@ impl<K: Keeper> Book<K> {
         ensures called { OnOk result (self.new.calls ≡ raised self.old.calls) }
         ensures asked { IfErr result (λ f. HasAskedFor f self.old.calls self.new.calls) }
         ensures legal { OnOk result (history.IsLegal self.new.history) }
+
+        // What is closed stays: the replay of all records has just the rows up to a closed moment that it had.
+        ensures closed { OnOk result (HasClosedRows self.old.history self.new.history) }
     {
         let entries = match self.new_entries(alloc, &item) {
             Ok(entries) => entries,

@@ -9,7 +9,7 @@ use Rattle.stock_model.specs.declared.answers.Answer.TheVariants.{Told}
 use Rattle.stock_model.specs.declared.deeds.Deed.{Deed}
 use Rattle.stock_model.specs.declared.deeds.Deed.TheVariants.{Kept}
 use Rattle.stock_model.specs.declared.faults.PostFault.{PostFault}
-use Rattle.stock_model.specs.declared.faults.PostFault.TheVariants.{CodeTaken, CodeShape, AccountRange, UnknownItem, UnknownStore, SameStore, UnknownTarget, LinkLater, RepeatedTarget, OverReturn, NoBasis, Full, Short, KeeperFailed, NoMemory}
+use Rattle.stock_model.specs.declared.faults.PostFault.TheVariants.{CodeTaken, CodeShape, AccountRange, UnknownItem, UnknownStore, SameStore, UnknownTarget, LinkLater, RepeatedTarget, OverReturn, NoBasis, Frozen, Full, Short, KeeperFailed, NoMemory}
 use Rattle.stock_model.specs.declared.queries.Need.{Need}
 use Rattle.stock_model.specs.declared.queries.Need.TheVariants as need
 use Rattle.stock_model.specs.declared.queries.Query.{Query}
@@ -54,6 +54,7 @@ refusal-accepts_none journal (LinkLater line) n same = cc
 refusal-accepts_none journal (RepeatedTarget line) n same = cc
 refusal-accepts_none journal (OverReturn line asked left) n same = cc
 refusal-accepts_none journal NoBasis n same = cc
+refusal-accepts_none journal (Frozen until) n same = cc
 refusal-accepts_none journal (Full held entries) n same = cc
 refusal-accepts_none journal (Short place item store lacking) n same = cc
 refusal-accepts_none journal KeeperFailed n same = cc

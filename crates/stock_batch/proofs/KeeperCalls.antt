@@ -6,7 +6,7 @@ use Rattle.stock_model.specs.declared.answers.Answer.{Answer}
 use Rattle.stock_model.specs.declared.answers.Answer.TheVariants.{Told}
 use Rattle.stock_model.specs.declared.deeds.Deed.TheVariants.{Kept}
 use Rattle.stock_model.specs.declared.faults.PostFault.{PostFault}
-use Rattle.stock_model.specs.declared.faults.PostFault.TheVariants.{CodeTaken, CodeShape, AccountRange, UnknownItem, UnknownStore, SameStore, UnknownTarget, LinkLater, RepeatedTarget, OverReturn, NoBasis, Full, Short, KeeperFailed, NoMemory}
+use Rattle.stock_model.specs.declared.faults.PostFault.TheVariants.{CodeTaken, CodeShape, AccountRange, UnknownItem, UnknownStore, SameStore, UnknownTarget, LinkLater, RepeatedTarget, OverReturn, NoBasis, Frozen, Full, Short, KeeperFailed, NoMemory}
 use Rattle.stock_model.specs.declared.records.Record.{Record}
 use Rattle.stock_model.specs.declared.replies.Reply.{Reply}
 use Rattle.stock_model.specs.declared.replies.Reply.TheVariants.{Accepted, Worked, Settled, StoreFailed}
@@ -51,6 +51,7 @@ last-refused journal (LinkLater n) old new after told = after
 last-refused journal (RepeatedTarget n) old new after told = after
 last-refused journal (OverReturn n asked left) old new after told = after
 last-refused journal NoBasis old new after told = after
+last-refused journal (Frozen until) old new after told = after
 last-refused journal (Full held entries) old new after told = after
 last-refused journal (Short place item store lacking) old new after told = after
 last-refused journal KeeperFailed old new after told = after
@@ -84,6 +85,7 @@ wanting-refused (LinkLater n) old new after = inl after
 wanting-refused (RepeatedTarget n) old new after = inl after
 wanting-refused (OverReturn n asked left) old new after = inl after
 wanting-refused NoBasis old new after = inl after
+wanting-refused (Frozen until) old new after = inl after
 wanting-refused (Full held entries) old new after = inl after
 wanting-refused (Short place item store lacking) old new after = inl after
 wanting-refused KeeperFailed old new after = wanting-failed old new after

@@ -26,6 +26,7 @@ use Rattle.generation_book.specs.Refusals.{IsRefusalOf, HasTriedFor, HasAskedFor
 use Rattle.generation_book.specs.declared.events.Event.{Event}
 use Rattle.generation_book.specs.declared.events.Event.TheVariants.{Kept}
 use Rattle.generation_book.proofs.Books.{records-deeds, history-records, IsBook-kept, deeds-kept, legal-kept, put_all-entries, entries-own_places, entries-enough, at_once-none, popped}
+use Rattle.generation_book.proofs.ClosedBooks.{closed-kept}
 use Rattle.generation_book.proofs.KeptBooks.{kept-appended, kept-unappended}
 use Rattle.generation_book.proofs.OwnFaults.{refused-for, refused-uncalled, refused-by, tried-uncalled, tried-by, asked-uncalled, asked-by}
 use Rattle.generation_book.proofs.book.Book.post.Goals as goal
@@ -194,3 +195,6 @@ returns-clause-number g c =
 
 pub returns-clause-legal : goal.returns-clause-legal
 returns-clause-legal g c = (invariant_of-self-2 g c).0.legal
+
+pub returns-clause-closed : goal.returns-clause-closed
+returns-clause-closed g c = closed-kept c.args.self.now.history _ c.args.item (returns-clause-kept g c) (returns-clause-legal g c)
