@@ -1,6 +1,6 @@
 //! A journal keeps records without a fault, takes them away again, and its records are copied.
 
-use crate::records::{ITEM, STORE, record};
+use crate::records::{ITEM, SALE, STORE, record};
 use std::alloc::Global;
 use stock_model::faults::PostFault;
 use stock_model::read_faults::ReadFault;
@@ -30,6 +30,19 @@ const UNKNOWN_STORE: &str =
 // The ten units of the receipt's first line go back to the supplier.
 const SENT_BACK: &str =
     r#"{"do":"supplier-return","at":"2026-01-02T09:00:00","lines":[{"record":3,"line":1,"store":"W1","qty":10}]}"#;
+
+// The past is closed up to the moment of the sale, and then up to an earlier one.
+const FREEZE: &str = r#"{"do":"freeze","until":"2026-01-03T00:00:00"}"#;
+
+const EARLIER_FREEZE: &str = r#"{"do":"freeze","until":"2026-01-01T00:00:00"}"#;
+
+const FREIGHT: &str =
+    r#"{"do":"landed","charge":51,"basis":"qty","targets":[{"record":3,"line":1}]}"#;
+
+const THIRD: Moment = Moment {
+    date: 20_260_103,
+    second: 0,
+};
 
 // Each of these is sound once those before it are kept.
 const FOUR: [&str; 4] = [ITEM, STORE, RECEIPT, SENT_BACK];
@@ -229,6 +242,22 @@ fn takes_records_away_again(rt: HostRuntime) {
     }
     assert!(rt; counts(&journal) == (0, 0));
     assert!(rt; keeps(rt.alloc(), &mut journal, &FOUR));
+}
+
+#[test]
+fn closes_the_past_until_the_freeze_goes(rt: HostRuntime) {
+    let alloc = rt.alloc();
+    let mut journal = Journal::new(alloc);
+    let lines = [ITEM, STORE, RECEIPT, FREEZE, EARLIER_FREEZE];
+    assert!(rt; keeps(alloc, &mut journal, &lines));
+    let frozen = Ok(Some(PostFault::Frozen { until: THIRD }));
+    assert!(rt; checked(alloc, &journal, SALE) == frozen);
+    assert!(rt; checked(alloc, &journal, FREIGHT) == frozen);
+    pop(&mut journal);
+    assert!(rt; journal.frozen() == Some(THIRD));
+    pop(&mut journal);
+    assert!(rt; journal.frozen() == None);
+    assert!(rt; checked(alloc, &journal, SALE) == Ok(None));
 }
 
 fn copy(alloc: Global, record: &Record) -> Option<Lines<u8>> {

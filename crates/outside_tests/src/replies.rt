@@ -123,6 +123,14 @@ fn prints_refusals(rt: HostRuntime) {
     };
     let text = r#"{"asked":1,"fault":"over-return","left":0,"line":1,"status":"refused"}"#;
     assert!(rt; is_refused(alloc, over, text));
+    let frozen = PostFault::Frozen {
+        until: Moment {
+            date: 20_260_103,
+            second: 0,
+        },
+    };
+    let text = r#"{"fault":"frozen","status":"refused","until":"2026-01-03T00:00:00"}"#;
+    assert!(rt; is_refused(alloc, frozen, text));
     let full = PostFault::Full {
         records: 44,
         entries: 200_000,

@@ -80,6 +80,10 @@ const KINDS: &[(&str, &str)] = &[
         r#"{"basis":"amount","do":"landed","charge":0,"targets":[{"line":1,"record":3}]}"#,
         r#"{"basis":"amount","charge":0,"desk":0,"do":"landed","targets":[{"line":1,"record":3}]}"#,
     ),
+    (
+        r#"{"do":"freeze","until":"2026-01-03T00:00:00"}"#,
+        r#"{"desk":0,"do":"freeze","until":"2026-01-03T00:00:00"}"#,
+    ),
 ];
 
 #[test]

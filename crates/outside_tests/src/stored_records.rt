@@ -49,6 +49,7 @@ const WRITTEN: &[&str] = &[
     r#"{"at":"2026-01-05T09:00:00","desk":2,"do":"supplier-return","lines":[{"line":100,"qty":1,"record":4294967295,"store":"W1"}]}"#,
     r#"{"basis":"qty","charge":100,"desk":0,"do":"landed","targets":[{"line":1,"record":5}]}"#,
     r#"{"basis":"amount","charge":1000000000000,"desk":0,"do":"landed","targets":[{"line":1,"record":5},{"line":2,"record":5}]}"#,
+    r#"{"desk":0,"do":"freeze","until":"2026-01-03T00:00:00"}"#,
 ];
 
 #[test]
