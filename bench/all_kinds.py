@@ -10,6 +10,8 @@ import plain_replay
 
 MOVEMENTS = 3_900
 SETTLES = 10
+# A freeze comes after one in so many vouchers.
+FREEZES = 300
 STORES = ["MAIN", "SHOP", "VAN"]
 ITEMS = {"BOLT": "fifo", "NUT": "average", "OIL": "average", "TAPE": "fifo"}
 # By how much each kind is more frequent than the rarest.
@@ -84,11 +86,19 @@ class Maker:
         return self.post({"do": kind, "at": chance.choice(self.moments), **use, "lines": lines})
 
 
+    def freeze(self):
+        """Closes the past up to one of the first moments, so that most vouchers are still accepted, or an earlier one."""
+        first = sorted(self.moments)[:len(self.moments) // 10]
+        return self.post({"do": "freeze", "until": self.chance.choice(first)})
+
+
 def in_random_order():
-    """Returns the lines of the run in random order, with settles and reports spread among them."""
+    """Returns the lines of the run in random order, with settles, reports and freezes spread among them."""
     maker, asked = Maker(seed=31, moments=150), 0
     while maker.movements() < MOVEMENTS:
         maker.posting()
+        if maker.chance.randrange(FREEZES) == 0:
+            maker.freeze()
         if maker.movements() * SETTLES >= (asked + 1) * MOVEMENTS:
             asked += 1
             maker.lines += [json.dumps(it, separators=(",", ":")) for it in (

@@ -70,6 +70,7 @@ FORMS = {
     "customer-return": RETURN,
     "supplier-return": RETURN,
     "landed": {"charge": whole(0, 10**12), "basis": text("qty", "amount"), "targets": lines_of(TARGET)},
+    "freeze": {"until": is_moment},
     "settle": {},
     "work": {"turns": whole(1, 10**6)},
 }
@@ -415,6 +416,12 @@ class Ledger:
             return None
         return refused("over-return", asked=named[number - 1]["qty"], left=self.left_of(targets[number - 1]), line=number)
 
+    def frozen_fault(self, it):
+        """Returns the refusal of what changes the past up to the latest of all freezes; or None."""
+        until = max((one["until"] for one in self.accepted if one["do"] == "freeze"), default="")
+        moments = [it["at"]] if "at" in it else [self.accepted[target["record"] - 1]["at"] for target in it.get("targets", [])]
+        return refused("frozen", until=until) if any(at <= until for at in moments) else None
+
     def weights(self, it):
         return [self.line_at(target_of(target), "landed")[it["basis"]] for target in it["targets"]]
 
@@ -434,7 +441,7 @@ class Ledger:
         masters = self.masters_of(it)
         if masters is not None:
             return refused("code-taken") if it["code"] in masters else None
-        return self.line_fault(it) or self.target_fault(it)
+        return self.line_fault(it) or self.target_fault(it) or self.frozen_fault(it)
 
     def post(self, it):
         fault = self.voucher_fault(it)
