@@ -4,11 +4,8 @@ use Rattle.std.proofs.lemmas.Bool.{lt-ltb, le-ltb}
 use Rattle.std.proofs.lemmas.Bool.Decides.{nat_tests}
 use Rattle.std.proofs.lemmas.List.{take-append-le, take_all, take-take, take-append-drop}
 use Rattle.stock_laws.proofs.Enough.{IsEnough-nil, IsEnough-from_none}
-use Rattle.stock_laws.proofs.PostingLine.{IsInPostingOrder-posting_line}
-use Rattle.stock_model.specs.InOrder.{IsInPostingOrder}
-use Rattle.quantity_check.specs.OwnPlaces.{HaveOwnPlaces}
-use Rattle.quantity_check.proofs.OwnPlaceLemmas.{HaveOwnPlaces-put_all}
-use Rattle.stock_model.proofs.Growth.{all_entries-snoc, posting_line-snoc, length-posting_line}
+use Rattle.stock_model.proofs.Growth.{length-posting_line}
+use Rattle.stock_laws.proofs.LiveEntries.{length-all_entries-step}
 use Rattle.stock_laws.proofs.Legality.{NoFault-from, AreLegal-history}
 use Rattle.stock_model.proofs.NoFaults.{neither}
 use Rattle.stock_laws.proofs.LegalReplay.{AreBounded-replay}
@@ -31,7 +28,7 @@ use Rattle.stock_model.specs.declared.queries.Need.{Need}
 use Rattle.stock_model.specs.declared.queries.Need.TheVariants as need
 use Rattle.std.specs.Prelude.{nat_le, if◌then◌else◌}
 use Rattle.stock_model.specs.Reports.{need_of, need_at}
-use Rattle.stock_model.specs.PostingOrder.{put_all, posting_line}
+use Rattle.stock_model.specs.PostingOrder.{posting_line}
 use Rattle.stock_model.specs.Journals.{AreLegal}
 use Rattle.stock_model.specs.Replay.{replay}
 use Rattle.stock_model.specs.History as history
@@ -150,7 +147,7 @@ IsBook-kept events journal line c rows item longer book none posted =
     record {
       counted = omega (arith, kept_count-append events (Kept ∷ []), length-append journal (item ∷ []), book.counted);
       posted = posted;
-      few = rw (posted, length-posting_line, all_entries-snoc, length-append) fine.few;
+      few = omega (arith, ap length posted, length-posting_line (journal ++ item ∷ []), length-all_entries-step journal item, fine.few);
       enough = subst IsEnough (sym posted) (IsEnough-from_none (posting_line (journal ++ item ∷ [])) fine.enough);
       covers = rw (told, covered_after-append 0 (deeds events journal) (deed.Kept item ∷ [])) book.covers;
       within = omega (arith, length-append journal (item ∷ []), book.within);
@@ -238,22 +235,6 @@ history-accepted events journal line c rows told book is = ap length (history-re
 pub history-covered : (events : List Event) (journal : List Record) (line : List Entry) (c : ℕ) (rows : List Row) (told : List Deed) → IsBook events journal line c rows
     → deeds events journal ≡ told → history.covered told ≡ c
 history-covered events journal line c rows told book is = ap history.covered (sym is) ∙ sym book.covers
-
--- the line with the movements of one more record put among its own
-pub put_all-entries : (journal : List Record) (item : Record) (line es : List Entry) → line ≡ posting_line journal → es ≡ entries journal item
-    → put_all line es ≡ posting_line (journal ++ item ∷ [])
-put_all-entries journal item line es posted new = rw (posted, new) (sym (posting_line-snoc journal item))
-
--- these have places of their own
-pub entries-own_places : (journal : List Record) (item : Record) (line es : List Entry) → line ≡ posting_line journal → es ≡ entries journal item → HaveOwnPlaces (line ++ es)
-entries-own_places journal item line es posted new =
-    HaveOwnPlaces-put_all line es
-    (subst IsInPostingOrder (sym (put_all-entries journal item line es posted new)) (IsInPostingOrder-posting_line (journal ++ item ∷ [])))
-
--- where there is always enough with them, there is with the record
-pub entries-enough : (journal : List Record) (item : Record) (line es : List Entry) → line ≡ posting_line journal → es ≡ entries journal item → fault journal item ≡ None → IsEnough (put_all line es)
-entries-enough journal item line es posted new none =
-    subst IsEnough (sym (put_all-entries journal item line es posted new)) (IsEnough-from_none (posting_line (journal ++ item ∷ [])) (NoFault-from journal item none).enough)
 
 -- whether what a report needs is covered, is accepted, or isn't
 abbrev need_by : RecordNo → List Deed → Need

@@ -17,10 +17,12 @@ ghost use Rattle.repost_fetch.specs.Fetched.{IsFetchedOf};
 ghost use Rattle.kept_tables.specs.Kept.{IsKept};
 ghost use Rattle.generation_book.specs.State.{first_book};
 ghost use Rattle.generation_book.specs.ClosedRows.{HasClosedRows};
+ghost use Rattle.generation_book.specs.Effects.{gone_with};
 ghost use Rattle.generation_book.specs.Handed.{IsHanded, AreHanded};
 ghost use Rattle.generation_book.specs.Refusals.{refusal_of, IsRefusalOf, IsAfterRefusal, HasTried, HasTriedFor, HasAsked, HasAskedFor};
 
 use crate::covered_heads::covered_heads;
+use crate::effect::Effect;
 use crate::events::Event;
 use crate::merging::merged;
 use crate::selecting::count_until;
@@ -41,7 +43,7 @@ use stock_model::movements;
 use stock_model::queries::{Need, Query, SelectFault, Selected};
 use stock_model::records::Record;
 use stock_model::shortages::Shortage;
-use stock_nums::entry::{Entry, Row};
+use stock_nums::entry::Row;
 use stock_nums::head::Head;
 use stock_nums::limits::{MAX_ENTRIES, MAX_RECORDS};
 use stock_nums::lines::Lines;
@@ -172,8 +174,8 @@ impl<K: Keeper> Book<K> {
         // What is closed stays: the replay of all records has just the rows up to a closed moment that it had.
         ensures closed { OnOk result (HasClosedRows self.old.history self.new.history) }
     {
-        let entries = match self.new_entries(alloc, &item) {
-            Ok(entries) => entries,
+        let effect = match self.effect_of(alloc, &item) {
+            Ok(effect) => effect,
             Err(fault) => return Err(fault),
         };
         let Ok(text) = handed_text(alloc, &self.keeper, &item) else {
@@ -182,7 +184,7 @@ impl<K: Keeper> Book<K> {
         if self.events.reserve(1).is_err() {
             return Err(PostFault::NoMemory);
         }
-        if self.movements.reserve(entries.len()).is_err() {
+        if self.movements.reserve(effect.adds.len()).is_err() {
             return Err(PostFault::NoMemory);
         }
         let tried = self.tried.with_kept(&item);
@@ -197,25 +199,28 @@ impl<K: Keeper> Book<K> {
         }
         self.tried = Tried::new();
         self.events.push_reserved(Event::Kept);
-        self.movements.add(entries.as_slice());
+        self.movements
+            .change(effect.adds.as_slice(), effect.gone.as_slice());
         Ok(number)
     }
 
-    /// The movements of a record that has no fault, or its first fault.
-    fn new_entries(&self, alloc: Global, item: &Record) -> Result<Lines<Entry>, PostFault>
+    /// What a record that has no fault does to the movements, or its first fault.
+    fn effect_of(&self, alloc: Global, item: &Record) -> Result<Effect, PostFault>
         ensures sound { OnOk result (fault (history.records self.now.history) item.now ≡ None) }
-        ensures entries { IfOk result (λ es. es ≡ entries (history.records self.now.history) item.now) }
+        ensures adds { IfOk result (λ effect. effect.adds ≡ entries (history.records self.now.history) item.now) }
+        ensures gone { IfOk result (λ effect. effect.gone ≡ gone_with (history.records self.now.history) item.now) }
         ensures fault { IfErr result (λ f. (f ≡ PostFault.NoMemory) × (fault_but_short (history.records self.now.history) item.now ≡ None)
             ⊎ (fault (history.records self.now.history) item.now ≡ Some f)) }
     {
         if let Some(fault) = self.fault_but_short(item) {
             return Err(fault);
         }
-        let Ok(entries) = self.journal.next_entries(alloc, item) else {
+        let Ok(effect) = Effect::of(alloc, &self.journal, item) else {
             return Err(PostFault::NoMemory);
         };
-        match self.movements.try_entries(entries.as_slice()) {
-            Ok(()) => Ok(entries),
+        let (adds, gone) = (effect.adds.as_slice(), effect.gone.as_slice());
+        match self.movements.try_change(adds, gone) {
+            Ok(()) => Ok(effect),
             Err(shortage) => Err(fault_of(&shortage)),
         }
     }
