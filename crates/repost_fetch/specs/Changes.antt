@@ -29,9 +29,9 @@ gone_spots n journal = map spot_of_entry (filter (is_gone (goes_since n journal)
 
 -- of the journal's replay these rows are those at some places, in posting order, and all its other rows are those of the replay
 -- of the first n records at other places, but for those that go. These are the spots of those that go, each once
-pub record AreChanges (journal : List Record) (n : ℕ) (changed : List Row) (gone : List Spot) : Type 0 where
+pub record AreChanges (journal : List Record) (n : ℕ) (changed : List Row) (spots : List Spot) : Type 0 where
   pub valued : ValuedSince
   pub rows : changed ≡ filter (is_valued valued) (replay journal)
   pub others : filter (is_as_published valued) (replay journal)
       ≡ filter (is_as_published valued) (filter (is_row_left (goes_since n journal)) (replay (take n journal)))
-  pub gone : IsPermutation gone (gone_spots n journal)
+  pub gone : IsPermutation spots (gone_spots n journal)

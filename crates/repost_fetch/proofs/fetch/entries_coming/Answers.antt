@@ -12,8 +12,8 @@ pub loop-index-preserved : goal.loop-index-preserved
 loop-index-preserved c =
     let journal = c.args.journal.now in
     let n = c.loop-index.index in
-    let within : n < length journal = omega (arith, c.loop-index-test.true, c.count-upto.ensures.count) in
-    let all : take c.count-upto.result journal ≡ journal = take_all c.count-upto.result journal (omega (arith, c.count-upto.ensures.count)) in
+    let within : n < length journal = omega (arith, c.loop-index-test.true, c.count.ensures.count) in
+    let all : take c.count.result journal ≡ journal = take_all c.count.result journal (omega (arith, c.count.ensures.count)) in
     let live : (b : Bool) → c.is_in_force.result ≡ b → is_live journal (n + 1) ≡ b =
     λ b is. ap (λ (j : List Record). is_live j (n + 1)) (sym all) ∙ sym c.is_in_force.ensures ∙ is in
     elim c.if-is_in_force.branch [
@@ -34,7 +34,7 @@ returns c =
     let i = c.loop-index.index in
     let after = c.args.after.0 in
     let live = is_live_entry journal in
-    let last : length journal ≤ i = omega (arith, c.loop-index-test.false, c.count-upto.ensures.count) in
+    let last : length journal ≤ i = omega (arith, c.loop-index-test.false, c.count.ensures.count) in
     let none : drop i journal ≡ [] = drop_all i journal last in
     let read : c.loop-index.entries ≡ filter live (entries_after (take after journal) (drop after journal)) =
     sym (ap (λ (rest : List Record). c.loop-index.entries ++ filter live (entries_after (take i journal) rest)) none
