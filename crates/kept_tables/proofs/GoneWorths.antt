@@ -28,13 +28,13 @@ use Rattle.kept_tables.proofs.OwnSpots.{in-line_of, live-line}
 use Rattle.kept_tables.proofs.RowWorths.{row_spot, IsElsewhere, HasOtherSpot, HasAt, fold-elsewhere, fold-held, held_or_elsewhere}
 use Rattle.kept_tables.proofs.WorthsAt.{test-refl, worth_at-cons, worth_at-other}
 
+either : (b : Bool) (o : Option Worth) → o ≡ cond b o o
+either true o = refl
+either false o = refl
+
 -- none stands at a spot that goes, and at others what stood there
 pub worth_at-without : (spots : List Spot) (ws : List SpotWorth) (s : Spot) → worth_at (without spots ws) s ≡ cond (is_among spots s) None (worth_at ws s)
-worth_at-without spots [] s = nothing (is_among spots s)
-  where
-    nothing : (b : Bool) → None ≡ cond b None None
-    nothing true = refl
-    nothing false = refl
+worth_at-without spots [] s = either (is_among spots s) None
 worth_at-without spots (w ∷ ws) s = by_cases (is_among spots w.spot) refl (worth_at-without spots ws s)
   where
     among-same : (b : Bool) → is_among spots w.spot ≡ b → is_same_spot w.spot s ≡ true → is_among spots s ≡ b
