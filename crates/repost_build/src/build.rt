@@ -12,6 +12,7 @@ ghost use Rattle.repost_fetch.specs.Fetched.{IsFetchedOf};
 ghost use Rattle.repost_laws.specs.Builds.{IsClean};
 ghost use Rattle.repost_laws.specs.Changes.{goes_with, both_lines, is_recharged};
 ghost use Rattle.repost_laws.specs.Touched.{is_old, is_touched_by};
+ghost use Rattle.repost_laws.specs.WholeBuilds.{made};
 ghost use Rattle.repost_build.specs.Builds.{IsOf, IsTurned};
 ghost use Rattle.repost_build.specs.Rows.{slot_row, valued_rows};
 ghost use Rattle.repost_build.specs.Readings.{found_in, suspects_in, valued_in, base_of, target_of, fetches_of, turns_of, gone_of, IsUnchanged};
@@ -83,12 +84,12 @@ impl Build {
     }
 
     /// How many fetches and valuations it made since the last publication: no more than one for each fetch, and for each fetch
-    /// one for each movement.
+    /// one for each movement that its records ever made.
     pub fn turns(&self) -> u64
         ghost journal: { List Record }
         requires of { IsOf journal self.now }
         ensures turns { result ≡ turns_of self.now }
-        ensures few { turns_of self.now ≤ fetches_of self.now * (length (posting_line journal) + 1) }
+        ensures few { turns_of self.now ≤ fetches_of self.now * (made journal + 1) }
     {
         self.turns
     }
