@@ -27,18 +27,18 @@ publish-requires-clause-within g c t tells =
     let kept = subst (λ (h : List Deed). IsKept (g.K.Keeper.tells c.self.inside.keeper) (g.K.Keeper.may_leave c.self.inside.keeper) h c.self.inside.tried.events) told c.self.invariant.1 in
     subst (λ (ts : Tables). CoversRecords ts c.args.n) (sym (kept.told t tells)) (CoversRecords-accepted c.args.self.now.history c.args.n c.requires.within)
 
-pub renewed_rows-renewed-requires-clause-within : goal.renewed_rows-renewed-requires-clause-within
-renewed_rows-renewed-requires-clause-within g c =
+pub renewed_rows-requires-clause-within : goal.renewed_rows-requires-clause-within
+renewed_rows-requires-clause-within g c =
     let told : deeds c.self.inside.events.items c.self.inside.journal ≡ c.args.self.now.history = ap (λ (b : BookState). b.history) c.self.view_is in
     omega (arith, history-accepted _ _ _ _ _ c.args.self.now.history c.self.invariant.0 told, c.requires.within)
 
-pub renewed_rows-renewed-requires-clause-numbered : goal.renewed_rows-renewed-requires-clause-numbered
-renewed_rows-renewed-requires-clause-numbered g c row held =
+pub renewed_rows-requires-clause-numbered : goal.renewed_rows-requires-clause-numbered
+renewed_rows-requires-clause-numbered g c row held =
     rows-numbered (take c.self.inside.covered.0 c.self.inside.journal) row
     (subst (λ (rows : List Row). Contains rows row) (c.as_slice-old.ensures ∙ c.self.invariant.0.valued) held)
 
-pub renewed_rows-renewed-requires-clause-none : goal.renewed_rows-renewed-requires-clause-none
-renewed_rows-renewed-requires-clause-none g c nothing =
+pub renewed_rows-requires-clause-none : goal.renewed_rows-requires-clause-none
+renewed_rows-requires-clause-none g c nothing =
     let told : deeds c.self.inside.events.items c.self.inside.journal ≡ c.args.self.now.history = ap (λ (b : BookState). b.history) c.self.view_is in
     let held = history-records _ _ _ _ _ c.args.self.now.history c.self.invariant.0 told in
     let covers = history-covered _ _ _ _ _ c.args.self.now.history c.self.invariant.0 told in
