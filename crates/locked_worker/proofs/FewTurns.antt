@@ -180,8 +180,13 @@ counted-turns (r ∷ results) old build new build' most within run none few =
     let later = some-turns results mid then new build' one.within run.1.3 others in
     let rest = counted-turns results mid then new build' most one.within run.1.3 others few in
     let ahead : movements_ahead mid then ≤ most =
-    omega (arith, ahead-within (suspects_in then) (posting_line (records_of (without_makers mid.seen) then)),
-      length-line-made (records_of (without_makers mid.seen) then), later.movements, few) in
+    omega (
+      arith,
+      ahead-within (suspects_in then) (posting_line (records_of (without_makers mid.seen) then)),
+      length-line-made (records_of (without_makers mid.seen) then),
+      later.movements,
+      few,
+    ) in
     omega (
       arith,
       sum_by-cons turns_with r results,
@@ -211,8 +216,12 @@ module _ (old new : View Deed) (build build' : Build) (n : RecordNo) (results : 
       let later = some-turns results mid then new build' one-fetch.within run.1.3 none in
       let rest = counted-turns results mid then new build' most one-fetch.within run.1.3 none (omega arith) in
       let ahead : movements_ahead mid then ≤ most =
-      omega (arith, ahead-within (suspects_in then) (posting_line (records_of (without_makers mid.seen) then)),
-      length-line-made (records_of (without_makers mid.seen) then), later.movements) in
+      omega (
+        arith,
+        ahead-within (suspects_in then) (posting_line (records_of (without_makers mid.seen) then)),
+        length-line-made (records_of (without_makers mid.seen) then),
+        later.movements,
+      ) in
       let one : 1 * (most + 1) ≤ fetches_of then * (most + 1) =
       omega (arith, ap (λ (k : ℕ). k * (most + 1)) run.1.2.turn.4.fetches, ap (λ (k : ℕ). (k + 1) * (most + 1)) first) in
       let four = mul-le-mul_left (most + 1) later.within.fetches in

@@ -22,13 +22,18 @@ module _ (n : ℕ) (line : List Entry) (in_order : IsInPostingOrder line) where
           | inr more ↦ elim more [
             | inl starts ↦ inr (inr (inl (starts.0, starts.1, sym (alike starts.1 starts.3) ∙ starts.2, starts.3, starts.4)))
             | inr others ↦ elim others [
-              | inl leaves ↦ inr (inr (inr (inl (leaves.0, leaves.1, leaves.2, record {
-                held = leaves.3.held;
-                new = sym (alike leaves.2 leaves.3.held) ∙ leaves.3.new;
-                of_key = leaves.3.of_key;
-                before = leaves.3.before;
-                none_between = λ h there changed. leaves.3.none_between h there (alike h there ∙ changed);
-              }))))
+              | inl leaves ↦ inr (inr (inr (inl (
+                leaves.0,
+                leaves.1,
+                leaves.2,
+                record {
+                  held = leaves.3.held;
+                  new = sym (alike leaves.2 leaves.3.held) ∙ leaves.3.new;
+                  of_key = leaves.3.of_key;
+                  before = leaves.3.before;
+                  none_between = λ h there changed. leaves.3.none_between h there (alike h there ∙ changed);
+                },
+              ))))
               | inr returns ↦ inr (inr (inr (inr (record {
                 target = returns.target;
                 returns = returns.returns;

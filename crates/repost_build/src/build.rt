@@ -135,7 +135,8 @@ impl Build {
         let uncharged = fetched.uncharged.as_slice();
         let spots = with_gone(alloc, &self.gone, self.base, gone)?;
         self.movements.add(alloc, coming, charges)?;
-        self.movements.touch(self.target, coming, gone, charges, uncharged);
+        self.movements
+            .touch(self.target, coming, gone, charges, uncharged);
         self.movements.remove(gone, uncharged);
         self.gone = spots;
         self.target = fetched.upto;
