@@ -65,12 +65,7 @@ fn rows_left(
 // The old rows with the changed ones among them, in posting order where both are. A changed row stands in place of the old
 // row at its place. It goes over the rows once. Room is made for no more than `most` rows at first. The only error is want of
 // memory.
-fn merged(
-    alloc: Global,
-    old: &[Row],
-    changed: &[Row],
-    most: usize,
-) -> Result<Lines<Row>, NoMemory>
+fn merged(alloc: Global, old: &[Row], changed: &[Row], most: usize) -> Result<Lines<Row>, NoMemory>
     ensures { IfOk result (λ rows. rows ≡ merged old.now changed.now) }
 {
     let mut rows = Vec::with_capacity(alloc, most.min(old.len() + changed.len()))?;
