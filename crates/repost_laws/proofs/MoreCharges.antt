@@ -15,7 +15,7 @@ use Rattle.stock_model.specs.VoucherLines.{landed_target, charged_targets}
 use Rattle.stock_model.specs.declared.records.Record.{Record}
 use Rattle.stock_model.specs.declared.vouchers.Basis.{Basis}
 use Rattle.stock_model.specs.declared.vouchers.What.{What}
-use Rattle.stock_model.specs.declared.vouchers.What.TheVariants.{Item, Store, Receipt, Issue, Transfer, CustomerReturn, SupplierReturn, Landed, Freeze}
+use Rattle.stock_model.specs.declared.vouchers.What.TheVariants.{Item, Store, Receipt, Issue, Transfer, CustomerReturn, SupplierReturn, Landed, Freeze, Cancel}
 use Rattle.stock_model.proofs.Growth.{all_charged-all}
 use Rattle.stock_model.proofs.NoFaults.{NoFaults, NoFaults-from}
 use Rattle.stock_model.proofs.Numbered.{Fails, first_line-none}
@@ -37,7 +37,7 @@ weights-longer : (journal more : List Record) (basis : Basis) (targets : List Ta
     ≡ weights journal basis targets
 weights-longer journal more basis [] known = refl
 weights-longer journal more basis (target ∷ targets) known =
-    let found = some-from (target_line journal (landed_target target)) known.0 in
+    let found = some-from (target_line journal (landed_target target)) (held-target journal (landed_target target) known.0) in
     let own : weight (journal ++ more) basis target ≡ weight journal basis target = ap
     (λ o. option_map_or (line_weight basis) o 0) (target_line-append journal more (landed_target target) found.0 found.1
     ∙ sym found.1) in
@@ -59,6 +59,7 @@ charged-longer journal more (Landed charge basis targets) sound =
     (weights-longer journal more basis targets (first_line-none (lacks_target journal) 1
     (map landed_target targets) sound.known))
 charged-longer journal more (Freeze until) sound = refl
+charged-longer journal more (Cancel cancelled) sound = refl
 
 -- what the records of a sound journal charge, whatever records follow
 charges-longer : (done rest more : List Record) → AreSoundAfter done rest
@@ -99,6 +100,7 @@ charged-none journal (SupplierReturn at lines) line none = refl
 charged-none journal (Landed charge basis targets) line none = zip-none line targets
     (shares (unsigned_abs charge.0) (weights journal basis targets)) none
 charged-none journal (Freeze until) line none = refl
+charged-none journal (Cancel cancelled) line none = refl
 
 charges-none : (journal more : List Record) (line : Target) → is_charged_by more line ≡ false
     → charged_to line (flat_map (record_charged journal) more) ≡ 0
@@ -151,6 +153,7 @@ charged-named journal (Landed charge basis targets) line =
     any-zip line targets (shares (unsigned_abs charge.0) ws)
     (length-shares (unsigned_abs charge.0) 0 (sum ws) ws ∙ length-weights journal basis targets)
 charged-named journal (Freeze until) line = refl
+charged-named journal (Cancel cancelled) line = refl
 
 charges-named : (journal more : List Record) (line : Target)
     → is_charged_by more line ≡ is_charged_in (flat_map (record_charged journal) more) line
