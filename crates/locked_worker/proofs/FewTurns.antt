@@ -20,7 +20,7 @@ use Rattle.session_laws.proofs.MakersOf.{without_makers-with_makers}
 use Rattle.repost_frontier.specs.Readings.{suspects_of}
 use Rattle.repost_frontier.specs.declared.slot.Slot.{Slot}
 use Rattle.repost_laws.specs.WholeBuilds.{made}
-use Rattle.repost_laws.proofs.NothingGone.{length-line-made}
+use Rattle.repost_laws.proofs.MadeEntries.{length-line-made}
 use Rattle.repost_build.specs.Readings.{suspects_in, target_of, fetches_of, IsUnchanged}
 use Rattle.repost_build.specs.declared.build.Build.{Build}
 use Rattle.locked_worker.specs.GatedRuns.{IsTurnWith, AreTurnsWith, turns_with, valuations_with, PublishesNothing, StaysWithBuild, movements_in, movements_ahead}

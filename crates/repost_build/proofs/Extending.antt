@@ -29,7 +29,6 @@ use Rattle.repost_laws.specs.WholeBuilds.{IsBuildOf, IsWorthInRange}
 use Rattle.repost_laws.proofs.ChangedJournals.{both-left}
 use Rattle.repost_laws.proofs.Filtered.{Contains-filtered}
 use Rattle.repost_laws.proofs.MoreCharges.{charges-fit}
-use Rattle.repost_laws.proofs.NothingGone.{HasLiveTargets-all}
 use Rattle.repost_laws.proofs.WholeSteps.{IsBuildOf-change}
 use Rattle.repost_spread.specs.Adding.{put_all_new}
 use Rattle.repost_spread.specs.Marks.{AreMarked}
@@ -224,7 +223,7 @@ module _ (journal more : List Record) (old : Build) (comes gone : List Entry) (c
             IsBuildOf-alike (journal ++ more) (base_of old) (found_in old) (found_in made) (suspects_in made) (valued_in old)
             (valued_in made) (fetches_of old + 1) (turns_of old + 1)
             (IsBuildOf-change journal more (base_of old) (found_in old) (suspects_in old) (suspects_in made) (valued_in old) (fetches_of old)
-            (turns_of old) of.built legal (HasLiveTargets-all (journal ++ more))
+            (turns_of old) of.built legal
             (λ e held. touched-is e held
             ∙ ap (λ (m : ℕ). suspects_in old e.place || is_touched_by m goes (is_recharged journal more) both e) of.target))
             found-is in-range valued-is

@@ -29,12 +29,3 @@ recharges n live new_live line (k, item) = (nat_lt n k || (live k && not (new_li
 abbrev pub is_recharged : List Record → List Record → Target → Bool
 is_recharged journal more line =
     list_any (recharges (length journal) (is_live journal) (is_live (journal ++ more)) line) (enumerate_from 1 (journal ++ more))
-
--- where the cause is a customer's return, it is of a line of a record in force
-abbrev pub IsOfLiveLine : List Record → Cause → Type 0
-IsOfLiveLine journal (CustomerReturn target issued) = is_live journal target.voucher.0 ≡ true
-IsOfLiveLine journal _ = Unit {0}
-
--- so are all that customers return
-abbrev pub HasLiveTargets : List Record → Type 0
-HasLiveTargets journal = (e : Entry) → Contains (posting_line journal) e → IsOfLiveLine journal e.cause

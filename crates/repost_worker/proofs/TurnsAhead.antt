@@ -19,7 +19,7 @@ use Rattle.stock_model.proofs.Pairwise.{Pairwise, Pairwise-from_AllPairs, Preced
 use Rattle.stock_laws.proofs.PostingLine.{IsInPostingOrder-posting_line}
 use Rattle.repost_laws.specs.Builds.{Suspects, IsClean, AreAhead}
 use Rattle.repost_laws.specs.WholeBuilds.{made}
-use Rattle.repost_laws.proofs.NothingGone.{length-line-made, made-grows}
+use Rattle.repost_laws.proofs.MadeEntries.{length-line-made, made-grows}
 use Rattle.repost_laws.proofs.TurnCounts.{AreAhead-turn}
 use Rattle.repost_build.specs.Builds.{IsTurned}
 use Rattle.repost_build.specs.Readings.{found_in, suspects_in, target_of, fetches_of}
