@@ -1,5 +1,5 @@
 -- Further records of a journal are a change: some movements come, and some go.
-use Rattle.std.proofs.Common.{◌≡◌, ℕ, ◌+◌, ◌<◌, ◌≤◌, Bool, true, false, cond, ◌||◌, not, nat_lt, List, [], ◌∷◌, ◌++◌, length, filter, refl, sym, ap, ◌∙◌, arith, Contains}
+use Rattle.std.proofs.Common.{◌≡◌, ℕ, ◌<◌, Bool, true, false, cond, ◌||◌, not, List, [], ◌∷◌, ◌++◌, length, filter, refl, sym, ap, ◌∙◌, arith, Contains}
 use Rattle.std.proofs.lemmas.Bool.Decides.{nat_tests}
 use Rattle.std.proofs.lemmas.List.Elements.{filter_agree}
 use Rattle.stock_nums.specs.declared.cause.Cause.{Cause}
@@ -11,7 +11,7 @@ use Rattle.stock_model.specs.Journals.{AreLegal, AreSound}
 use Rattle.stock_model.specs.LandedCost.{added}
 use Rattle.stock_model.specs.PostingOrder.{put_all, posting_line}
 use Rattle.stock_model.specs.declared.records.Record.{Record}
-use Rattle.stock_model.proofs.Pairwise.{Each, Pairwise, Across, Across-from_Each, Pairwise-from_AllPairs}
+use Rattle.stock_model.proofs.Pairwise.{Each, Across, Across-from_Each, Pairwise-from_AllPairs}
 use Rattle.stock_laws.proofs.Distinct.{Differ, entries_after-Pairwise}
 use Rattle.stock_laws.proofs.Formulas.{put_all-Each}
 use Rattle.stock_laws.proofs.Legality.{AreSound-from}
@@ -21,7 +21,7 @@ use Rattle.stock_laws.proofs.LiveLines.{filter-put_all, posting_line-longer}
 use Rattle.stock_laws.proofs.PostingLine.{IsInPostingOrder-posting_line}
 use Rattle.repost_laws.specs.Builds.{Suspects, IsOfOldLine, IsOfKeptLine, IsChange}
 use Rattle.repost_laws.specs.Changes.{goes_with, coming, both_lines, is_recharged}
-use Rattle.repost_laws.specs.Touched.{is_new, is_old, is_left, is_touched_by}
+use Rattle.repost_laws.specs.Touched.{is_old, is_left, is_touched_by}
 use Rattle.repost_laws.specs.Valuations.{Found}
 use Rattle.repost_laws.proofs.ChangedCharges.{added-change}
 use Rattle.repost_laws.proofs.JournalFronts.{AreSoundAfter-first}

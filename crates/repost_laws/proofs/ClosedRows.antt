@@ -275,6 +275,7 @@ module _ (journal : List Record) (item : Record) (last at : Moment) (line : Targ
       and-true : (b : Bool) → (b && true) ≡ b
       and-true true = refl
       and-true false = refl
+
       old-test : (n m : ℕ) → m ≤ n → nat_lt n m ≡ false
       old-test n m few = grind (arith, nat_tests)
 

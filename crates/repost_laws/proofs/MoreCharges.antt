@@ -2,14 +2,13 @@
 use Rattle.std.proofs.Common.{◌≡◌, ℕ, ◌+◌, ◌*◌, ◌≤◌, Bool, false, cond, List, [], ◌∷◌, ◌++◌, ◌<◌, ◌^◌, ◌||◌, length, map, sum, unsigned_abs, refl, sym, ap, ◌∙◌, arith, length-append}
 use Rattle.std.specs.List.{flat_map, zip, list_any}
 use Rattle.std.specs.Option.{option_map_or}
-use Rattle.std.proofs.lemmas.Grind.{flat_map-append}
 use Rattle.std.proofs.lemmas.List.Folds.{list_any-append}
 use Rattle.stock_nums.specs.Shares.{shares}
 use Rattle.stock_nums.specs.Targets.{is_same_target}
 use Rattle.stock_nums.specs.declared.cause.Target.{Target}
 use Rattle.stock_nums.specs.declared.limits.TheConstants.{MAX_AMOUNT}
 use Rattle.stock_model.specs.Faults.{lacks_target}
-use Rattle.stock_model.specs.Journals.{AreLegal, AreSoundAfter, AreSound}
+use Rattle.stock_model.specs.Journals.{AreLegal}
 use Rattle.stock_model.specs.LandedCost.{line_weight, weight, weights, charged, record_charged, is_charge_of, added}
 use Rattle.stock_model.specs.TargetLines.{target_line}
 use Rattle.stock_model.specs.VoucherLines.{landed_target, charged_targets}
@@ -21,15 +20,14 @@ use Rattle.stock_model.proofs.NoFaults.{NoFaults, held-target}
 use Rattle.stock_model.proofs.Numbered.{Fails, first_line-none}
 use Rattle.stock_model.proofs.Pairwise.{Each}
 use Rattle.stock_model.proofs.TargetItems.{some-from}
-use Rattle.stock_laws.proofs.Legality.{AreSound-from, IsHeld-legal}
+use Rattle.stock_laws.proofs.Legality.{IsHeld-legal}
 use Rattle.stock_laws.proofs.RecordsAt.{target_line-append}
 use Rattle.cost_links.specs.Charged.{charged_to}
 use Rattle.cost_links.proofs.ChargeSums.{charged_to-cons, charged_to-append, charged-le, length-shares, length-weights}
 use Rattle.cost_links.proofs.LinkSteps.{added-le}
 use Rattle.repost_laws.specs.Fetches.{charges_after, is_charged_in}
-use Rattle.repost_laws.specs.Touched.{is_the_line, charges_to, is_charged_by}
+use Rattle.repost_laws.specs.Touched.{is_the_line, is_charged_by}
 use Rattle.repost_laws.proofs.Filtered.{or_false}
-use Rattle.repost_laws.proofs.JournalFronts.{AreSoundAfter-first}
 
 -- the weights of lines that a journal has are the same in a longer one
 weights-longer : (journal more : List Record) (basis : Basis) (targets : List Target)

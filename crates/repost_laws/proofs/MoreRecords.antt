@@ -1,31 +1,21 @@
 -- The movements of a journal: which are of old records, and that the posting line has them.
-use Rattle.std.proofs.Common.{◌≡◌, ℕ, ◌+◌, ◌<◌, ◌≤◌, true, ◌||◌, List, [], ◌∷◌, ◌++◌, length, filter, inl, inr, sym, ap, ◌∙◌, subst, arith, Contains, ◌⊎◌}
+use Rattle.std.proofs.Common.{◌≡◌, ℕ, ◌≤◌, true, List, [], ◌∷◌, ◌++◌, length, inl, inr, subst, arith, Contains, ◌⊎◌}
 use Rattle.std.proofs.lemmas.Bool.Decides.{nat_tests}
-use Rattle.std.proofs.lemmas.List.Kept.{AllPairs-filter}
 use Rattle.std.proofs.lemmas.List.Sorted.{IsPermutation-sym, Contains-permutation}
 use Rattle.stock_nums.specs.declared.cause.Cause.{Cause}
 use Rattle.stock_nums.specs.declared.cause.Cause.TheVariants.{Receipt, Issue, TransferLeaves, TransferEnters, CustomerReturn, SupplierReturn}
 use Rattle.stock_nums.specs.declared.entry.Entry.{Entry}
-use Rattle.stock_model.specs.Entries.{entries_after, all_entries}
-use Rattle.stock_model.specs.InOrder.{IsBefore}
-use Rattle.stock_model.specs.Journals.{AreLegal, AreSound}
-use Rattle.stock_model.specs.LandedCost.{added}
+use Rattle.stock_model.specs.Entries.{all_entries}
+use Rattle.stock_model.specs.Journals.{AreSound}
 use Rattle.stock_model.specs.PostingOrder.{posting_line}
 use Rattle.stock_model.specs.declared.records.Record.{Record}
-use Rattle.stock_model.proofs.Growth.{all_entries-after, entries_after-append}
-use Rattle.stock_model.proofs.Pairwise.{Each, Each-weaker, Pairwise-from_AllPairs, Pairwise-unique, Contains-cases, Contains-first, Contains-later}
+use Rattle.stock_model.proofs.Pairwise.{Contains-cases, Contains-first, Contains-later}
 use Rattle.stock_laws.proofs.EntryRecords.{KnowsTarget, IsOfRecord}
 use Rattle.stock_laws.proofs.KnownEntries.{entries-known}
-use Rattle.stock_laws.proofs.Legality.{AreSound-from}
-use Rattle.stock_laws.proofs.LiveEntries.{IsBetween, entries_after-between}
-use Rattle.stock_laws.proofs.PostingLine.{IsInPostingOrder-posting_line, IsPermutation-posting_line}
+use Rattle.stock_laws.proofs.PostingLine.{IsPermutation-posting_line}
 use Rattle.stock_laws.proofs.RecordsAt.{what_at-within}
-use Rattle.repost_laws.specs.Builds.{Suspects, IsOfOldLine, IsFetch}
-use Rattle.repost_laws.specs.Touched.{is_old, is_touched, is_charged_by}
-use Rattle.repost_laws.proofs.EarlierOnes.{never_both, never_itself}
-use Rattle.repost_laws.proofs.Filtered.{Contains-filtered, Contains-filter}
-use Rattle.repost_laws.proofs.JournalFronts.{AreSoundAfter-first}
-use Rattle.repost_laws.proofs.MoreCharges.{added-more}
+use Rattle.repost_laws.specs.Builds.{IsOfOldLine}
+use Rattle.repost_laws.specs.Touched.{is_old}
 use Rattle.repost_laws.proofs.Spreading.{Each-Contains}
 
 -- an element of two lists

@@ -1,5 +1,5 @@
 -- What a build keeps is kept by each of its steps.
-use Rattle.std.proofs.Common.{◌≡◌, ℕ, pos, ◌+◌, ◌*◌, ◌≤◌, ◌≤ℤ◌, ℤ, Bool, true, false, cond, ◌&&◌, ◌||◌, List, [], ◌∷◌, ◌++◌, length, take, drop, filter, Some, None, inl, inr, refl, sym, ap, ◌∙◌, subst, arith, int_le, length-take, length-append, Contains}
+use Rattle.std.proofs.Common.{◌≡◌, ℕ, pos, ◌+◌, ◌≤◌, ◌≤ℤ◌, ℤ, true, ◌&&◌, ◌||◌, List, [], ◌++◌, length, take, drop, filter, Some, None, inl, inr, refl, sym, ap, ◌∙◌, subst, arith, int_le, length-take, length-append, Contains}
 use Rattle.std.proofs.lemmas.Bool.Decides.{nat_tests}
 use Rattle.std.proofs.lemmas.Int.{ints}
 use Rattle.std.proofs.lemmas.List.{take-append-le, take-append-drop, take_all}
@@ -18,7 +18,7 @@ use Rattle.stock_laws.proofs.Legality.{AreLegal-take}
 use Rattle.stock_laws.proofs.PostingLine.{IsInPostingOrder-posting_line}
 use Rattle.repost_laws.specs.Builds.{Suspects, IsBuilt, IsClean, IsTurn, ValuedSince, IsValuedAt, IsSince, is_as_published, is_row_left}
 use Rattle.repost_laws.specs.Changes.{goes_with, both_lines, is_recharged}
-use Rattle.repost_laws.specs.Touched.{is_touched, is_touched_by, is_charged_by}
+use Rattle.repost_laws.specs.Touched.{is_touched_by}
 use Rattle.repost_laws.specs.Valuations.{Valued, Found, nothing_found, worth_of, no_worth, valuation, found_rows}
 use Rattle.repost_laws.specs.WholeBuilds.{made, worth_at, IsWorthInRange, IsBuildOf, none_suspect, none_valued}
 use Rattle.repost_laws.proofs.FirstSuspect.{first-can}

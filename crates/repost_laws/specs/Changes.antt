@@ -1,8 +1,6 @@
 -- What further records do to a journal: which movements come and which go, and which lines have another sum of charges.
-use Rattle.std.specs.Prelude.{ℕ, ◌≡◌, Bool, true, ◌&&◌, ◌||◌, not, List, ◌++◌, length, filter, nat_lt, Contains}
+use Rattle.std.specs.Prelude.{ℕ, Bool, ◌&&◌, ◌||◌, not, List, ◌++◌, length, filter, nat_lt}
 use Rattle.std.specs.List.{enumerate_from, list_any}
-use Rattle.stock_nums.specs.declared.cause.Cause.{Cause}
-use Rattle.stock_nums.specs.declared.cause.Cause.TheVariants.{CustomerReturn}
 use Rattle.stock_nums.specs.declared.cause.Target.{Target}
 use Rattle.stock_nums.specs.declared.entry.Entry.{Entry}
 use Rattle.stock_model.specs.Entries.{entries_after, is_live, is_live_entry}

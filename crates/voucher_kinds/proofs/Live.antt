@@ -50,20 +50,31 @@ noted-beyond : (live : List Bool) (k n : ℕ) → k < n → noted (take k live) 
 noted-beyond live k zero beyond = absurd (omega (arith, beyond))
 noted-beyond live k (suc i) beyond = get-beyond live k i (omega (arith, beyond))
 
+less-apart : (i : ℕ) → nat_eq zero (suc i) ≡ false
+less-apart i = grind (arith, nat_tests)
+
+more-apart : (k : ℕ) → nat_eq (suc k) zero ≡ false
+more-apart k = grind (arith, nat_tests)
+
+both-later : (k i : ℕ) → nat_eq (suc k) (suc i) ≡ nat_eq k i
+both-later k i = grind (arith, nat_tests)
+
 -- a note that is changed, and the others
 get-set : (live : List Bool) (k i : ℕ) (b : Bool) → k < length live → unwrap_or (slice_get (set live k b) i) true ≡ cond (nat_eq k i) b (unwrap_or (slice_get live i) true)
 get-set [] k i b within = absurd (omega (arith, within))
 get-set (x ∷ live) zero zero b within = refl
-get-set (x ∷ live) zero (suc i) b within = refl
-get-set (x ∷ live) (suc k) zero b within = refl
-get-set (x ∷ live) (suc k) (suc i) b within = get-set live k i b (omega (arith, within))
+get-set (x ∷ live) zero (suc i) b within = ap (λ (e : Bool). cond e b (unwrap_or (slice_get live i) true)) (sym (less-apart i))
+get-set (x ∷ live) (suc k) zero b within = ap (λ (e : Bool). cond e b x) (sym (more-apart k))
+get-set (x ∷ live) (suc k) (suc i) b within =
+    get-set live k i b (omega (arith, within)) ∙ ap (λ (e : Bool). cond e b (unwrap_or (slice_get live i) true)) (sym (both-later k i))
 
 noted-set : (live : List Bool) (c n : ℕ) (b : Bool) → 0 < c → c ≤ length live → noted (set live (c - 1) b) n ≡ cond (nat_eq c n) b (noted live n)
 noted-set live zero n b one within = absurd (omega (arith, one))
-noted-set live (suc k) zero b one within = refl
+noted-set live (suc k) zero b one within = ap (λ (e : Bool). cond e b true) (sym (more-apart k))
 noted-set live (suc k) (suc i) b one within =
     let before : suc k - 1 ≡ k = omega arith in
     ap (λ (j : ℕ). unwrap_or (slice_get (set live j b) i) true) before ∙ get-set live k i b (omega (arith, within))
+    ∙ ap (λ (e : Bool). cond e b (unwrap_or (slice_get live i) true)) (sym (both-later k i))
 
 pub length-noted_with : (live : List Bool) (what : What) (b : Bool) → length (noted_with live what b) ≡ length live
 length-noted_with live (Item code method) b = refl
@@ -79,8 +90,8 @@ length-noted_with live (Cancel cancelled) b = length-set live (cancelled.0 - 1) 
 
 -- what is said says of each number whether it is taken back
 and-not : (a b : Bool) → b ≡ false → (a && not b) ≡ a
-and-not true b no = ap not no
-and-not false b no = refl
+and-not true b fails = ap not fails
+and-not false b fails = refl
 
 -- a record of another kind leaves all as they are
 live-other : (journal : List Record) (item : Record) → ((n : ℕ) → takes_back n item ≡ false) → (n : ℕ) → is_live (journal ++ item ∷ []) n ≡ is_live journal n

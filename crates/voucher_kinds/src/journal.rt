@@ -248,9 +248,11 @@ fn enter(
     if heads::add_made(master, number, &item.what).is_err() {
         return Err(NoMemory);
     }
-    if records.push(item).is_err() {
-        heads::take_away(master, made);
-        return Err(NoMemory);
+    match records.push(item) {
+        Ok(()) => Ok(()),
+        Err(_) => {
+            heads::take_away(master, made);
+            Err(NoMemory)
+        }
     }
-    Ok(())
 }

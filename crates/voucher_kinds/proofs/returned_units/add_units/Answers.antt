@@ -12,7 +12,7 @@ add_units_at-requires-clause-fits c target =
     omega (arith, c.loop-index.invariant.0 target, units_named-drop lines i target within, c.requires.fits target)
 
 pub add_units_at-requires-clause-room : goal.add_units_at-requires-clause-room
-add_units_at-requires-clause-room c = room_at-kept _ _ (lines_of c.args.what.now) c.loop-index.index c.loop-index.invariant.1 (c.requires.room c.loop-index.index)
+add_units_at-requires-clause-room c = room_at-kept c.args.sums.now c.loop-index.sums (lines_of c.args.what.now) c.loop-index.index c.loop-index.invariant.1 (c.requires.room c.loop-index.index)
 
 pub loop-index-preserved : goal.loop-index-preserved
 loop-index-preserved c =
