@@ -145,11 +145,10 @@ fn other() -> [SpotWorth; 3]
     )
 }
 
-// Whether the changes of the rows are these, where one at a spot goes.
+// Whether the changes of the rows are these.
 fn are_changes(alloc: Global, rows: &[SpotWorth]) -> bool {
-    let gone = [ENTERS_FOUR];
-    match changes_of(alloc, &self::rows(), &gone) {
-        Ok(changes) => changes.rows.as_slice() == rows && changes.gone.as_slice() == &gone[..],
+    match changes_of(alloc, &self::rows()) {
+        Ok(changes) => changes.rows.as_slice() == rows && changes.gone.is_empty(),
         Err(NoMemory) => false,
     }
 }

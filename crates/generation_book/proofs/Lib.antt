@@ -1,5 +1,4 @@
 pub mod Books
-pub mod Effects
 pub mod Filters
 pub mod ChangedRows
 pub mod OwnFaults

@@ -2,4 +2,3 @@ pub mod Kept
 pub mod State
 pub mod OwnPlaces
 pub mod Stretches
-pub mod ChangedLines

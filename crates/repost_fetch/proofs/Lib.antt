@@ -1,3 +1,1 @@
 pub mod FetchSteps
-pub mod ChargeSteps
-pub mod TakenRecords

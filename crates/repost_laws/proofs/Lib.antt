@@ -12,6 +12,7 @@ pub mod MoreCharges
 pub mod ChangedCharges
 pub mod MoreRecords
 pub mod ChangedJournals
+pub mod MoreMovements
 pub mod ClosedRows
 pub mod SincePublished
 pub mod SinceChanges
@@ -23,5 +24,5 @@ pub mod LooksTouched
 pub mod LooksLeft
 pub mod LooksStarted
 pub mod InOrderFound
-pub mod MadeEntries
+pub mod NothingGone
 pub mod WholeSteps

@@ -1,7 +1,6 @@
 pub mod Bounds
 pub mod LineEntries
 pub mod LiveEntries
-pub mod GoneEntries
 pub mod Distinct
 pub mod PostingLine
 pub mod LiveLines
@@ -25,7 +24,6 @@ pub mod Legality
 pub mod RecordsAt
 pub mod EntryRecords
 pub mod KnownEntries
-pub mod LiveTargets
 pub mod LinkedJournals
 pub mod LegalReplay
 pub mod Conservation

@@ -3,7 +3,6 @@
 #![tactic(auto)]
 
 pub mod answers;
-pub mod cancelling;
 pub mod deeds;
 pub mod faults;
 pub mod freezing;
