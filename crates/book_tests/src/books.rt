@@ -29,14 +29,14 @@ fn post<K: Keeper>(
     }
 }
 
-// Publishes all accepted records, where some are not covered, with each row as one that changed.
+// Publishes all accepted records, where some are not covered, with each row as one that changed. As yet none goes.
 fn publish_all(alloc: Global, book: &mut Book<Nowhere>) -> Result<RecordNo, KeepFault> {
     let accepted = book.accepted();
     if book.covered().0 >= accepted.0 {
         return Ok(accepted);
     }
     let rows = book.replayed(alloc)?;
-    book.publish(alloc, accepted, rows.as_slice())?;
+    book.publish(alloc, accepted, rows.as_slice(), &[])?;
     Ok(accepted)
 }
 

@@ -145,10 +145,11 @@ fn other() -> [SpotWorth; 3]
     )
 }
 
-// Whether the changes of the rows are these.
+// Whether the changes of the rows are these, where one at a spot goes.
 fn are_changes(alloc: Global, rows: &[SpotWorth]) -> bool {
-    match changes_of(alloc, &self::rows()) {
-        Ok(changes) => changes.rows.as_slice() == rows && changes.gone.is_empty(),
+    let gone = [ENTERS_FOUR];
+    match changes_of(alloc, &self::rows(), &gone) {
+        Ok(changes) => changes.rows.as_slice() == rows && changes.gone.as_slice() == &gone[..],
         Err(NoMemory) => false,
     }
 }

@@ -18,7 +18,7 @@ use Rattle.stock_model.specs.Limits.{is_line_count, is_within_limits}
 use Rattle.stock_model.specs.declared.records.Record.{Record}
 use Rattle.stock_model.specs.declared.vouchers.Basis.{Basis}
 use Rattle.stock_model.specs.declared.vouchers.What.{What}
-use Rattle.stock_model.specs.declared.vouchers.What.TheVariants.{Item, Store, Receipt, Issue, Transfer, CustomerReturn, SupplierReturn, Landed, Freeze}
+use Rattle.stock_model.specs.declared.vouchers.What.TheVariants.{Item, Store, Receipt, Issue, Transfer, CustomerReturn, SupplierReturn, Landed, Freeze, Cancel}
 use Rattle.stock_laws.proofs.LandedSums.{weight-le}
 use Rattle.stock_laws.proofs.Received.{amount-le}
 use Rattle.landed_cost.specs.Charges.{minors}
@@ -75,6 +75,7 @@ charged-le journal (SupplierReturn at lines) line limits = omega arith
 charged-le journal (Landed charge basis targets) line limits =
     charged_to-shares-le line targets charge (weights journal basis targets) (first_true (is_line_amount charge.0) (is_line_count (length targets) && list_all is_target targets) limits)
 charged-le journal (Freeze until) line limits = omega arith
+charged-le journal (Cancel cancelled) line limits = omega arith
 
 -- what is found of shares as amounts
 pub amounts-minors : (ns : List ℕ) → map amount (minors ns) ≡ ns

@@ -1,18 +1,21 @@
 //! What the landed vouchers of a journal charge to lines of receipts (IAS 2.10 and 11).
-ghost use Rattle.std.specs.Prelude.{◌≡◌, ◌+◌, ◌^◌, ◌<◌, ◌≤◌, ◌++◌, length, drop, map, unsigned_abs, IsTrue, OnOk, IfOk};
+ghost use Rattle.std.specs.Prelude.{◌≡◌, ◌+◌, ◌^◌, ◌<◌, ◌≤◌, ◌++◌, List, [], length, drop, map, not, if◌then◌else◌, unsigned_abs, IsTrue, OnOk, IfOk};
 ghost use Rattle.std.specs.List.{flat_map, zip};
 ghost use Rattle.stock_nums.specs.LineSums.{number_of};
 ghost use Rattle.stock_nums.specs.Quantities.{is_line_amount};
 ghost use Rattle.stock_nums.specs.Shares.{shares};
 ghost use Rattle.stock_nums.specs.declared.cause.Target.{Target};
 ghost use Rattle.stock_nums.specs.declared.limits.TheConstants.{MAX_LINES};
-ghost use Rattle.stock_model.specs.LandedCost.{added, charged, record_charged, weights};
+ghost use Rattle.stock_model.specs.LandedCost.{added, all_charged, charged, record_charged, weights};
+ghost use Rattle.stock_model.specs.Entries.{is_live};
 ghost use Rattle.stock_model.specs.Limits.{is_within_limits};
+ghost use Rattle.stock_model.specs.declared.records.Record.{Record};
 ghost use Rattle.cost_links.specs.Charged.{HaveRoom, amount, charge_pairs, charged_to, with_nothing};
 
 use crate::sums::amount;
 use landed_cost::shares::{ShareFault, shares};
 use std::alloc::Global;
+use stock_model::cancelling::is_live;
 use stock_model::landed_weights::weight;
 use stock_model::names::Listed;
 use stock_model::records::Record;
@@ -21,7 +24,7 @@ use stock_nums::cause::Target;
 use stock_nums::line_sums::LineSums;
 use stock_nums::lines::Lines;
 use stock_nums::memory::NoMemory;
-use stock_nums::numbers::Minor;
+use stock_nums::numbers::{Minor, RecordNo};
 
 /// What a voucher of landed charges charges to a line of a receipt.
 #[derive(Clone, Copy, Debug, PartialEq, Eq)]
@@ -49,7 +52,53 @@ pub fn charges_from(
     Ok(charges)
 }
 
-/// The records of a journal, and what all of them charge to each line of a receipt.
+/// What the records that are in force charge, voucher by voucher: a charge for each line that a voucher names.
+fn live_charges(alloc: Global, records: &[Record]) -> Result<Lines<Charge>, NoMemory>
+    requires { length records.now < 2 ^ 32 }
+    ensures { IfOk result (λ charges. charge_pairs charges ≡ all_charged records.now) }
+{
+    let mut charges = Lines::new(alloc);
+    for (index, record) in records.iter().enumerate() {
+        let number = RecordNo(index as u32 + 1);
+        push_live(&mut charges, alloc, records, number, &record.what)?;
+    }
+    Ok(charges)
+}
+
+// Adds what the record with this number says that it charges, where it is in force. Only of a charge is that asked, as it goes
+// over all later records.
+fn push_live(
+    charges: &mut Lines<Charge>,
+    alloc: Global,
+    records: &[Record],
+    number: RecordNo,
+    what: &What,
+) -> Result<(), NoMemory>
+    requires records { length records.now < 2 ^ 32 }
+    requires limits { IsTrue (is_within_limits what.now) }
+    ensures { OnOk result (charge_pairs charges.new
+        ≡ charge_pairs charges.old ++ (if is_live records.now number.0 then charged records.now what.now else [])) }
+{
+    if !is_charge(what) || !is_live(records, number) {
+        return Ok(());
+    }
+    push_charged(charges, alloc, records, what)
+}
+
+fn is_charge(what: &What) -> bool
+    ensures { IsTrue (not result) → (journal : List Record) → charged journal what.now ≡ [] }
+{
+    matches!(
+        what,
+        What::Landed {
+            charge: _,
+            basis: _,
+            targets: _
+        }
+    )
+}
+
+/// The records of a journal, and what those in force charge to each line of a receipt.
 #[derive(Drop)]
 pub(crate) struct Charges<'a> {
     pub(crate) records: &'a [Record],
@@ -58,19 +107,19 @@ pub(crate) struct Charges<'a> {
 }
 
 impl<'a> Charges<'a> {
-    /// What the records charge. Each record is looked at once.
+    /// What the records in force charge.
     pub(crate) fn new(alloc: Global, records: &'a [Record]) -> Result<Charges<'a>, NoMemory>
         requires { length records.now < 2 ^ 32 }
         ensures { IfOk result (λ charges. charges.records.now ≡ records.now) }
     {
-        let charges = charges_from(alloc, records, 0)?;
+        let charges = live_charges(alloc, records)?;
         let mut by_line = LineSums::new(alloc);
         reserve_lines(&mut by_line, charges.as_slice())?;
         add_charges(&mut by_line, charges.as_slice());
         Ok(Charges { records, by_line })
     }
 
-    /// What all vouchers of the records charge to the line, whenever they were posted.
+    /// What all vouchers in force charge to the line, whenever they were posted.
     pub(crate) fn of(&self, line: Target) -> u128
         ensures { result ≡ added self.now.records.now line }
     {

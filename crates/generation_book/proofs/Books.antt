@@ -1,20 +1,18 @@
 -- How the parts of a book hang together, and what a kept record and a publication make of them.
-use Rattle.std.proofs.Common.{◌≡◌, ℕ, suc, ◌+◌, ◌-◌, ◌<◌, ◌≤◌, ◌⊎◌, List, [], ◌∷◌, ◌++◌, length, None, Some, refl, sym, subst, ap, ◌∙◌, length-append, arith, take, drop}
+use Rattle.std.proofs.Common.{◌≡◌, ℕ, suc, ◌+◌, ◌-◌, ◌<◌, ◌≤◌, ◌⊎◌, List, [], ◌∷◌, ◌++◌, length, None, Some, refl, sym, subst, ap, ◌∙◌, length-append, arith, filter, take, drop}
 use Rattle.std.proofs.lemmas.Bool.{lt-ltb, le-ltb}
 use Rattle.std.proofs.lemmas.Bool.Decides.{nat_tests}
 use Rattle.std.proofs.lemmas.List.{take-append-le, take_all, take-take, take-append-drop}
 use Rattle.stock_laws.proofs.Enough.{IsEnough-nil, IsEnough-from_none}
-use Rattle.stock_laws.proofs.PostingLine.{IsInPostingOrder-posting_line}
-use Rattle.stock_model.specs.InOrder.{IsInPostingOrder}
-use Rattle.quantity_check.specs.OwnPlaces.{HaveOwnPlaces}
-use Rattle.quantity_check.proofs.OwnPlaceLemmas.{HaveOwnPlaces-put_all}
-use Rattle.stock_model.proofs.Growth.{all_entries-snoc, posting_line-snoc, length-posting_line}
+use Rattle.stock_model.proofs.Growth.{length-posting_line}
+use Rattle.stock_laws.proofs.LiveEntries.{length-all_entries-step}
 use Rattle.stock_laws.proofs.Legality.{NoFault-from, AreLegal-history}
 use Rattle.stock_model.proofs.NoFaults.{neither}
 use Rattle.stock_laws.proofs.LegalReplay.{AreBounded-replay}
 use Rattle.stock_nums.specs.declared.entry.Entry.{Entry}
 use Rattle.stock_nums.specs.declared.entry.Row.{Row}
 use Rattle.stock_nums.specs.declared.numbers.RecordNo.{RecordNo}
+use Rattle.stock_nums.specs.declared.place.Spot.{Spot}
 use Rattle.stock_model.specs.declared.records.Record.{Record}
 use Rattle.stock_model.specs.declared.shortages.Shortage.{Shortage}
 use Rattle.stock_model.specs.declared.deeds.Deed.{Deed}
@@ -31,7 +29,7 @@ use Rattle.stock_model.specs.declared.queries.Need.{Need}
 use Rattle.stock_model.specs.declared.queries.Need.TheVariants as need
 use Rattle.std.specs.Prelude.{nat_le, if◌then◌else◌}
 use Rattle.stock_model.specs.Reports.{need_of, need_at}
-use Rattle.stock_model.specs.PostingOrder.{put_all, posting_line}
+use Rattle.stock_model.specs.PostingOrder.{posting_line}
 use Rattle.stock_model.specs.Journals.{AreLegal}
 use Rattle.stock_model.specs.Replay.{replay}
 use Rattle.stock_model.specs.History as history
@@ -41,8 +39,8 @@ use Rattle.generation_book.specs.declared.events.Event.TheVariants.{Kept, Publis
 use Rattle.repost_laws.proofs.JournalFronts.{AreLegal-front}
 use Rattle.repost_fetch.specs.Changes.{AreChanges}
 use Rattle.generation_book.specs.Book.{deeds, kept_count, IsBook}
-use Rattle.generation_book.specs.Merged.{merged}
-use Rattle.generation_book.proofs.ChangedRows.{merged-replay}
+use Rattle.generation_book.specs.Merged.{is_live_row, merged}
+use Rattle.generation_book.proofs.ChangedRows.{left-live, merged-replay}
 
 -- the records of the history are those of the journal
 pub records-deeds : (events : List Event) (journal : List Record) → kept_count events ≡ length journal → history.records (deeds events journal) ≡ journal
@@ -150,7 +148,7 @@ IsBook-kept events journal line c rows item longer book none posted =
     record {
       counted = omega (arith, kept_count-append events (Kept ∷ []), length-append journal (item ∷ []), book.counted);
       posted = posted;
-      few = rw (posted, length-posting_line, all_entries-snoc, length-append) fine.few;
+      few = omega (arith, ap length posted, length-posting_line (journal ++ item ∷ []), length-all_entries-step journal item, fine.few);
       enough = subst IsEnough (sym posted) (IsEnough-from_none (posting_line (journal ++ item ∷ [])) fine.enough);
       covers = rw (told, covered_after-append 0 (deeds events journal) (deed.Kept item ∷ [])) book.covers;
       within = omega (arith, length-append journal (item ∷ []), book.within);
@@ -192,16 +190,24 @@ AreBounded-first events journal line c rows n book =
     AreBounded-replay (take n journal)
     (AreLegal-front (take n journal) (drop n journal) (subst AreLegal (sym (take-append-drop n journal)) (IsBook-legal events journal line c rows book)))
 
+-- the rows that its first records were published with, by what changed of those that stay
+pub rows-changed : (events : List Event) (journal : List Record) (line : List Entry) (c : ℕ) (rows : List Row) (n : ℕ)
+    → IsBook events journal line c rows → c ≤ n → rows ≡ replay (take c (take n journal))
+rows-changed events journal line c rows n book early = book.valued ∙ ap replay (sym (take-take c n journal early))
+
 -- a book after its first records were published by what changed
 pub IsBook-changed : (events : List Event) (journal : List Record) (line : List Entry) (c : ℕ) (rows : List Row) (n : RecordNo) (changed : List Row)
-    → IsBook events journal line c rows → n.0 ≤ length journal → c < n.0 → AreChanges (take n.0 journal) c changed
-    → IsBook (events ++ Published n ∷ []) journal line n.0 (merged rows changed)
-IsBook-changed events journal line c rows n changed book within more are =
-    let early : c ≤ n.0 = omega arith in
-    let old : rows ≡ replay (take c (take n.0 journal)) = book.valued ∙ ap replay (sym (take-take c n.0 journal early)) in
-    let all : merged rows changed ≡ replay (take n.0 journal) =
-    ap (λ (es : List Row). merged es changed) old ∙ merged-replay (take n.0 journal) c changed are in
-    IsBook-published events journal line c rows n (merged rows changed) book within more all
+    (spots : List Spot) → IsBook events journal line c rows → n.0 ≤ length journal → c < n.0 → AreChanges (take n.0 journal) c changed spots
+    → IsBook (events ++ Published n ∷ []) journal line n.0 (merged (filter (is_live_row (take n.0 journal)) rows) changed)
+IsBook-changed events journal line c rows n changed spots book within more are =
+    let first = take n.0 journal in
+    let old : rows ≡ replay (take c first) = rows-changed events journal line c rows n.0 book (omega (arith, more)) in
+    let left = filter (is_live_row first) rows in
+    let all : merged left changed ≡ replay first =
+    ap (λ (es : List Row). merged (filter (is_live_row first) es) changed) old
+    ∙ ap (λ (es : List Row). merged es changed) (sym (left-live first c (replay (take c first))))
+    ∙ merged-replay first c changed spots are in
+    IsBook-published events journal line c rows n (merged left changed) book within more all
     (subst AreBounded (sym all) (AreBounded-first events journal line c rows n.0 book))
 
 -- the empty book
@@ -238,22 +244,6 @@ history-accepted events journal line c rows told book is = ap length (history-re
 pub history-covered : (events : List Event) (journal : List Record) (line : List Entry) (c : ℕ) (rows : List Row) (told : List Deed) → IsBook events journal line c rows
     → deeds events journal ≡ told → history.covered told ≡ c
 history-covered events journal line c rows told book is = ap history.covered (sym is) ∙ sym book.covers
-
--- the line with the movements of one more record put among its own
-pub put_all-entries : (journal : List Record) (item : Record) (line es : List Entry) → line ≡ posting_line journal → es ≡ entries journal item
-    → put_all line es ≡ posting_line (journal ++ item ∷ [])
-put_all-entries journal item line es posted new = rw (posted, new) (sym (posting_line-snoc journal item))
-
--- these have places of their own
-pub entries-own_places : (journal : List Record) (item : Record) (line es : List Entry) → line ≡ posting_line journal → es ≡ entries journal item → HaveOwnPlaces (line ++ es)
-entries-own_places journal item line es posted new =
-    HaveOwnPlaces-put_all line es
-    (subst IsInPostingOrder (sym (put_all-entries journal item line es posted new)) (IsInPostingOrder-posting_line (journal ++ item ∷ [])))
-
--- where there is always enough with them, there is with the record
-pub entries-enough : (journal : List Record) (item : Record) (line es : List Entry) → line ≡ posting_line journal → es ≡ entries journal item → fault journal item ≡ None → IsEnough (put_all line es)
-entries-enough journal item line es posted new none =
-    subst IsEnough (sym (put_all-entries journal item line es posted new)) (IsEnough-from_none (posting_line (journal ++ item ∷ [])) (NoFault-from journal item none).enough)
 
 -- whether what a report needs is covered, is accepted, or isn't
 abbrev need_by : RecordNo → List Deed → Need

@@ -1,27 +1,34 @@
 -- The rows that changed, put among those of the generation, make up the replay of more records.
-use Rattle.std.proofs.Common.{◌≡◌, ℕ, suc, ◌+◌, Bool, true, false, cond, not, List, [], ◌∷◌, ◌++◌, map, filter, take, drop, inl, inr, refl, sym, ap, ◌∙◌, subst, arith, Contains}
+use Rattle.std.proofs.Common.{◌≡◌, ℕ, suc, ◌+◌, ◌<◌, Bool, true, false, cond, not, List, [], ◌∷◌, ◌++◌, length, map, filter, take, drop, inl, inr, refl, sym, ap, ◌∙◌, subst, arith, Contains}
 use Rattle.std.specs.List.{prefix_len}
 use Rattle.std.proofs.lemmas.Bool.{false≢true}
 use Rattle.std.proofs.lemmas.List.{take-append-drop}
+use Rattle.std.proofs.lemmas.List.Elements.{filter_agree}
+use Rattle.std.proofs.lemmas.List.Sorted.{length_permutation}
 use Rattle.stock_nums.specs.Places.{is_before}
 use Rattle.stock_nums.specs.declared.entry.Entry.{Entry}
 use Rattle.stock_nums.specs.declared.entry.Row.{Row}
 use Rattle.stock_nums.specs.declared.place.Place.{Place}
+use Rattle.stock_nums.specs.declared.place.Spot.{Spot}
 use Rattle.stock_nums.proofs.PlaceOrder.{is_before-irreflexive, is_before-asymmetric, is_before-transitive, is_before-total}
-use Rattle.stock_model.specs.Entries.{all_entries, entries_after}
+use Rattle.stock_model.specs.Entries.{is_live}
 use Rattle.stock_model.specs.InOrder.{IsBefore}
 use Rattle.stock_model.specs.PostingOrder.{posting_line}
 use Rattle.stock_model.specs.Replay.{replay}
 use Rattle.stock_model.specs.Sums.{row_entry}
 use Rattle.stock_model.specs.declared.records.Record.{Record}
 use Rattle.stock_model.proofs.Pairwise.{Precedes, Pairwise, Precedes-Contains, Pairwise-from_AllPairs, Contains-cases, Contains-first, Contains-later}
+use Rattle.stock_laws.proofs.LiveEntries.{IsBetween, Pairwise-filter}
 use Rattle.stock_laws.proofs.PostingLine.{IsInPostingOrder-posting_line}
 use Rattle.cost_links.proofs.ReadyRows.{entries-rows_of}
-use Rattle.repost_laws.specs.Builds.{ValuedSince, is_as_published}
+use Rattle.repost_laws.specs.Builds.{ValuedSince, is_as_published, is_row_left}
+use Rattle.repost_laws.specs.Touched.{is_gone}
+use Rattle.repost_laws.proofs.ChangedJournals.{line-between}
 use Rattle.repost_laws.proofs.Filtered.{Contains-filtered, Contains-filter}
-use Rattle.repost_laws.proofs.MoreRecords.{all_entries-more, Contains-front, of_line, in_line}
-use Rattle.repost_fetch.specs.Changes.{is_valued, AreChanges}
-use Rattle.generation_book.specs.Merged.{is_row_before, rows_after, merged}
+use Rattle.repost_laws.proofs.Spreading.{Each-Contains}
+use Rattle.repost_fetch.specs.Changes.{is_valued, goes_since, gone_spots, spot_of_entry, AreChanges}
+use Rattle.kept_tables.proofs.OwnSpots.{HasEntry-left, in-line_of}
+use Rattle.generation_book.specs.Merged.{is_live_row, is_row_before, rows_after, merged}
 
 -- the first row comes before the second
 abbrev IsRowBefore : Row → Row → Type 0
@@ -224,51 +231,68 @@ Pairwise-replay journal =
     Pairwise-rows (replay journal) (subst (Pairwise IsBefore) (sym (entries-replay journal))
     (Pairwise-from_AllPairs IsBefore (posting_line journal) (IsInPostingOrder-posting_line journal)))
 
--- rows and their movements
-Contains-entry : (rows : List Row) (row : Row) → Contains rows row → Contains (map row_entry rows) row.entry
-Contains-entry [] row held = absurd (omega (arith, held.1))
-Contains-entry (first ∷ rows) row held =
-    elim (Contains-cases first rows row held) [
-      | inl same ↦ subst (λ (r : Row). Contains (first.entry ∷ map row_entry rows) r.entry) same
-          (Contains-first first.entry (map row_entry rows))
-      | inr later ↦ Contains-later first.entry (map row_entry rows) row.entry (Contains-entry rows row later)
-    ]
-
-HasAt-entry : (rows : List Row) (e : Entry) → Contains (map row_entry rows) e → HasAt rows e.place
-HasAt-entry [] e held = absurd (omega (arith, held.1))
-HasAt-entry (first ∷ rows) e held =
-    elim (Contains-cases first.entry (map row_entry rows) e held) [
-      | inl same ↦ record { row = first; held = Contains-first first rows; at = ap (λ (f : Entry). f.place) same }
-      | inr later ↦
-          let has = HasAt-entry rows e later in
-          record { row = has.row; held = Contains-later first rows has.row has.held; at = has.at }
-    ]
-
--- a movement of the first records is one of all
-in_longer : (journal : List Record) (n : ℕ) (e : Entry) → Contains (posting_line (take n journal)) e → Contains (posting_line journal) e
-in_longer journal n e held =
-    let first = take n journal in
-    let more = drop n journal in
-    subst (λ (records : List Record). Contains (posting_line records) e) (take-append-drop n journal)
-    (in_line (first ++ more) e (subst (λ (es : List Entry). Contains es e) (sym (all_entries-more first more))
-    (Contains-front (all_entries first) (entries_after first more) e (of_line first e held))))
-
-HasAt-replay : (journal : List Record) (n : ℕ) (o : Row) → Contains (replay (take n journal)) o → HasAt (replay journal) o.entry.place
-HasAt-replay journal n o held =
-    let early : Contains (posting_line (take n journal)) o.entry = subst (λ (es : List Entry). Contains es o.entry)
-    (entries-replay (take n journal)) (Contains-entry (replay (take n journal)) o held) in
-    HasAt-entry (replay journal) o.entry (subst (λ (es : List Entry). Contains es o.entry) (sym (entries-replay journal))
-    (in_longer journal n o.entry early))
+-- a row of the replay of the first records that does not go stands at the place of one of all
+HasAt-left : (journal : List Record) (n : ℕ) (o : Row) → Contains (replay (take n journal)) o → is_row_left (goes_since n journal) o ≡ true
+    → HasAt (replay journal) o.entry.place
+HasAt-left journal n o held stays =
+    let has = HasEntry-left journal n o held stays in
+    record { row = has.row; held = has.held; at = ap (λ (e : Entry). e.place) has.is }
 
 -- the replay of more records, from that of the first ones and from what changed
-pub merged-replay : (journal : List Record) (n : ℕ) (changed : List Row) → AreChanges journal n changed
-    → merged (replay (take n journal)) changed ≡ replay journal
-merged-replay journal n changed are =
-    ap (merged (replay (take n journal))) are.rows
-    ∙ merged-all are.valued (replay (take n journal)) (replay journal)
+pub merged-replay : (journal : List Record) (n : ℕ) (changed : List Row) (spots : List Spot) → AreChanges journal n changed spots
+    → merged (filter (is_row_left (goes_since n journal)) (replay (take n journal))) changed ≡ replay journal
+merged-replay journal n changed spots are =
+    let left = is_row_left (goes_since n journal) in
+    let old = replay (take n journal) in
+    ap (merged (filter left old)) are.rows
+    ∙ merged-all are.valued (filter left old) (replay journal)
     (record {
-      old_order = Pairwise-replay (take n journal);
+      old_order = Pairwise-filter IsRowBefore left old (Pairwise-replay (take n journal));
       order = Pairwise-replay journal;
       same = are.others;
-      known = HasAt-replay journal n;
+      known = λ o held. let parts = Contains-filtered left old o held in HasAt-left journal n o parts.0 parts.1;
     })
+
+twice : (b : Bool) → not (not b) ≡ b
+twice true = refl
+twice false = refl
+
+-- those that do not go are those in force
+pub left-live : (journal : List Record) (n : ℕ) (rows : List Row) → filter (is_row_left (goes_since n journal)) rows ≡ filter (is_live_row journal) rows
+left-live journal n rows =
+    filter_agree (is_row_left (goes_since n journal)) (is_live_row journal)
+    (λ row. twice (is_live (take n journal ++ drop n journal) row.entry.place.voucher.0)
+    ∙ ap (λ (j : List Record). is_live j row.entry.place.voucher.0) (take-append-drop n journal)) rows
+
+none-fails : (p : Entry → Bool) (rows : List Row) → filter p (map row_entry rows) ≡ [] → filter (λ row. not (p row.entry)) rows ≡ rows
+none-fails p [] none = refl
+none-fails p (row ∷ rows) none = by_cases (p row.entry) refl none (none-fails p rows)
+  where
+    by_cases : (b : Bool) → p row.entry ≡ b → cond b (row.entry ∷ filter p (map row_entry rows)) (filter p (map row_entry rows)) ≡ []
+        → (filter p (map row_entry rows) ≡ [] → filter (λ (r : Row). not (p r.entry)) rows ≡ rows)
+        → cond (not (p row.entry)) (row ∷ filter (λ (r : Row). not (p r.entry)) rows) (filter (λ (r : Row). not (p r.entry)) rows) ≡ row ∷ rows
+    by_cases true is h rest = absurd cc
+    by_cases false is h rest =
+        ap (λ (b : Bool). cond (not b) (row ∷ filter (λ (r : Row). not (p r.entry)) rows) (filter (λ (r : Row). not (p r.entry)) rows)) is
+        ∙ ap (λ (rs : List Row). row ∷ rs) (rest h)
+
+none-in : {X Y : Type 0} (f : X → Y) (xs : List X) → length (map f xs) ≡ 0 → xs ≡ []
+none-in f [] none = refl
+none-in f (x ∷ xs) none = absurd (omega (arith, none))
+
+-- where no spot is told none goes
+pub all-left : (journal : List Record) (n : ℕ) (changed : List Row) (spots : List Spot) → AreChanges journal n changed spots → spots ≡ []
+    → filter (is_live_row journal) (replay (take n journal)) ≡ replay (take n journal)
+all-left journal n changed spots are nothing =
+    let old = replay (take n journal) in
+    let goes = is_gone (goes_since n journal) in
+    let count : length (gone_spots n journal) ≡ 0 =
+    length_permutation spots (gone_spots n journal) are.gone ∙ ap (λ (s : List Spot). length s) nothing in
+    let none : filter goes (posting_line (take n journal)) ≡ [] = none-in spot_of_entry (filter goes (posting_line (take n journal))) count in
+    sym (left-live journal n old)
+    ∙ none-fails goes old (ap (filter goes) (entries-replay (take n journal)) ∙ none)
+
+-- each row is of a record
+pub rows-numbered : (journal : List Record) (row : Row) → Contains (replay journal) row → 0 < row.entry.place.voucher.0
+rows-numbered journal row held =
+    (Each-Contains (IsBetween 0 (length journal)) (posting_line journal) row.entry (line-between journal) (in-line_of journal row held)).0

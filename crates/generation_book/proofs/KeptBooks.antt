@@ -2,6 +2,7 @@
 use Rattle.std.proofs.Common.{◌≡◌, ◌<◌, ◌+◌, ℕ, List, [], ◌∷◌, ◌++◌, inl, inr, ap, ◌∙◌, take}
 use Rattle.stock_nums.specs.declared.entry.Row.{Row}
 use Rattle.stock_nums.specs.declared.numbers.RecordNo.{RecordNo}
+use Rattle.stock_nums.specs.declared.place.Spot.{Spot}
 use Rattle.stock_model.specs.History.{records, accepted, covered, IsLegal}
 use Rattle.stock_model.specs.declared.deeds.Deed.{Deed}
 use Rattle.stock_model.specs.declared.deeds.Deed.TheVariants.{Kept, Published}
@@ -20,19 +21,19 @@ use Rattle.kept_tables.proofs.KeptRecords.{tables_of-kept}
 use Rattle.kept_tables.proofs.Revalued.{tables_of-published}
 
 module _ (history tried : List Deed) (tells may_leave tells' may_leave' : Tables → Type 0) (kept : IsKept tells may_leave history tried) where
-  module _ (n : RecordNo) (changed : List Row) (changes : Changes) (more : covered history < n.0)
-      (are : AreChanges (take n.0 (records history)) (covered history) changed) where
-    published-is : changes ≡ changes_of changed → published n changes (tables_of history) ≡ tables_of (history ++ Published n ∷ [])
-    published-is is = ap (λ (c : Changes). published n c (tables_of history)) is ∙ tables_of-published history n changed more are
+  module _ (n : RecordNo) (changed : List Row) (spots : List Spot) (changes : Changes) (more : covered history < n.0)
+      (are : AreChanges (take n.0 (records history)) (covered history) changed spots) where
+    published-is : changes ≡ changes_of changed spots → published n changes (tables_of history) ≡ tables_of (history ++ Published n ∷ [])
+    published-is is = ap (λ (c : Changes). published n c (tables_of history)) is ∙ tables_of-published history n changed spots more are
 
-    pub kept-published : AreHanded tells may_leave changed changes → Makes (published n changes) tells tells' → Within tells' may_leave'
+    pub kept-published : AreHanded tells may_leave changed spots changes → Makes (published n changes) tells tells' → Within tells' may_leave'
         → IsKept tells' may_leave' (history ++ Published n ∷ []) []
     kept-published (inl nothing) makes durable =
         IsKept-nothing-done (published n changes) tells may_leave nothing.0 nothing.1 tells' may_leave' makes durable (history ++ Published n ∷ []) []
     kept-published (inr is) makes durable =
         IsKept-done history tried (Published n) (published n changes) (published-is is) tells may_leave kept tells' may_leave' makes durable
 
-    pub kept-unpublished : AreHanded tells may_leave changed changes → IsLegal (history ++ Published n ∷ []) → Within tells tells'
+    pub kept-unpublished : AreHanded tells may_leave changed spots changes → IsLegal (history ++ Published n ∷ []) → Within tells tells'
         → MayMake (published n changes) tells may_leave may_leave' → IsKept tells' may_leave' history (tried ++ Published n ∷ [])
     kept-unpublished (inl nothing) longer same may_make =
         IsKept-nothing-refused (published n changes) tells may_leave nothing.0 nothing.1 tells' may_leave' same may_make history

@@ -1,4 +1,5 @@
 pub mod Books
+pub mod Effects
 pub mod Filters
 pub mod ChangedRows
 pub mod OwnFaults

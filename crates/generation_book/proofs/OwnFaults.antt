@@ -15,7 +15,7 @@ use Rattle.stock_model.specs.declared.faults.PostFault.TheVariants.{CodeTaken, C
 use Rattle.stock_model.specs.VoucherLines.{lines_of}
 use Rattle.stock_model.specs.declared.records.Record.{Record}
 use Rattle.stock_model.specs.declared.vouchers.What.{What}
-use Rattle.stock_model.specs.declared.vouchers.What.TheVariants.{Item, Store, Receipt, Issue, Transfer, CustomerReturn, SupplierReturn, Landed, Freeze}
+use Rattle.stock_model.specs.declared.vouchers.What.TheVariants.{Item, Store, Receipt, Issue, Transfer, CustomerReturn, SupplierReturn, Landed, Freeze, Cancel}
 use Rattle.stock_keeper.specs.Calls.{KeeperState}
 use Rattle.stock_keeper.specs.declared.fault.KeepFault.{KeepFault}
 use Rattle.stock_keeper.specs.declared.fault.KeepFault.TheVariants as keep
@@ -61,6 +61,7 @@ own-taken journal (CustomerReturn at lines) = tt
 own-taken journal (SupplierReturn at lines) = tt
 own-taken journal (Landed charge basis targets) = tt
 own-taken journal (Freeze until) = tt
+own-taken journal (Cancel cancelled) = tt
 
 own-shape : (what : What) → IfSome (code_shape what) IsOwn
 own-shape (Item code method) = own-unless (is_code code) CodeShape tt
@@ -72,6 +73,7 @@ own-shape (CustomerReturn at lines) = tt
 own-shape (SupplierReturn at lines) = tt
 own-shape (Landed charge basis targets) = tt
 own-shape (Freeze until) = tt
+own-shape (Cancel cancelled) = tt
 
 own-account : (what : What) → IfSome (account_range what) IsOwn
 own-account (Item code method) = tt
@@ -83,6 +85,7 @@ own-account (CustomerReturn at lines) = tt
 own-account (SupplierReturn at lines) = tt
 own-account (Landed charge basis targets) = tt
 own-account (Freeze until) = tt
+own-account (Cancel cancelled) = tt
 
 own-frozen : (journal : List Record) (what : What) (until : Option Moment) → IfSome (option_and_then (frozen_by journal what) until) IsOwn
 own-frozen journal what None = tt

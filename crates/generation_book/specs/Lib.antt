@@ -5,3 +5,4 @@ pub mod Refusals
 pub mod Handed
 pub mod Follows
 pub mod ClosedRows
+pub mod Effects

@@ -4,6 +4,12 @@ use Rattle.std.specs.List.{prefix_len, take_while}
 use Rattle.stock_nums.specs.Places.{is_before}
 use Rattle.stock_nums.specs.declared.entry.Row.{Row}
 use Rattle.stock_nums.specs.declared.place.Place.{Place}
+use Rattle.stock_model.specs.Entries.{is_live}
+use Rattle.stock_model.specs.declared.records.Record.{Record}
+
+-- the row's record is in force
+abbrev pub is_live_row : List Record → Row → Bool
+is_live_row journal row = is_live journal row.entry.place.voucher.0
 
 -- the row's movement comes before the place
 abbrev pub is_row_before : Place → Row → Bool

@@ -17,12 +17,14 @@ ghost use Rattle.repost_fetch.specs.Fetched.{IsFetchedOf};
 ghost use Rattle.kept_tables.specs.Kept.{IsKept};
 ghost use Rattle.generation_book.specs.State.{first_book};
 ghost use Rattle.generation_book.specs.ClosedRows.{HasClosedRows};
+ghost use Rattle.generation_book.specs.Effects.{gone_with};
 ghost use Rattle.generation_book.specs.Handed.{IsHanded, AreHanded};
 ghost use Rattle.generation_book.specs.Refusals.{refusal_of, IsRefusalOf, IsAfterRefusal, HasTried, HasTriedFor, HasAsked, HasAskedFor};
 
 use crate::covered_heads::covered_heads;
+use crate::effect::Effect;
 use crate::events::Event;
-use crate::merging::merged;
+use crate::merging::renewed_rows;
 use crate::selecting::count_until;
 use crate::tried::Tried;
 use cost_links::replay;
@@ -41,13 +43,14 @@ use stock_model::movements;
 use stock_model::queries::{Need, Query, SelectFault, Selected};
 use stock_model::records::Record;
 use stock_model::shortages::Shortage;
-use stock_nums::entry::{Entry, Row};
+use stock_nums::entry::Row;
 use stock_nums::head::Head;
 use stock_nums::limits::{MAX_ENTRIES, MAX_RECORDS};
 use stock_nums::lines::Lines;
 use stock_nums::memory::NoMemory;
 use stock_nums::moment::Moment;
 use stock_nums::numbers::RecordNo;
+use stock_nums::place::Spot;
 use voucher_json::record_texts::record_text;
 use voucher_kinds::journal::Journal;
 
@@ -172,8 +175,8 @@ impl<K: Keeper> Book<K> {
         // What is closed stays: the replay of all records has just the rows up to a closed moment that it had.
         ensures closed { OnOk result (HasClosedRows self.old.history self.new.history) }
     {
-        let entries = match self.new_entries(alloc, &item) {
-            Ok(entries) => entries,
+        let effect = match self.effect_of(alloc, &item) {
+            Ok(effect) => effect,
             Err(fault) => return Err(fault),
         };
         let Ok(text) = handed_text(alloc, &self.keeper, &item) else {
@@ -182,7 +185,7 @@ impl<K: Keeper> Book<K> {
         if self.events.reserve(1).is_err() {
             return Err(PostFault::NoMemory);
         }
-        if self.movements.reserve(entries.len()).is_err() {
+        if self.movements.reserve(effect.adds.len()).is_err() {
             return Err(PostFault::NoMemory);
         }
         let tried = self.tried.with_kept(&item);
@@ -197,25 +200,28 @@ impl<K: Keeper> Book<K> {
         }
         self.tried = Tried::new();
         self.events.push_reserved(Event::Kept);
-        self.movements.add(entries.as_slice());
+        self.movements
+            .change(effect.adds.as_slice(), effect.gone.as_slice());
         Ok(number)
     }
 
-    /// The movements of a record that has no fault, or its first fault.
-    fn new_entries(&self, alloc: Global, item: &Record) -> Result<Lines<Entry>, PostFault>
+    /// What a record that has no fault does to the movements, or its first fault.
+    fn effect_of(&self, alloc: Global, item: &Record) -> Result<Effect, PostFault>
         ensures sound { OnOk result (fault (history.records self.now.history) item.now ≡ None) }
-        ensures entries { IfOk result (λ es. es ≡ entries (history.records self.now.history) item.now) }
+        ensures adds { IfOk result (λ effect. effect.adds ≡ entries (history.records self.now.history) item.now) }
+        ensures gone { IfOk result (λ effect. effect.gone ≡ gone_with (history.records self.now.history) item.now) }
         ensures fault { IfErr result (λ f. (f ≡ PostFault.NoMemory) × (fault_but_short (history.records self.now.history) item.now ≡ None)
             ⊎ (fault (history.records self.now.history) item.now ≡ Some f)) }
     {
         if let Some(fault) = self.fault_but_short(item) {
             return Err(fault);
         }
-        let Ok(entries) = self.journal.next_entries(alloc, item) else {
+        let Ok(effect) = Effect::of(alloc, &self.journal, item) else {
             return Err(PostFault::NoMemory);
         };
-        match self.movements.try_entries(entries.as_slice()) {
-            Ok(()) => Ok(entries),
+        let (adds, gone) = (effect.adds.as_slice(), effect.gone.as_slice());
+        match self.movements.try_change(adds, gone) {
+            Ok(()) => Ok(effect),
             Err(shortage) => Err(fault_of(&shortage)),
         }
     }
@@ -262,9 +268,9 @@ impl<K: Keeper> Book<K> {
         self.rows.as_slice()
     }
 
-    /// What the records after the first `after` ones bring to a revaluation: their movements, in the order of the records, and
-    /// what they charge to lines of receipts, none where there are no more. It goes over these records alone, and over the lines
-    /// that they name. The only error is want of memory.
+    /// What the records after the first `after` ones bring to a revaluation and take back: the movements that come and that go, in
+    /// the order of the records, and what is charged to lines of receipts, none where there are no more. The only error is want of
+    /// memory.
     pub fn fetch(&self, alloc: Global, after: RecordNo) -> Result<Fetched, NoMemory>
         requires within { after.0 ≤ history.accepted self.now.history }
         ensures { IfOk result (IsFetchedOf (take after.0 (history.records self.now.history))
@@ -274,16 +280,23 @@ impl<K: Keeper> Book<K> {
     }
 
     /// Publishes the first `n` records. `changed` are the rows of their replay that differ from those of the generation or are
-    /// new, in posting order; rows that stayed may be among them. It costs one pass over the rows, and no replay. All memory is
-    /// taken first and the keeper is called last.
+    /// new, in posting order; rows that stayed may be among them. `gone` are the spots of the rows of the generation whose records
+    /// are in force no more. It costs one pass over the rows, one more where some go, and no replay. All memory is taken first and
+    /// the keeper is called last.
     ///
     /// # Errors
     ///
     /// `Failed` where the keeper failed; `NoMemory` for want of memory. The history stays.
-    pub fn publish(&mut self, alloc: Global, n: RecordNo, changed: &[Row]) -> Result<(), KeepFault>
+    pub fn publish(
+        &mut self,
+        alloc: Global,
+        n: RecordNo,
+        changed: &[Row],
+        gone: &[Spot],
+    ) -> Result<(), KeepFault>
         requires later { history.covered self.old.history < n.0 }
         requires within { n.0 ≤ history.accepted self.old.history }
-        requires changed { AreChanges (take n.0 (history.records self.old.history)) (history.covered self.old.history) changed.now }
+        requires changed { AreChanges (take n.0 (history.records self.old.history)) (history.covered self.old.history) changed.now gone.now }
         ensures published { OnOk result (self.new.history ≡ self.old.history ++ deed.Published n ∷ []) }
         ensures unchanged { OnErr result (self.new.history ≡ self.old.history) }
         ensures opened { self.new.opened ≡ self.old.opened }
@@ -298,11 +311,12 @@ impl<K: Keeper> Book<K> {
         ensures legal { OnOk result (history.IsLegal self.new.history) }
     {
         let most = self.movements.timeline().len();
-        let renewed = merged(alloc, self.rows.as_slice(), changed, most)?;
+        let old = self.rows.as_slice();
+        let renewed = renewed_rows(alloc, &self.journal, n, old, changed, gone, most)?;
         let rows = SharedList::of(alloc, renewed)?;
         let records = &self.journal.records()[..n.0 as usize];
         let heads = covered_heads(alloc, &self.heads, records, self.covered)?;
-        let changes = handed_changes(alloc, &self.keeper, changed)?;
+        let changes = handed_changes(alloc, &self.keeper, changed, gone)?;
         if self.events.reserve(1).is_err() {
             return Err(KeepFault::NoMemory);
         }
@@ -445,19 +459,20 @@ fn handed_text<K: Keeper>(alloc: Global, keeper: &K, item: &Record) -> Result<Li
     }
 }
 
-// What a keeper is handed of a publication: the changes that put the rows' worths in, or none where nothing is kept. The only
-// error is want of memory.
+// What a keeper is handed of a publication: the changes that put the rows' worths in and take out those that are gone, or none
+// where nothing is kept. The only error is want of memory.
 fn handed_changes<K: Keeper>(
     alloc: Global,
     keeper: &K,
     changed: &[Row],
+    gone: &[Spot],
 ) -> Result<Changes, NoMemory>
-    ensures { IfOk result (AreHanded (K.tells keeper.now) (K.may_leave keeper.now) changed.now) }
+    ensures { IfOk result (AreHanded (K.tells keeper.now) (K.may_leave keeper.now) changed.now gone.now) }
 {
     if keeper.is_lasting() {
-        changes_of(alloc, changed)
+        changes_of(alloc, changed, gone)
     } else {
-        changes_of(alloc, &[])
+        changes_of(alloc, &[], &[])
     }
 }
 

@@ -2,6 +2,7 @@ pub mod KeptRecords
 pub mod WorthsAt
 pub mod RowWorths
 pub mod OwnSpots
+pub mod GoneWorths
 pub mod Revalued
 pub mod FirstApart
 pub mod ApartSteps

@@ -1,12 +1,12 @@
--- Each movement of a journal's replay has a spot of its own, and a movement of the first records is one of all.
-use Rattle.std.proofs.Common.{◌≡◌, ℕ, ◌<◌, false, List, [], ◌∷◌, ◌++◌, length, get_or, map, take, drop, inl, inr, sym, ap, ◌∙◌, subst, arith, Contains}
+-- Each movement of a journal's replay has a spot of its own, and one of the first records that stays is one of all.
+use Rattle.std.proofs.Common.{◌≡◌, ℕ, ◌<◌, Bool, true, false, not, List, [], ◌∷◌, ◌++◌, length, get_or, map, filter, take, drop, inl, inr, refl, sym, ap, ◌∙◌, subst, arith, Contains}
 use Rattle.std.specs.List.{AllPairs}
 use Rattle.std.proofs.lemmas.List.{length-map, get_or-map, take-append-drop}
 use Rattle.std.proofs.lemmas.List.Elements.{Contains-get_or}
 use Rattle.stock_nums.specs.declared.entry.Entry.{Entry}
 use Rattle.stock_nums.specs.declared.entry.Row.{Row}
 use Rattle.stock_nums.specs.declared.place.Spot.{Spot}
-use Rattle.stock_model.specs.Entries.{entries_after, all_entries}
+use Rattle.stock_model.specs.Entries.{entries_after, is_live_entry, all_entries}
 use Rattle.stock_model.specs.InOrder.{IsBefore}
 use Rattle.stock_model.specs.PostingOrder.{posting_line}
 use Rattle.stock_model.specs.Replay.{replay}
@@ -16,10 +16,14 @@ use Rattle.stock_model.proofs.Pairwise.{Pairwise, Precedes-Contains, Contains-ca
 use Rattle.stock_keeper.specs.Worths.{is_same_spot}
 use Rattle.stock_keeper.proofs.SpotOrder.{same-from_test}
 use Rattle.stock_laws.proofs.Distinct.{Differ, all_entries-Pairwise}
+use Rattle.stock_laws.proofs.LiveLines.{all_entries-longer}
 use Rattle.stock_laws.proofs.PostingLine.{IsInPostingOrder-posting_line}
 use Rattle.cost_links.proofs.ReadyRows.{entries-rows_of}
 use Rattle.repost_laws.proofs.EarlierOnes.{never_itself}
-use Rattle.repost_laws.proofs.MoreRecords.{all_entries-more, Contains-front, of_line, in_line}
+use Rattle.repost_fetch.specs.Changes.{goes_since}
+use Rattle.repost_laws.specs.Builds.{is_row_left}
+use Rattle.repost_laws.proofs.Filtered.{Contains-filtered, Contains-filter}
+use Rattle.repost_laws.proofs.MoreRecords.{Contains-front, of_line, in_line}
 use Rattle.kept_tables.specs.TablesOf.{spot_of}
 use Rattle.kept_tables.proofs.RowWorths.{HasOtherSpot}
 use Rattle.kept_tables.proofs.WorthsAt.{fails}
@@ -116,22 +120,37 @@ Contains-entry (first ∷ rows) row held =
       | inr later ↦ Contains-later first.entry (map row_entry rows) row.entry (Contains-entry rows row later)
     ]
 
--- a movement of the first records is one of all
-in_longer : (journal : List Record) (n : ℕ) (e : Entry) → Contains (posting_line (take n journal)) e
-    → Contains (posting_line journal) e
-in_longer journal n e held =
+-- a row of a replay is of a movement of its line
+pub in-line_of : (journal : List Record) (row : Row) → Contains (replay journal) row → Contains (posting_line journal) row.entry
+in-line_of journal row held =
+    subst (λ (es : List Entry). Contains es row.entry) (entries-replay journal) (Contains-entry (replay journal) row held)
+
+-- which is of a record in force
+pub live-line : (journal : List Record) (e : Entry) → Contains (posting_line journal) e → is_live_entry journal e ≡ true
+unfolding all_entries
+live-line journal e held = (Contains-filtered (is_live_entry journal) (entries_after [] journal) e (of_line journal e held)).1
+
+-- and one of the first records that stays in force is one of all
+stays-in_line : (front more : List Record) (e : Entry) → Contains (posting_line front) e → is_live_entry (front ++ more) e ≡ true
+    → Contains (posting_line (front ++ more)) e
+stays-in_line front more e held live =
+    let kept = Contains-filter (is_live_entry (front ++ more)) (all_entries front) e (of_line front e held) live in
+    in_line (front ++ more) e
+    (subst (λ (es : List Entry). Contains es e) (sym (all_entries-longer front more))
+    (Contains-front (filter (is_live_entry (front ++ more)) (all_entries front)) (filter (is_live_entry (front ++ more)) (entries_after front more)) e kept))
+
+-- so a row of the replay of the first ones that does not go is of a movement of the whole replay
+pub HasEntry-left : (journal : List Record) (n : ℕ) (row : Row) → Contains (replay (take n journal)) row
+    → is_row_left (goes_since n journal) row ≡ true → HasEntry (replay journal) row.entry
+HasEntry-left journal n row held stays =
     let front = take n journal in
     let more = drop n journal in
-    subst (λ (items : List Record). Contains (posting_line items) e) (take-append-drop n journal)
-    (in_line (front ++ more) e (subst (λ (es : List Entry). Contains es e) (sym (all_entries-more front more))
-    (Contains-front (all_entries front) (entries_after front more) e (of_line front e held))))
-
--- so a row of their replay is of a movement of the whole replay
-pub HasEntry-replay : (journal : List Record) (n : ℕ) (row : Row) → Contains (replay (take n journal)) row
-    → HasEntry (replay journal) row.entry
-HasEntry-replay journal n row held =
-    let early : Contains (posting_line (take n journal)) row.entry =
-    subst (λ (es : List Entry). Contains es row.entry) (entries-replay (take n journal))
-    (Contains-entry (replay (take n journal)) row held) in
+    let whole : front ++ more ≡ journal = take-append-drop n journal in
+    let live : is_live_entry (front ++ more) row.entry ≡ true = twice (is_live_entry (front ++ more) row.entry) stays in
     HasEntry-from (replay journal) row.entry
-    (subst (λ (es : List Entry). Contains es row.entry) (sym (entries-replay journal)) (in_longer journal n row.entry early))
+    (subst (λ (es : List Entry). Contains es row.entry) (sym (entries-replay journal))
+    (subst (λ (j : List Record). Contains (posting_line j) row.entry) whole (stays-in_line front more row.entry (in-line_of front row held) live)))
+  where
+    twice : (b : Bool) → not (not b) ≡ true → b ≡ true
+    twice true h = refl
+    twice false h = h

@@ -1,5 +1,5 @@
--- The worths of the rows that changed, put among the old ones, are those of all rows.
-use Rattle.std.proofs.Common.{◌≡◌, ℕ, pos, ◌<◌, Bool, true, false, not, List, [], ◌∷◌, ◌++◌, map, fold, filter, take, inl, inr, refl, sym, ap, ◌∙◌, subst, arith, Contains}
+-- The worths of the rows that changed, put among the old ones, are those of all rows once those that go are taken out.
+use Rattle.std.proofs.Common.{◌≡◌, ℕ, pos, ◌<◌, Bool, true, false, cond, not, None, List, [], ◌∷◌, ◌++◌, map, fold, filter, take, inl, inr, refl, sym, ap, ◌∙◌, subst, arith, Contains}
 use Rattle.std.proofs.lemmas.List.{append-nil, take-take}
 use Rattle.std.proofs.lemmas.List.Kept.{AllPairs-filter}
 use Rattle.stock_nums.specs.declared.entry.Row.{Row}
@@ -13,19 +13,20 @@ use Rattle.stock_model.specs.declared.records.Record.{Record}
 use Rattle.stock_model.proofs.Pairwise.{Pairwise, Each, Pairwise-from_AllPairs}
 use Rattle.stock_laws.proofs.Histories.{records-append, covered_after-append}
 use Rattle.stock_keeper.specs.Changed.{published}
-use Rattle.stock_keeper.specs.Worths.{IsBefore, put, without}
+use Rattle.stock_keeper.specs.Worths.{IsBefore, AreInOrder, put, is_among, without}
 use Rattle.stock_keeper.specs.declared.changes.SpotWorth.{SpotWorth}
 use Rattle.stock_keeper.specs.declared.tables.Tables.{Tables}
-use Rattle.repost_laws.specs.Builds.{ValuedSince, is_as_published}
+use Rattle.repost_laws.specs.Builds.{ValuedSince, is_as_published, is_row_left}
 use Rattle.repost_laws.proofs.Filtered.{Contains-filtered, Contains-filter}
-use Rattle.repost_fetch.specs.Changes.{is_valued, AreChanges}
+use Rattle.repost_fetch.specs.Changes.{is_valued, goes_since, AreChanges}
 use Rattle.kept_tables.specs.Differences.{worth_at}
 use Rattle.kept_tables.specs.TablesOf.{stored_from, spot_of, spot_worth, worths_of, changes_of, tables_of}
-use Rattle.kept_tables.proofs.OwnSpots.{HasEntry, HasEntry-replay, AllPairs-replay}
+use Rattle.kept_tables.proofs.GoneWorths.{worth_at-without, kept-there, none-there, others-left}
+use Rattle.kept_tables.proofs.OwnSpots.{HasEntry, HasEntry-left, AllPairs-replay}
 use Rattle.kept_tables.proofs.RowWorths.{IsElsewhere, HasOtherSpot, HasAt, fold-elsewhere, fold-held, held_or_elsewhere, not_elsewhere, AreInOrder-worths_of}
 use Rattle.kept_tables.proofs.WorthsAt.{same-from_spots, AreInOrder-fold}
 
--- old rows and all rows, each of a spot of its own: those at places that were not valued are the same, and one of all rows is
+-- old rows that do not go and all rows, each of a spot of its own: those at places that were not valued are the same, and one of all rows is
 -- of the movement of each old one
 pub record AreRevalued (valued : ValuedSince) (old all : List Row) : Type 0 where
   pub old_own : Pairwise HasOtherSpot old
@@ -89,56 +90,65 @@ module _ (valued : ValuedSince) (old all : List Row) (are : AreRevalued valued o
         ]
       ]
 
-  -- and at each spot
-  same-at : (s : Spot) → worth_at (fold put (worths_of old) (map spot_worth changed_rows)) s ≡ worth_at (worths_of all) s
-  same-at s =
+  -- and at each spot, once what changed is put among worths that are those of the old rows there
+  pub same-at : (ws : List SpotWorth) (s : Spot) → worth_at ws s ≡ worth_at (worths_of old) s
+      → worth_at (fold put ws (map spot_worth changed_rows)) s ≡ worth_at (worths_of all) s
+  same-at ws s before =
       elim (held_or_elsewhere changed_rows s) [
         | inl has ↦
-            subst (λ (t : Spot). worth_at (fold put (worths_of old) (map spot_worth changed_rows)) t ≡ worth_at (worths_of all) t)
+            subst (λ (t : Spot). worth_at (fold put ws (map spot_worth changed_rows)) t ≡ worth_at (worths_of all) t)
             has.at
-            (fold-held (worths_of old) changed_rows has.row are.changed_own has.held
+            (fold-held ws changed_rows has.row are.changed_own has.held
             ∙ sym (fold-held [] all has.row are.own (Contains-filtered (is_valued valued) all has.row has.held).0))
-        | inr others ↦ fold-elsewhere (worths_of old) changed_rows s others ∙ kept-at s others
+        | inr others ↦ fold-elsewhere ws changed_rows s others ∙ before ∙ kept-at s others
       ]
 
-  pub worths_of-revalued : fold put (worths_of old) (map spot_worth changed_rows) ≡ worths_of all
-  worths_of-revalued =
-      let made = fold put (worths_of old) (map spot_worth changed_rows) in
-      same-from_spots made (worths_of all)
-      (Pairwise-from_AllPairs IsBefore made
-      (AreInOrder-fold (worths_of old) (map spot_worth changed_rows) (AreInOrder-worths_of old)))
-      (Pairwise-from_AllPairs IsBefore (worths_of all) (AreInOrder-worths_of all)) same-at
-
--- the rows of a replay and those of a replay of the first records are such
-AreRevalued-changes : (journal : List Record) (n : ℕ) (changed : List Row) (are : AreChanges journal n changed)
-    → AreRevalued are.valued (replay (take n journal)) (replay journal)
-AreRevalued-changes journal n changed are =
+-- the rows of a replay, and those of a replay of the first records that do not go, are such
+AreRevalued-changes : (journal : List Record) (n : ℕ) (changed : List Row) (spots : List Spot) (are : AreChanges journal n changed spots)
+    → AreRevalued are.valued (filter (is_row_left (goes_since n journal)) (replay (take n journal))) (replay journal)
+AreRevalued-changes journal n changed spots are =
+    let left = is_row_left (goes_since n journal) in
+    let old = replay (take n journal) in
     record {
-      old_own = Pairwise-from_AllPairs HasOtherSpot (replay (take n journal)) (AllPairs-replay (take n journal));
+      old_own = Pairwise-from_AllPairs HasOtherSpot (filter left old) (AllPairs-filter HasOtherSpot left old (AllPairs-replay (take n journal)));
       own = Pairwise-from_AllPairs HasOtherSpot (replay journal) (AllPairs-replay journal);
       changed_own = Pairwise-from_AllPairs HasOtherSpot (filter (is_valued are.valued) (replay journal))
           (AllPairs-filter HasOtherSpot (is_valued are.valued) (replay journal) (AllPairs-replay journal));
-      known = HasEntry-replay journal n;
+      known = λ row held.
+          let parts = Contains-filtered left old row held in
+          HasEntry-left journal n row parts.0 parts.1;
       same = are.others;
     }
 
--- what changed, put among the worths of the first records, makes the worths of all
-worths_of-changed : (journal : List Record) (n : ℕ) (changed : List Row) → AreChanges journal n changed
-    → fold put (worths_of (replay (take n journal))) (map spot_worth changed) ≡ worths_of (replay journal)
-worths_of-changed journal n changed are =
-    ap (λ (rows : List Row). fold put (worths_of (replay (take n journal))) (map spot_worth rows)) are.rows
-    ∙ worths_of-revalued are.valued (replay (take n journal)) (replay journal) (AreRevalued-changes journal n changed are)
-
--- nothing goes
-without-none : (worths : List SpotWorth) → without [] worths ≡ worths
-without-none [] = refl
-without-none (w ∷ worths) = ap (λ (ws : List SpotWorth). w ∷ ws) (without-none worths)
+-- what changed, put among the worths of the first records, makes the worths of all once those that go are taken out
+worths_of-changed : (journal : List Record) (n : ℕ) (changed : List Row) (spots : List Spot) → AreChanges journal n changed spots
+    → without spots (fold put (worths_of (replay (take n journal))) (map spot_worth changed)) ≡ worths_of (replay journal)
+worths_of-changed journal n changed spots are =
+    let old = replay (take n journal) in
+    let all = replay journal in
+    let left = is_row_left (goes_since n journal) in
+    let valued_rows = filter (is_valued are.valued) all in
+    let made = fold put (worths_of old) (map spot_worth valued_rows) in
+    let in_order : AreInOrder made = AreInOrder-fold (worths_of old) (map spot_worth valued_rows) (AreInOrder-worths_of old) in
+    let own = Pairwise-from_AllPairs HasOtherSpot old (AllPairs-replay (take n journal)) in
+    let at : (s : Spot) → (b : Bool) → is_among spots s ≡ b → cond b None (worth_at made s) ≡ worth_at (worths_of all) s = λ s b.
+    elim b as (λ v. is_among spots s ≡ v → cond v None (worth_at made s) ≡ worth_at (worths_of all) s) [
+      | true ↦ λ among. sym (none-there journal n spots are.gone s among)
+      | false ↦ λ others.
+          same-at are.valued (filter left old) all (AreRevalued-changes journal n changed spots are) (worths_of old) s
+          (kept-there left old s own (others-left journal n spots are.gone s others))
+    ] in
+    ap (λ (rows : List Row). without spots (fold put (worths_of old) (map spot_worth rows))) are.rows
+    ∙ same-from_spots (without spots made) (worths_of all)
+    (Pairwise-from_AllPairs IsBefore (without spots made) (AllPairs-filter IsBefore (λ w. not (is_among spots w.spot)) made in_order))
+    (Pairwise-from_AllPairs IsBefore (worths_of all) (AreInOrder-worths_of all))
+    (λ s. worth_at-without spots made s ∙ at s (is_among spots s) refl)
 
 -- a publication of what changed makes the tables of the history with it
-pub tables_of-published : (history : List Deed) (n : RecordNo) (changed : List Row) → covered history < n.0
-    → AreChanges (take n.0 (records history)) (covered history) changed
-    → published n (changes_of changed) (tables_of history) ≡ tables_of (history ++ Published n ∷ [])
-tables_of-published history n changed more are =
+pub tables_of-published : (history : List Deed) (n : RecordNo) (changed : List Row) (spots : List Spot) → covered history < n.0
+    → AreChanges (take n.0 (records history)) (covered history) changed spots
+    → published n (changes_of changed spots) (tables_of history) ≡ tables_of (history ++ Published n ∷ [])
+tables_of-published history n changed spots more are =
     let last = Published n ∷ [] in
     let journal = take n.0 (records history) in
     let made : List Record → ℕ → List SpotWorth → Tables =
@@ -146,10 +156,9 @@ tables_of-published history n changed more are =
     let old : worths_of (replay (take (covered history) journal)) ≡ worths_of (replay (covered_records history)) =
     ap (λ (items : List Record). worths_of (replay items)) (take-take (covered history) n.0 (records history) (omega arith)) in
     let old_worths = worths_of (replay (covered_records history)) in
-    let worths : without [] (fold put old_worths (map spot_worth changed)) ≡ worths_of (replay journal) =
-    without-none (fold put old_worths (map spot_worth changed))
-    ∙ ap (λ (ws : List SpotWorth). fold put ws (map spot_worth changed)) (sym old)
-    ∙ worths_of-changed journal (covered history) changed are in
+    let worths : without spots (fold put old_worths (map spot_worth changed)) ≡ worths_of (replay journal) =
+    ap (λ (ws : List SpotWorth). without spots (fold put ws (map spot_worth changed))) (sym old)
+    ∙ worths_of-changed journal (covered history) changed spots are in
     let all : records history ≡ records (history ++ last) = sym (records-append history last ∙ append-nil (records history)) in
     let upto : n.0 ≡ covered (history ++ last) = sym (covered_after-append 0 history last) in
     ap (made (records history) n.0) worths

@@ -32,9 +32,9 @@ spot_worth row = record { spot = spot_of row.entry.place; worth = row.worth }
 abbrev pub worths_of : List Row → List SpotWorth
 worths_of rows = fold put [] (map spot_worth rows)
 
--- what a publication of these rows changes: nothing goes
-abbrev pub changes_of : List Row → Changes
-changes_of rows = record { rows = map spot_worth rows; gone = [] }
+-- what a publication of these rows changes, where those at these spots go
+abbrev pub changes_of : List Row → List Spot → Changes
+changes_of rows spots = record { rows = map spot_worth rows; gone = spots }
 
 -- the tables of a history
 abbrev pub tables_of : List Deed → Tables

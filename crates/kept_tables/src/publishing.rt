@@ -9,9 +9,9 @@ use stock_nums::lines::Lines;
 use stock_nums::memory::NoMemory;
 use stock_nums::place::Spot;
 
-/// The changes that put the worths of these rows in. The only error is want of memory.
-pub fn changes_of(alloc: Global, rows: &[Row]) -> Result<Changes, NoMemory>
-    ensures { IfOk result (λ changes. changes ≡ changes_of rows.now) }
+/// The changes that put the worths of these rows in, and take those at these spots out. The only error is want of memory.
+pub fn changes_of(alloc: Global, rows: &[Row], gone: &[Spot]) -> Result<Changes, NoMemory>
+    ensures { IfOk result (λ changes. changes ≡ changes_of rows.now gone.now) }
 {
     let mut worths = Lines::new(alloc);
     for row in rows {
@@ -19,7 +19,7 @@ pub fn changes_of(alloc: Global, rows: &[Row]) -> Result<Changes, NoMemory>
     }
     Ok(Changes {
         rows: worths,
-        gone: Lines::new(alloc),
+        gone: Lines::from_vec(gone.to_vec(alloc)?),
     })
 }
 

@@ -2,6 +2,7 @@
 ghost use Rattle.std.specs.Prelude.{◌≡◌, ◌⊎◌, ℕ, ◌+◌, ◌<◌, ◌≤◌, List, [], ◌∷◌, ◌++◌, length, take, slice_get, IsUtf8};
 ghost use Rattle.stock_nums.specs.declared.entry.Row.{Row};
 ghost use Rattle.stock_nums.specs.declared.numbers.RecordNo.{RecordNo};
+ghost use Rattle.stock_nums.specs.declared.place.Spot.{Spot};
 ghost use Rattle.stock_model.specs.Faults.{fault};
 ghost use Rattle.stock_model.specs.History.{records, accepted, covered, IsLegal};
 ghost use Rattle.stock_model.specs.Journals.{AreLegal};
@@ -27,14 +28,15 @@ pub fn a_record_is_appended()
         → appended (record { 0 = accepted history + 1 }) (record_text item) (tables_of history) ≡ tables_of (history ++ Kept item ∷ []) }
 {}
 
-/// A publication puts the worths of the changed rows in. The worths stand by record, line and side, each spot once.
+/// A publication puts the worths of the changed rows in, and takes those out that are gone. The worths stand by record, line and side, each spot once.
 pub fn a_publication_puts_worths_in()
     ensures in_order { (history : List Deed) → AreInOrder (tables_of history).worths }
     ensures more { (history : List Deed) (n : RecordNo) → covered history < n.0 → CoversMore (tables_of history) n }
     ensures within { (history : List Deed) (n : RecordNo) → n.0 ≤ accepted history → CoversRecords (tables_of history) n }
-    ensures published { (history : List Deed) (n : RecordNo) (changed : List Row) → IsLegal history → covered history < n.0
-        → n.0 ≤ accepted history → AreChanges (take n.0 (records history)) (covered history) changed
-        → published n (changes_of changed) (tables_of history) ≡ tables_of (history ++ Published n ∷ []) }
+    ensures published { (history : List Deed) (n : RecordNo) (changed : List Row) (spots : List Spot) → IsLegal history
+        → covered history < n.0 → n.0 ≤ accepted history
+        → AreChanges (take n.0 (records history)) (covered history) changed spots
+        → published n (changes_of changed spots) (tables_of history) ≡ tables_of (history ++ Published n ∷ []) }
 {}
 
 /// Stored records are opened one by one. None are at first. The next one, kept as a record without a fault at its place, is one

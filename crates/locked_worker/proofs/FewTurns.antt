@@ -19,6 +19,8 @@ use Rattle.session_laws.specs.Makers.{without_makers}
 use Rattle.session_laws.proofs.MakersOf.{without_makers-with_makers}
 use Rattle.repost_frontier.specs.Readings.{suspects_of}
 use Rattle.repost_frontier.specs.declared.slot.Slot.{Slot}
+use Rattle.repost_laws.specs.WholeBuilds.{made}
+use Rattle.repost_laws.proofs.MadeEntries.{length-line-made}
 use Rattle.repost_build.specs.Readings.{suspects_in, target_of, fetches_of, IsUnchanged}
 use Rattle.repost_build.specs.declared.build.Build.{Build}
 use Rattle.locked_worker.specs.GatedRuns.{IsTurnWith, AreTurnsWith, turns_with, valuations_with, PublishesNothing, StaysWithBuild, movements_in, movements_ahead}
@@ -27,7 +29,7 @@ use Rattle.repost_worker.specs.Turns.{records_of, ahead_in, IsWorkOf}
 use Rattle.repost_worker.specs.declared.turn.Turned.{Turned}
 use Rattle.repost_worker.specs.declared.turn.Turned.TheVariants.{Valued, Fetched, Published, Idle}
 use Rattle.locked_worker.proofs.LockedHistories.{taken-is}
-use Rattle.repost_worker.proofs.TurnsAhead.{ahead-within, ahead-turned, movements-front}
+use Rattle.repost_worker.proofs.TurnsAhead.{ahead-within, ahead-turned, made-front}
 use Rattle.repost_worker.proofs.Works.{records-published}
 
 -- the build is of no more records than were seen, and made no more fetches than it may
@@ -84,7 +86,7 @@ one-still old build taken new build' within stop same =
         target = omega (arith, same.target, within.target, accepted-stop old new taken stop);
         fetches = omega (arith, same.fetches, within.fetches);
       };
-      movements = omega (arith, ap (λ (rs : List Record). length (posting_line rs)) journal);
+      movements = omega (arith, ap (λ (rs : List Record). made rs) journal);
       comes = inl (
         same.fetches,
         omega (
@@ -107,7 +109,7 @@ one-turn (Ok (Valued place)) old build new build' within turn none =
         target = omega (arith, within.target, turned.target, ap accepted seen);
         fetches = omega (arith, within.fetches, turned.fetches);
       };
-      movements = omega (arith, ap (λ (rs : List Record). length (posting_line rs)) journal);
+      movements = omega (arith, ap (λ (rs : List Record). made rs) journal);
       comes = inl (
         turned.fetches,
         omega (
@@ -121,7 +123,7 @@ one-turn (Ok (Fetched n)) old build new build' within turn none =
     let fetch = turn.turn in
     let stop : IsStop old turn.taken [] new = turn.stop in
     let seen = seen-stop old new turn.taken stop in
-    let front = movements-front (records (without_makers new.seen)) (target_of build) in
+    let front = made-front (records (without_makers new.seen)) (target_of build) in
     let journal = records_of-stop old new turn.taken stop build build within.target refl in
     let all : target_of build' ≡ accepted (without_makers new.seen) = fetch.4.target ∙ sym (ap accepted seen) in
     let whole : records_of (without_makers new.seen) build' ≡ records (without_makers new.seen) =
@@ -131,8 +133,8 @@ one-turn (Ok (Fetched n)) old build new build' within turn none =
       movements = omega (
         arith,
         front,
-        ap (λ (rs : List Record). length (posting_line rs)) journal,
-        ap (λ (rs : List Record). length (posting_line rs)) whole,
+        ap (λ (rs : List Record). made rs) journal,
+        ap (λ (rs : List Record). made rs) whole,
       );
       comes = inr (fetch.4.fetches, omega arith);
     }
@@ -178,7 +180,13 @@ counted-turns (r ∷ results) old build new build' most within run none few =
     let later = some-turns results mid then new build' one.within run.1.3 others in
     let rest = counted-turns results mid then new build' most one.within run.1.3 others few in
     let ahead : movements_ahead mid then ≤ most =
-    omega (arith, ahead-within (suspects_in then) (posting_line (records_of (without_makers mid.seen) then)), later.movements, few) in
+    omega (
+      arith,
+      ahead-within (suspects_in then) (posting_line (records_of (without_makers mid.seen) then)),
+      length-line-made (records_of (without_makers mid.seen) then),
+      later.movements,
+      few,
+    ) in
     omega (
       arith,
       sum_by-cons turns_with r results,
@@ -208,7 +216,12 @@ module _ (old new : View Deed) (build build' : Build) (n : RecordNo) (results : 
       let later = some-turns results mid then new build' one-fetch.within run.1.3 none in
       let rest = counted-turns results mid then new build' most one-fetch.within run.1.3 none (omega arith) in
       let ahead : movements_ahead mid then ≤ most =
-      omega (arith, ahead-within (suspects_in then) (posting_line (records_of (without_makers mid.seen) then)), later.movements) in
+      omega (
+        arith,
+        ahead-within (suspects_in then) (posting_line (records_of (without_makers mid.seen) then)),
+        length-line-made (records_of (without_makers mid.seen) then),
+        later.movements,
+      ) in
       let one : 1 * (most + 1) ≤ fetches_of then * (most + 1) =
       omega (arith, ap (λ (k : ℕ). k * (most + 1)) run.1.2.turn.4.fetches, ap (λ (k : ℕ). (k + 1) * (most + 1)) first) in
       let four = mul-le-mul_left (most + 1) later.within.fetches in
@@ -250,7 +263,7 @@ movements-published old build m new build' within turn =
     ap (take (target_of build')) all ∙ ap (λ (k : ℕ). take k (records turn.taken)) turn.turn.5.target
     ∙ ap (λ (h : List Deed). records_of h build) (taken-is old.seen turn.taken turn.stop.begins)
     ∙ records_of-later (without_makers old.seen) more build within.target in
-    ap (λ (rs : List Record). length (posting_line rs)) journal
+    ap (λ (rs : List Record). made rs) journal
 
 pub few-published : (old new : View Deed) (build build' : Build) (n m : RecordNo) (results : List (Result Turned KeepFault))
     → IsWorkOf (without_makers old.seen) build → fetches_of build ≡ 0

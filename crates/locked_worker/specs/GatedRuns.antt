@@ -6,6 +6,7 @@ use Rattle.stock_model.specs.declared.deeds.Deed.{Deed}
 use Rattle.stock_keeper.specs.declared.fault.KeepFault.{KeepFault}
 use Rattle.turn_lock.specs.declared.view.View.{View}
 use Rattle.session_laws.specs.Makers.{without_makers}
+use Rattle.repost_laws.specs.WholeBuilds.{made}
 use Rattle.repost_build.specs.Readings.{suspects_in, IsUnchanged}
 use Rattle.repost_build.specs.declared.build.Build.{Build}
 use Rattle.locked_worker.specs.LockedTurns.{IsLockedTurn, IsRefusedTurn}
@@ -56,9 +57,9 @@ StaysWithBuild (Ok (Published n)) = ⊥
 StaysWithBuild (Ok Idle) = Unit {0}
 StaysWithBuild (Err fault) = Unit {0}
 
--- how many movements the records make that the build is of, and how many of them come from the first suspect on
+-- how many movements the records ever made that the build is of, and how many of those there are from the first suspect on
 abbrev pub movements_in : View Deed → Build → ℕ
-movements_in view build = length (posting_line (records_of (without_makers view.seen) build))
+movements_in view build = made (records_of (without_makers view.seen) build)
 
 abbrev pub movements_ahead : View Deed → Build → ℕ
 movements_ahead view build = ahead_in (suspects_in build) (posting_line (records_of (without_makers view.seen) build))

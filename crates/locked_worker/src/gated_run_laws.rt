@@ -24,8 +24,8 @@ pub fn a_gated_run_publishes_alone()
         → (more : List Deed) × ArePublications more × (new.made ≡ old.made ++ with_makers more) }
 {}
 
-/// From the first fetch of a build on there are at most four turns for each movement of the records that it is of, and four more, as
-/// long as it publishes nothing: whatever is posted meanwhile, and however often a turn is refused.
+/// From the first fetch of a build on there are at most four turns for each movement that the records ever made that it is of, and
+/// four more, as long as it publishes nothing: whatever is posted meanwhile, and however often a turn is refused.
 pub fn a_build_has_few_turns()
     ensures few { (old new : View Deed) (build build' : Build) (n : RecordNo) (results : List (Result Turned KeepFault))
         → IsWorkOf (without_makers old.seen) build → fetches_of build ≡ 0

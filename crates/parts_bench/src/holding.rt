@@ -67,10 +67,13 @@ fn holding(alloc: Global, numbers: &mut Numbers, count: u32, keys: u32) -> Resul
 pub(crate) fn tried(alloc: Global, count: u32, tries: u32) -> Result<Measured, NoMemory> {
     let mut numbers = Numbers::new();
     let running = holding(alloc, &mut numbers, count, 1)?;
+    let gone: &[Entry] = &[];
     let mut accepted: u32 = 0;
     for _ in 0..tries {
         let entry = any_movement(&mut numbers, count, 1, 1, 2);
-        if fit(&running, [entry].as_slice()) && running.try_entries([entry].as_slice()).is_ok() {
+        if fit(&running, [entry].as_slice())
+            && running.try_change([entry].as_slice(), gone).is_ok()
+        {
             accepted = accepted.saturating_add(1);
         }
     }

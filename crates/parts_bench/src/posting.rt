@@ -89,11 +89,11 @@ pub(crate) fn post(running: &mut Running, entries: &[Entry]) -> Result<Answer, N
     if !fit(running, entries) {
         return Ok(Answer::Unfit);
     }
-    match running.try_entries(entries) {
+    match running.try_change(entries, &[]) {
         Err(shortage) => Ok(Answer::Short(shortage)),
         Ok(()) => {
             running.reserve(entries.len())?;
-            running.add(entries);
+            running.change(entries, &[]);
             Ok(Answer::Accepted)
         }
     }

@@ -4,5 +4,6 @@ pub mod Members
 pub mod OwnPlaceLemmas
 pub mod PlaceSteps
 pub mod FirstLacks
+pub mod SplitLines
 pub mod StretchEnds
 pub mod StretchLemmas

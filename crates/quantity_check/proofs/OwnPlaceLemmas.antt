@@ -1,5 +1,5 @@
 -- Movements with places of their own can be put in posting order, and those that were have them.
-use Rattle.std.proofs.Common.{◌≡◌, ℕ, suc, ◌+◌, ◌<◌, Bool, true, false, cond, List, [], ◌∷◌, ◌++◌, None, sym, ap, ◌∙◌, subst, length, get_or, drop, drop-cons, arith}
+use Rattle.std.proofs.Common.{◌≡◌, ℕ, suc, ◌+◌, ◌<◌, Bool, true, false, cond, List, [], ◌∷◌, ◌++◌, filter, None, sym, ap, ◌∙◌, subst, length, get_or, drop, drop-cons, arith}
 use Rattle.std.proofs.lemmas.Bool.{false≢true}
 use Rattle.std.proofs.lemmas.List.{append-nil}
 use Rattle.stock_nums.specs.Places.{is_before}
@@ -9,6 +9,7 @@ use Rattle.stock_nums.proofs.PlaceOrder.{is_before-irreflexive}
 use Rattle.stock_model.specs.InOrder.{IsBefore, IsInPostingOrder}
 use Rattle.stock_model.specs.PostingOrder.{put, put_all}
 use Rattle.stock_model.proofs.Pairwise.{Precedes, Pairwise, Across, Each, Each-weaker, Pairwise-append, AllPairs-from_Pairwise, Pairwise-from_AllPairs}
+use Rattle.stock_laws.proofs.LiveEntries.{Pairwise-filter}
 use Rattle.key_order.proofs.SamePlaces.{is_same_place-true}
 use Rattle.posting_order.specs.Timelines.{is_at, entry_at}
 use Rattle.posting_order.proofs.Parting.{Fails, Pairwise-weaker, fails_from_not_passes, find-none}
@@ -16,12 +17,12 @@ use Rattle.posting_order.proofs.Places.{put-Precedes, IsInPostingOrder-put}
 use Rattle.quantity_check.specs.OwnPlaces.{StandApart, HaveOwnPlaces}
 
 -- a movement before another stands apart from it
-StandApart-before : (a b : Entry) → IsBefore a b → StandApart a b
+pub StandApart-before : (a b : Entry) → IsBefore a b → StandApart a b
 StandApart-before a b before same =
     false≢true (sym (is_before-irreflexive b.place) ∙ subst (λ (p : Place). is_before p b.place ≡ true) same before)
 
 -- and the other from the first
-StandApart-sym : (a b : Entry) → StandApart a b → StandApart b a
+pub StandApart-sym : (a b : Entry) → StandApart a b → StandApart b a
 StandApart-sym a b apart same = apart (sym same)
 
 -- what is related to each of two lists together is related to each of both
@@ -63,6 +64,27 @@ Across-tail R (x ∷ xs) y ys h = (h.0.1, Across-tail R xs y ys h.1)
 Across-cons : {X : Type 0} (R : X → X → Type 0) (xs : List X) (y : X) (ys : List X) → Each (λ x. R x y) xs → Across R xs ys → Across R xs (y ∷ ys)
 Across-cons R [] y ys h k = tt
 Across-cons R (x ∷ xs) y ys h k = ((h.0, k.0), Across-cons R xs y ys h.1 k.1)
+
+-- movements of which every two are related, as such as stand apart are, have places of their own
+pub HaveOwnPlaces-related : (R : Entry → Entry → Type 0) → ((a b : Entry) → R a b → StandApart a b) → (es : List Entry) → Pairwise R es → HaveOwnPlaces es
+HaveOwnPlaces-related R apart es related = AllPairs-from_Pairwise StandApart es (Pairwise-weaker R StandApart apart es related)
+
+-- those that pass a test are related to what each was
+Across-filter : {X : Type 0} (R : X → X → Type 0) (p : X → Bool) (xs ys : List X) → Across R xs ys → Across R (filter p xs) ys
+Across-filter R p [] ys h = tt
+Across-filter R p (x ∷ xs) ys h =
+    elim (p x) as (λ b. Across R (cond b (x ∷ filter p xs) (filter p xs)) ys) [
+      | true ↦ (h.0, Across-filter R p xs ys h.1)
+      | false ↦ Across-filter R p xs ys h.1
+    ]
+
+-- so they and further movements still have places of their own
+pub HaveOwnPlaces-filter : (p : Entry → Bool) (line es : List Entry) → HaveOwnPlaces (line ++ es) → HaveOwnPlaces (filter p line ++ es)
+HaveOwnPlaces-filter p line es apart =
+    let all = Pairwise-from_AllPairs StandApart (line ++ es) apart in
+    AllPairs-from_Pairwise StandApart (filter p line ++ es)
+    (Pairwise-append StandApart (filter p line) es (Pairwise-filter StandApart p line (Pairwise-front StandApart line es all))
+    (Pairwise-back StandApart line es all) (Across-filter StandApart p line es (Pairwise-Across StandApart line es all)))
 
 -- with a movement put into a line, the pairs are those of the line and those of the movement
 put-Across : (es line : List Entry) (e : Entry) → Across StandApart line es → Precedes StandApart e es → Across StandApart (put line e) es
@@ -168,6 +190,12 @@ entry_at-next line e es apart =
 pub HaveOwnPlaces-next : (line : List Entry) (e : Entry) (es : List Entry) → HaveOwnPlaces (line ++ e ∷ es) → HaveOwnPlaces (put line e ++ es)
 HaveOwnPlaces-next line e es apart =
     AllPairs-from_Pairwise StandApart (put line e ++ es) (put-apart line e es (Pairwise-from_AllPairs StandApart (line ++ e ∷ es) apart))
+
+-- and once several are put in
+pub HaveOwnPlaces-put_first : (line es more : List Entry) → HaveOwnPlaces (line ++ (es ++ more)) → HaveOwnPlaces (put_all line es ++ more)
+HaveOwnPlaces-put_first line [] more apart = apart
+HaveOwnPlaces-put_first line (e ∷ es) more apart =
+    HaveOwnPlaces-put_first (put line e) es more (HaveOwnPlaces-next line e (es ++ more) apart)
 
 -- movements with places of their own stand in posting order once they are put in
 pub IsInPostingOrder-put_all : (line es : List Entry) → IsInPostingOrder line → HaveOwnPlaces (line ++ es) → IsInPostingOrder (put_all line es)

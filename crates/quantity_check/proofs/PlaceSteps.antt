@@ -10,6 +10,11 @@ pub false_from_never : (b : Bool) → (b ≡ true → ⊥) → b ≡ false
 false_from_never true never = absurd (never refl)
 false_from_never false never = refl
 
+-- what is never false is true
+pub true_from_never : (b : Bool) → (b ≡ false → ⊥) → b ≡ true
+true_from_never true never = refl
+true_from_never false never = absurd (never refl)
+
 -- a place that comes before a second, which does not come after a third, comes before the third
 pub before_not_after : (p q r : Place) → is_before p q ≡ true → is_before r q ≡ false → is_before p r ≡ true
 before_not_after p q r before not_after =

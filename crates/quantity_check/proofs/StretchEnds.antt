@@ -1,4 +1,4 @@
--- Where stretches end, and that new movements change what is held in one by one number of units.
+-- Where stretches end, and that movements change what is held in one by one number of units.
 use Rattle.std.proofs.Common.{◌≡◌, pos, Bool, true, false, cond, ◌&&◌, not, List, [], ◌∷◌, Option, Some, None, ◌⊎◌, inl, inr, refl, sym, ap, ◌∙◌, arith}
 use Rattle.std.proofs.lemmas.Bool.{false≢true}
 use Rattle.std.proofs.lemmas.Int.{ints}
@@ -7,10 +7,10 @@ use Rattle.stock_nums.specs.declared.entry.Entry.{Entry}
 use Rattle.stock_nums.specs.declared.entry.Key.{Key}
 use Rattle.stock_nums.specs.declared.place.Place.{Place}
 use Rattle.stock_nums.proofs.PlaceOrder.{is_before-irreflexive, is_before-transitive}
-use Rattle.stock_model.specs.Enough.{is_of_key}
+use Rattle.stock_model.specs.Enough.{entry_key, is_of_key}
 use Rattle.stock_model.proofs.Pairwise.{Each, Each-weaker}
 use Rattle.key_order.specs.Changes.{change_of, changes_of, change_units, held_with, is_before_end}
-use Rattle.quantity_check.specs.Stretches.{is_until_of, units_until, is_later_of, nearer, nearer_after, nearest_after}
+use Rattle.quantity_check.specs.Stretches.{is_until_of, units_until, is_later_of, nearer, nearer_after, nearest_after, end_of_stretch}
 use Rattle.quantity_check.proofs.HeldSums.{held_with-cons}
 use Rattle.quantity_check.proofs.Members.{IsIn}
 use Rattle.quantity_check.proofs.PlaceSteps.{false_from_never, before_not_after, not_after_before}
@@ -58,12 +58,19 @@ before_end-nearest_after_back end (e ∷ es) key place q h beyond =
     by_cases true is = before_end-nearer_back end e.place q h (beyond.0 is)
     by_cases false is = h
 
--- the same of the movements alone
-pub AreBeyond-from_before : (es : List Entry) (key : Key) (place q : Place) → is_before_end (nearest_after None es key place) q ≡ true → AreBeyond key place q es
-AreBeyond-from_before es key place q h = (before_end-nearest_after None es key place q h).1
+-- what comes before the end of a movement's stretch comes before all later ones of its key that come or go
+pub AreBeyond-stretch : (adds gone : List Entry) (e : Entry) (q : Place) → is_before_end (end_of_stretch adds gone e) q ≡ true
+    → AreBeyond (entry_key e) e.place q adds × AreBeyond (entry_key e) e.place q gone
+AreBeyond-stretch adds gone e q h =
+    let both = before_end-nearest_after (nearest_after None adds (entry_key e) e.place) gone (entry_key e) e.place q h in
+    ((before_end-nearest_after None adds (entry_key e) e.place q both.0).1, both.1)
 
-pub before_nearest : (es : List Entry) (key : Key) (place q : Place) → AreBeyond key place q es → is_before_end (nearest_after None es key place) q ≡ true
-before_nearest es key place q beyond = before_end-nearest_after_back None es key place q refl beyond
+-- and back
+pub before_end-stretch : (adds gone : List Entry) (e : Entry) (q : Place) → AreBeyond (entry_key e) e.place q adds → AreBeyond (entry_key e) e.place q gone
+    → is_before_end (end_of_stretch adds gone e) q ≡ true
+before_end-stretch adds gone e q by_adds by_gone =
+    before_end-nearest_after_back (nearest_after None adds (entry_key e) e.place) gone (entry_key e) e.place q
+    (before_end-nearest_after_back None adds (entry_key e) e.place q refl by_adds) by_gone
 
 -- a movement changes as much at a place that does not come before another and that comes before no later one
 units_until-along : (e : Entry) (key : Key) (p q : Place) → is_before q p ≡ false → (is_later_of key p e ≡ true → is_before q e.place ≡ true) → units_until key q e ≡ units_until key p e

@@ -2,3 +2,4 @@ pub mod Kept
 pub mod State
 pub mod OwnPlaces
 pub mod Stretches
+pub mod ChangedLines

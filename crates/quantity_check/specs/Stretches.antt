@@ -1,6 +1,6 @@
--- The first shortage that new movements bring, found along stretches: each goes from a new movement to the next new one of its
--- item in its warehouse, and the new movements change what is held in it by one number of units.
-use Rattle.std.specs.Prelude.{ℤ, pos, ◌+ℤ◌, int_lt, Bool, ◌&&◌, not, List, [], ◌∷◌, unsigned_abs, if◌then◌else◌, Option, Some, None}
+-- The first shortage of a line that some movements come into and others go from, found along stretches: each goes from a movement
+-- that comes or goes to the next such one of its item in its warehouse, and in it so many units more, or fewer, are held than before.
+use Rattle.std.specs.Prelude.{ℤ, pos, ◌+ℤ◌, ◌-ℤ◌, int_lt, Bool, ◌&&◌, not, List, [], ◌∷◌, unsigned_abs, if◌then◌else◌, Option, Some, None}
 use Rattle.std.specs.Option.{option_map}
 use Rattle.stock_nums.specs.Places.{is_before}
 use Rattle.stock_nums.specs.declared.entry.Entry.{Entry}
@@ -44,34 +44,34 @@ shortage_with_held e held = record { place = e.place; item = e.item; store = e.s
 abbrev pub shortage_by_lack : Key → Lack → Shortage
 shortage_by_lack key lack = record { place = lack.place; item = key.item; store = key.store; lacking = lack.lacking }
 
--- by how many units the new movements change what is held in the stretch of one of them
-abbrev pub units_more : List Entry → Entry → ℤ
-units_more es e = held_with (changes_of es) (entry_key e) e.place
+-- by how many units more are held in the stretch of a movement, where some movements come and others go
+abbrev pub units_more : List Entry → List Entry → Entry → ℤ
+units_more adds gone e = held_with (changes_of adds) (entry_key e) e.place -ℤ held_with (changes_of gone) (entry_key e) e.place
 
--- where the stretch of a new movement ends: at the next new one of its item in its warehouse
-abbrev pub end_of_stretch : List Entry → Entry → Option Place
-end_of_stretch es e = nearest_after None es (entry_key e) e.place
+-- where the stretch of a movement ends: at the next one of its item in its warehouse that comes or goes
+abbrev pub end_of_stretch : List Entry → List Entry → Entry → Option Place
+end_of_stretch adds gone e = nearest_after (nearest_after None adds (entry_key e) e.place) gone (entry_key e) e.place
 
--- how many units are held with the new movement, of its item in its warehouse, where all new ones are put into the line
-abbrev pub held_with_new : List Entry → List Entry → Entry → ℤ
-held_with_new line es e = held_before (changes_of line) (entry_key e) e.place +ℤ units_more es e
+-- how many units are held with a movement that comes, of its item in its warehouse, once all come and go
+abbrev pub held_with_new : List Entry → List Entry → List Entry → Entry → ℤ
+held_with_new line adds gone e = held_before (changes_of line) (entry_key e) e.place +ℤ units_more adds gone e
 
 -- with it fewer units than none are held
-abbrev pub lacks_itself : List Entry → List Entry → Entry → Bool
-lacks_itself line es e = int_lt (held_with_new line es e) (pos 0)
+abbrev pub lacks_itself : List Entry → List Entry → List Entry → Entry → Bool
+lacks_itself line adds gone e = int_lt (held_with_new line adds gone e) (pos 0)
 
--- the first lack of the line in the stretch of the new movement
-abbrev pub lack_after : List Entry → List Entry → Entry → Option Lack
-lack_after line es e = first_lack (changes_of line) (entry_key e) (Some e.place) (end_of_stretch es e) (units_more es e)
+-- the first lack of the line in the stretch of a movement that comes or goes
+abbrev pub lack_after : List Entry → List Entry → List Entry → Entry → Option Lack
+lack_after line adds gone e = first_lack (changes_of line) (entry_key e) (Some e.place) (end_of_stretch adds gone e) (units_more adds gone e)
 
 -- the same as a shortage
-abbrev pub shortage_after : List Entry → List Entry → Entry → Option Shortage
-shortage_after line es e = option_map (shortage_by_lack (entry_key e)) (lack_after line es e)
+abbrev pub shortage_after : List Entry → List Entry → List Entry → Entry → Option Shortage
+shortage_after line adds gone e = option_map (shortage_by_lack (entry_key e)) (lack_after line adds gone e)
 
--- the first shortage from the new movement on, in its stretch
-abbrev pub shortage_in_stretch : List Entry → List Entry → Entry → Option Shortage
-shortage_in_stretch line es e =
-    if lacks_itself line es e then Some (shortage_with_held e (held_with_new line es e)) else shortage_after line es e
+-- the first shortage from a movement that comes on, in its stretch
+abbrev pub shortage_in_stretch : List Entry → List Entry → List Entry → Entry → Option Shortage
+shortage_in_stretch line adds gone e =
+    if lacks_itself line adds gone e then Some (shortage_with_held e (held_with_new line adds gone e)) else shortage_after line adds gone e
 
 -- of two shortages the one at the earlier place
 abbrev pub earlier : Option Shortage → Option Shortage → Option Shortage
@@ -79,7 +79,15 @@ earlier None b = b
 earlier (Some a) None = Some a
 earlier (Some a) (Some b) = if is_before b.place a.place then Some b else Some a
 
--- the earliest shortage of the stretches of these movements and of a shortage found before
-abbrev pub first_of_stretches : Option Shortage → List Entry → List Entry → List Entry → Option Shortage
-first_of_stretches first line es [] = first
-first_of_stretches first line es (e ∷ rest) = first_of_stretches (earlier first (shortage_in_stretch line es e)) line es rest
+-- the earliest of the shortages that are told of these movements and of one found before
+abbrev pub earliest : Option Shortage → (Entry → Option Shortage) → List Entry → Option Shortage
+earliest first told [] = first
+earliest first told (e ∷ es) = earliest (earlier first (told e)) told es
+
+-- the first shortage in the stretches of those that come
+abbrev pub shortage_by_adds : List Entry → List Entry → List Entry → Option Shortage
+shortage_by_adds line adds gone = earliest None (shortage_in_stretch line adds gone) adds
+
+-- the first shortage in the stretches of those that go, which take nothing themselves
+abbrev pub shortage_by_gone : List Entry → List Entry → List Entry → Option Shortage
+shortage_by_gone line adds gone = earliest None (shortage_after line adds gone) gone

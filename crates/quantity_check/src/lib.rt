@@ -1,4 +1,4 @@
-//! Whether there is enough of each item in each warehouse at all moments, kept as movements are added.
+//! Whether there is enough of each item in each warehouse at all moments, kept as movements come and go.
 #![tactic(auto)]
 
 mod changes;

@@ -1,8 +1,9 @@
 //! The movements of a book in posting order, with which no warehouse ever lacks what leaves it.
-ghost use Rattle.std.specs.Prelude.{◌≡◌, ◌+◌, ◌^◌, ◌≤◌, [], ◌++◌, length, None, Some, OnOk, IfErr};
+ghost use Rattle.std.specs.Prelude.{◌≡◌, ◌+◌, ◌^◌, ◌≤◌, [], ◌++◌, length, None, Some, All, Contains, OnOk, IfErr};
 ghost use Rattle.stock_model.specs.Enough.{IsEnough, shortage};
 ghost use Rattle.stock_model.specs.InOrder.{IsInPostingOrder};
 ghost use Rattle.stock_model.specs.PostingOrder.{put_all};
+ghost use Rattle.quantity_check.specs.ChangedLines.{line_without, changed_line};
 ghost use Rattle.quantity_check.specs.OwnPlaces.{HaveOwnPlaces};
 
 use crate::stretches::first_shortage;
@@ -61,37 +62,50 @@ impl Running {
         &self.line
     }
 
-    /// Whether there is enough at all moments with these movements put among the others. They have places of their own. It
-    /// looks only where they fall and at what comes after them of their items in their warehouses, changes nothing, and takes
-    /// no memory.
+    /// Whether there is enough at all moments once movements with places of their own are put among the others, and some of those
+    /// others, each named once, are taken out. It looks only where these fall and at what comes after them of their items in their
+    /// warehouses, changes nothing, and takes no memory.
     ///
     /// # Errors
     ///
-    /// The first movement of all, in posting order, that takes more than there is.
-    pub fn try_entries(&self, entries: &[Entry]) -> Result<(), Shortage>
-        requires apart { HaveOwnPlaces (self.now.entries ++ entries.now) }
-        requires few { length self.now.entries + length entries.now ≤ 2 ^ 20 }
-        ensures none_short { OnOk result (shortage (put_all self.now.entries entries.now) ≡ None) }
-        ensures enough { OnOk result (IsEnough (put_all self.now.entries entries.now)) }
-        ensures short { IfErr result (λ s. shortage (put_all self.now.entries entries.now) ≡ Some s) }
+    /// The first movement of all, in posting order, that takes more than there is then.
+    pub fn try_change(&self, adds: &[Entry], gone: &[Entry]) -> Result<(), Shortage>
+        requires apart { HaveOwnPlaces (self.now.entries ++ adds.now) }
+        requires held { All (Contains self.now.entries) gone.now }
+        requires once { HaveOwnPlaces gone.now }
+        requires few { length self.now.entries + length adds.now ≤ 2 ^ 20 }
+        ensures none_short { OnOk result (shortage (changed_line self.now.entries adds.now gone.now) ≡ None) }
+        ensures enough { OnOk result (IsEnough (changed_line self.now.entries adds.now gone.now)) }
+        ensures short { IfErr result (λ s. shortage (changed_line self.now.entries adds.now gone.now) ≡ Some s) }
     {
-        match first_shortage(&self.line, entries) {
+        match first_shortage(&self.line, adds, gone) {
             None => Ok(()),
             Some(shortage) => Err(shortage),
         }
     }
 
-    /// Puts movements with places of their own among the others, where there is room for them and enough at
-    /// all moments with them. It takes no memory.
-    pub fn add(&mut self, entries: &[Entry])
-        requires apart { HaveOwnPlaces (self.old.entries ++ entries.now) }
-        requires room { length entries.now ≤ self.old.spare }
-        requires few { length self.old.entries + length entries.now ≤ 2 ^ 20 }
-        requires enough { IsEnough (put_all self.old.entries entries.now) }
-        ensures added { self.new.entries ≡ put_all self.old.entries entries.now }
-        ensures room { self.old.spare ≤ self.new.spare + length entries.now }
+    /// Takes the movements out that stand where those do that go, and puts movements with places of their own among the others,
+    /// where there is room for them and enough at all moments then. It takes no memory.
+    pub fn change(&mut self, adds: &[Entry], gone: &[Entry])
+        requires apart { HaveOwnPlaces (self.old.entries ++ adds.now) }
+        requires room { length adds.now ≤ self.old.spare }
+        requires few { length self.old.entries + length adds.now ≤ 2 ^ 20 }
+        requires enough { IsEnough (changed_line self.old.entries adds.now gone.now) }
+        ensures changed { self.new.entries ≡ changed_line self.old.entries adds.now gone.now }
+        ensures room { self.old.spare ≤ self.new.spare + length adds.now }
     {
-        insert_all(&mut self.line, entries);
+        remove_all(&mut self.line, gone);
+        insert_all(&mut self.line, adds);
+    }
+}
+
+// Takes the movements that stand where these do out of the timeline, one after another.
+fn remove_all(line: &mut Timeline, gone: &[Entry])
+    ensures left { line.new.entries ≡ line_without line.old.entries gone.now }
+    ensures room { line.old.spare ≤ line.new.spare }
+{
+    for entry in gone {
+        line.remove(&entry.place);
     }
 }
 

@@ -29,6 +29,7 @@ use Rattle.repost_spread.specs.Movements.{entries_of, slots_of, line_of}
 use Rattle.repost_spread.specs.declared.movements.Movements.{Movements}
 use Rattle.repost_spread.proofs.Puts.{slot-none}
 use Rattle.repost_spread.proofs.TouchingLines.{one-at}
+use Rattle.repost_build.proofs.Truths.{same-truth}
 
 -- the next of the new movements stands where none does, and the others too once it is there
 module _ (slots : List Slot) (e : Entry) (es : List Entry) (apart : HaveOwnPlaces (entries_of slots ++ e ∷ es)) where
@@ -91,54 +92,27 @@ suspect-only slots (e ∷ es) apart p is =
       | inr later ↦ inr (later.0, Contains-later e es later.0 later.1, later.2)
     ]
 
-same-truth : (a b : Bool) → (a ≡ true → b ≡ true) → (b ≡ true → a ≡ true) → a ≡ b
-same-truth true b to from = sym (to refl)
-same-truth false true to from = from refl
-same-truth false false to from = refl
-
--- only what is charged to the movement's own line counts
-pub touched-by_line : (n : ℕ) (charged other : Target → Bool) (line : List Entry) (f : Entry)
-    → charged (own_line f) ≡ other (own_line f) → is_touched n charged line f ≡ is_touched n other line f
-touched-by_line n charged other line f same =
-    ap (λ (b : Bool). is_new n f || (b || follows_any (is_new n) (earlier line f) f)) same
-
--- new movements are put in, and what they touch is marked
-pub extended-suspects : (n : ℕ) (charged : Target → Bool) (slots : List Slot) (es : List Entry) (mid new : Movements)
+-- new movements are put in, and what is touched is marked, which new ones are
+pub extended-suspects : (touched : Entry → Bool) (slots : List Slot) (es : List Entry) (mid new : Movements)
     → HaveOwnPlaces (entries_of slots ++ es) → slots_of mid ≡ put_all_new slots es → IsInPostingOrder (line_of mid)
-    → AreNew n (line_of mid) es → ((e : Entry) → Contains es e → Contains (line_of mid) e)
-    → AreMarked mid new (λ f. is_touched n charged (line_of mid) f ≡ true) → (f : Entry) → Contains (line_of mid) f
-    → suspects_of (slots_of new) f.place ≡ (suspects_of slots f.place || is_touched n charged (line_of mid) f)
-extended-suspects n charged slots es mid new apart made in_order are_new among marked f held =
-    same-truth (suspects_of (slots_of new) f.place) (suspects_of slots f.place || touched)
+    → ((e : Entry) → Contains es e → touched e ≡ true) → ((e : Entry) → Contains es e → Contains (line_of mid) e)
+    → AreMarked mid new (λ f. touched f ≡ true) → (f : Entry) → Contains (line_of mid) f
+    → suspects_of (slots_of new) f.place ≡ (suspects_of slots f.place || touched f)
+extended-suspects touched slots es mid new apart made in_order are_new among marked f held =
+    same-truth (suspects_of (slots_of new) f.place) (suspects_of slots f.place || touched f)
     (λ suspect. elim ((marked.marked f held).0 suspect) [
       | inl was ↦ elim (suspect-only slots es apart f.place (sym mid-is ∙ was)) [
-        | inl old ↦ or_left (suspects_of slots f.place) touched old
+        | inl old ↦ or_left (suspects_of slots f.place) (touched f) old
         | inr at ↦
             let same : f ≡ at.0 = one-at (line_of mid) at.0 f in_order (among at.0 at.1) held at.2 in
-            let own = (are_new at.0 (among at.0 at.1)).1 at.1 in
-            or_right (suspects_of slots f.place) touched
-            (or_left (is_new n f) rest (subst (λ (g : Entry). is_new n g ≡ true) (sym same) own))
+            or_right (suspects_of slots f.place) (touched f) (subst (λ (g : Entry). touched g ≡ true) (sym same) (are_new at.0 at.1))
       ]
-      | inr now ↦ or_right (suspects_of slots f.place) touched now
+      | inr now ↦ or_right (suspects_of slots f.place) (touched f) now
     ])
-    (λ either. (marked.marked f held).1 (elim (or_cases (suspects_of slots f.place) touched either) [
+    (λ either. (marked.marked f held).1 (elim (or_cases (suspects_of slots f.place) (touched f) either) [
       | inl old ↦ inl (mid-is ∙ suspect-still slots es apart f.place old)
       | inr now ↦ inr now
     ]))
   where
-    rest : Bool
-    rest = charged (own_line f) || follows_any (is_new n) (earlier (line_of mid) f) f
-
-    touched : Bool
-    touched = is_touched n charged (line_of mid) f
-
     mid-is : suspects_of (slots_of mid) f.place ≡ suspects_of (put_all_new slots es) f.place
     mid-is = ap (λ (l : List Slot). suspects_of l f.place) made
-
--- the movements of more records are among those of all
-pub among-all : (journal more : List Record) (e : Entry) → Contains (entries_after journal more) e
-    → Contains (posting_line (journal ++ more)) e
-among-all journal more e held =
-    in_line (journal ++ more) e
-    (subst (λ (es : List Entry). Contains es e) (sym (all_entries-more journal more))
-    (Contains-append_right (all_entries journal) (entries_after journal more) e held))

@@ -1,5 +1,5 @@
 -- What a build of a legal journal gives the calls of a turn.
-use Rattle.std.proofs.Common.{◌≡◌, ◌↔◌, ◌∙◌, ℕ, ◌+◌, ◌^◌, ◌<◌, ◌≤◌, length, arith, false, List, Option, Some, None, Contains, refl, sym, subst}
+use Rattle.std.proofs.Common.{◌≡◌, ◌↔◌, ◌∙◌, ℕ, ◌+◌, ◌*◌, ◌^◌, ◌<◌, ◌≤◌, length, filter, arith, false, List, [], ◌∷◌, ◌++◌, Option, Some, None, Contains, refl, sym, ap, subst, append_assoc, length-append}
 use Rattle.std.specs.List.{find}
 use Rattle.std.specs.Option.{is_some}
 use Rattle.std.proofs.Math.Path.{fun_ext}
@@ -8,10 +8,12 @@ use Rattle.std.proofs.lemmas.Nat.{mul-le}
 use Rattle.stock_nums.specs.declared.cause.Target.{Target}
 use Rattle.stock_nums.specs.declared.entry.Entry.{Entry}
 use Rattle.stock_model.specs.Enough.{IsEnough}
+use Rattle.stock_model.specs.Entries.{entries, entries_after, is_spared, all_entries}
+use Rattle.stock_model.specs.Journals.{AreLegal}
 use Rattle.stock_model.specs.LandedCost.{added}
 use Rattle.stock_model.specs.PostingOrder.{posting_line}
 use Rattle.stock_model.specs.declared.records.Record.{Record}
-use Rattle.stock_model.proofs.Growth.{length-posting_line}
+use Rattle.stock_laws.proofs.LiveEntries.{all_entries-step}
 use Rattle.stock_laws.proofs.Legality.{IsHeld-legal}
 use Rattle.cost_links.specs.Taken.{CanBeTaken}
 use Rattle.repost_frontier.specs.Slots.{is_suspect}
@@ -21,12 +23,27 @@ use Rattle.repost_laws.specs.Builds.{IsFirst, IsClean}
 use Rattle.repost_laws.specs.Fetches.{HaveOneMethod}
 use Rattle.repost_laws.specs.Valuations.{earlier, taken_from}
 use Rattle.repost_laws.proofs.FirstSuspect.{first-can}
-use Rattle.repost_laws.proofs.JournalFronts.{IsEnough-legal, HaveOneMethod-posting_line}
-use Rattle.repost_laws.proofs.WholeSteps.{few-turns}
+use Rattle.repost_laws.specs.WholeBuilds.{made}
+use Rattle.repost_laws.proofs.JournalFronts.{AreLegal-front, IsEnough-legal, HaveOneMethod-posting_line}
 use Rattle.repost_spread.specs.Movements.{line_of, charged_by}
 use Rattle.repost_build.specs.Builds.{IsOf}
 use Rattle.repost_build.specs.Readings.{slots_in, found_in, suspects_in, fetches_of, turns_of}
 use Rattle.repost_build.specs.declared.build.Build.{Build}
+
+-- each record of a legal journal made no more movements than may be held
+made-after : (done rest : List Record) → AreLegal (done ++ rest) → length (entries_after done rest) ≤ length rest * 200_000
+made-after done [] legal = omega arith
+made-after done (r ∷ rest) legal =
+    let next = done ++ r ∷ [] in
+    let all : AreLegal (next ++ rest) = subst AreLegal (sym (append_assoc done (r ∷ []) rest)) legal in
+    omega (
+      arith,
+      (IsHeld-legal next (AreLegal-front next rest all)).few,
+      ap length (all_entries-step done r),
+      length-append (filter (is_spared r) (all_entries done)) (entries done r),
+      length-append (entries done r) (entries_after next rest),
+      made-after next rest all,
+    )
 
 module _ (journal : List Record) (build : Build) (of : IsOf journal build) where
   pub charged-is : charged_by build.movements ≡ added journal
@@ -42,9 +59,9 @@ module _ (journal : List Record) (build : Build) (of : IsOf journal build) where
   pub turns-fit : turns_of build + 1 < 2 ^ 64
   turns-fit =
       let held = IsHeld-legal journal of.built.legal in
-      let entries : length (posting_line journal) + 1 ≤ 200_001 = omega (arith, length-posting_line journal, held.few) in
+      let entries : made journal + 1 ≤ 10_000_000_001 = omega (arith, made-after [] journal of.built.legal, held.records) in
       let fetches : fetches_of build ≤ 50_000 = omega (arith, of.fetched, of.target, held.records) in
-      omega (arith, few-turns of.built, mul-le (fetches_of build) (length (posting_line journal) + 1) 50_000 200_001 fetches entries)
+      omega (arith, of.built.counted.few.bound, mul-le (fetches_of build) (made journal + 1) 50_000 10_000_000_001 fetches entries)
 
   pub first-of : (s : Slot) → find is_suspect (slots_in build) ≡ Some s → IsFirst (line_of build.movements) (suspects_in build) s.entry
   first-of s is = first-first (slots_in build) s of.kept.indexed.in_order is

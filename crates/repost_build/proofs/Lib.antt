@@ -1,3 +1,10 @@
+pub mod Truths
+pub mod ComingOnes
+pub mod GoneOnes
+pub mod GoneCharges
+pub mod GoneSpots
+pub mod SlotsAfter
+pub mod Touched
 pub mod Extended
 pub mod Extending
 pub mod Givens

@@ -1,4 +1,5 @@
 -- What the calls of a turn make of the movements is a turn as the laws say it.
+use Rattle.std.specs.List.Sorted.{IsPermutation}
 use Rattle.std.proofs.Common.{◌≡◌, ◌≢◌, ◌+◌, ℕ, ℤ, arith, true, false, List, Some, Contains, ◌⊎◌, ◌↔◌, inl, inr, refl, sym, ap, ◌∙◌, subst, IsTrue}
 use Rattle.std.specs.List.{find}
 use Rattle.std.proofs.lemmas.Bool.{false≢true}
@@ -6,6 +7,7 @@ use Rattle.stock_nums.specs.Places.{is_before}
 use Rattle.stock_nums.specs.declared.cause.Target.{Target}
 use Rattle.stock_nums.specs.declared.entry.Entry.{Entry}
 use Rattle.stock_nums.specs.declared.place.Place.{Place}
+use Rattle.stock_nums.specs.declared.place.Spot.{Spot}
 use Rattle.stock_nums.proofs.PlaceOrder.{is_before-irreflexive}
 use Rattle.stock_model.specs.InOrder.{IsInPostingOrder}
 use Rattle.stock_model.specs.PostingOrder.{posting_line}
@@ -28,8 +30,9 @@ use Rattle.repost_laws.proofs.WholeSteps.{IsBuildOf-turn}
 use Rattle.repost_spread.specs.Marks.{AreMarked}
 use Rattle.repost_spread.specs.Movements.{AreKept, entries_of, slots_of, line_of, charged_by}
 use Rattle.repost_spread.specs.declared.movements.Movements.{Movements}
+use Rattle.repost_fetch.specs.Changes.{gone_spots}
 use Rattle.repost_build.specs.Builds.{IsOf, IsTurned}
-use Rattle.repost_build.specs.Readings.{slots_in, found_in, suspects_in, valued_in, base_of, target_of, fetches_of, turns_of}
+use Rattle.repost_build.specs.Readings.{slots_in, found_in, suspects_in, valued_in, base_of, target_of, fetches_of, turns_of, gone_of}
 use Rattle.repost_build.specs.declared.build.Build.{Build}
 use Rattle.repost_build.proofs.Givens.{charged-is}
 
@@ -138,8 +141,8 @@ pub turned-build : (journal : List Record) (old new : Build) (s : Slot) (v : Val
     → value_of v ≡ valued_with t s.entry
     → AreMarked old.movements mid (IsMarked (line_of old.movements) (found_in old) s.entry.place (value_of v))
     → slots_in new ≡ with_value (slots_of mid) s.entry.place v → base_of new ≡ base_of old → target_of new ≡ target_of old
-    → fetches_of new ≡ fetches_of old → turns_of new ≡ turns_of old + 1 → IsTurned journal old new s.entry.place
-turned-build journal old new s v t mid of is taken now spread made base target fetches turns =
+    → gone_of new ≡ gone_of old → fetches_of new ≡ fetches_of old → turns_of new ≡ turns_of old + 1 → IsTurned journal old new s.entry.place
+turned-build journal old new s v t mid of is taken now spread made base target gone fetches turns =
     let m = old.movements in
     let same : value_of v ≡ valuation (charged_by m) (found_in old) (line_of m) s.entry = now ∙ ap (λ (u : Taken). valued_with u s.entry) taken in
     let turn = is-turn m mid new.movements s v of.kept is spread made (charged_by m) same in
@@ -152,6 +155,7 @@ turned-build journal old new s v t mid of is taken now spread made base target f
       valued = valued-now m mid new.movements s v of.kept is spread made;
       base = base;
       target = target;
+      gone = gone;
       fetches = fetches;
       turns = turns;
     }
@@ -167,6 +171,8 @@ of-turned journal old new place of kept line charged turned =
       charged = λ target. charged target ∙ of.charged target;
       target = turned.target ∙ of.target;
       fetched = omega (arith, of.fetched, turned.fetches, turned.base, turned.target);
+      gone = subst (λ (s : List Spot). IsPermutation s (gone_spots (base_of new) journal)) (sym turned.gone)
+          (subst (λ (n : ℕ). IsPermutation (gone_of old) (gone_spots n journal)) (sym turned.base) of.gone);
       built = subst (λ (n : ℕ). IsBuildOf journal n (found_in new) (suspects_in new) (valued_in new) (fetches_of new) (turns_of new)) (sym turned.base)
           (subst (λ (n : ℕ). IsBuildOf journal (base_of old) (found_in new) (suspects_in new) (valued_in new) n (turns_of new)) (sym turned.fetches)
           (subst (λ (n : ℕ). IsBuildOf journal (base_of old) (found_in new) (suspects_in new) (valued_in new) (fetches_of old) n) (sym turned.turns)

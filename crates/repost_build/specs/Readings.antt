@@ -1,6 +1,7 @@
 -- A build as contracts see it: its movements with what was found of each, and its counts.
 use Rattle.std.specs.Prelude.{ℕ, ◌≡◌, List}
 use Rattle.stock_nums.specs.declared.cause.Target.{Target}
+use Rattle.stock_nums.specs.declared.place.Spot.{Spot}
 use Rattle.repost_frontier.specs.Readings.{found_of, suspects_of, revalued_of}
 use Rattle.repost_frontier.specs.declared.slot.Slot.{Slot}
 use Rattle.repost_laws.specs.Builds.{Suspects, ValuedSince}
@@ -36,11 +37,16 @@ fetches_of build = build.fetches
 abbrev pub turns_of : Build → ℕ
 turns_of build = build.turns
 
+-- the spots of the movements that were published last and are there no more
+abbrev pub gone_of : Build → List Spot
+gone_of build = build.gone.items
+
 -- nothing of it changed
 pub record IsUnchanged (old new : Build) : Type 0 where
   pub slots : slots_in new ≡ slots_in old
   pub charged : (line : Target) → charged_by new.movements line ≡ charged_by old.movements line
   pub base : base_of new ≡ base_of old
   pub target : target_of new ≡ target_of old
+  pub gone : gone_of new ≡ gone_of old
   pub fetches : fetches_of new ≡ fetches_of old
   pub turns : turns_of new ≡ turns_of old

@@ -1,1 +1,3 @@
 pub mod FetchSteps
+pub mod ChargeSteps
+pub mod TakenRecords

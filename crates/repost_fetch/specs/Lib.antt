@@ -1,2 +1,3 @@
+pub mod TakenBack
 pub mod Fetched
 pub mod Changes

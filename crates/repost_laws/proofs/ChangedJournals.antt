@@ -1,5 +1,5 @@
 -- Further records of a journal are a change: some movements come, and some go.
-use Rattle.std.proofs.Common.{◌≡◌, ℕ, ◌+◌, ◌<◌, ◌≤◌, Bool, true, false, ◌||◌, not, nat_lt, List, [], ◌++◌, length, filter, refl, sym, ap, ◌∙◌, arith, Contains}
+use Rattle.std.proofs.Common.{◌≡◌, ℕ, ◌<◌, Bool, true, false, cond, ◌||◌, not, List, [], ◌∷◌, ◌++◌, length, filter, refl, sym, ap, ◌∙◌, arith, Contains}
 use Rattle.std.proofs.lemmas.Bool.Decides.{nat_tests}
 use Rattle.std.proofs.lemmas.List.Elements.{filter_agree}
 use Rattle.stock_nums.specs.declared.cause.Cause.{Cause}
@@ -11,21 +11,22 @@ use Rattle.stock_model.specs.Journals.{AreLegal, AreSound}
 use Rattle.stock_model.specs.LandedCost.{added}
 use Rattle.stock_model.specs.PostingOrder.{put_all, posting_line}
 use Rattle.stock_model.specs.declared.records.Record.{Record}
-use Rattle.stock_model.proofs.Pairwise.{Each, Pairwise, Across, Across-from_Each, Pairwise-from_AllPairs}
+use Rattle.stock_model.proofs.Pairwise.{Each, Across, Across-from_Each, Pairwise-from_AllPairs}
 use Rattle.stock_laws.proofs.Distinct.{Differ, entries_after-Pairwise}
 use Rattle.stock_laws.proofs.Formulas.{put_all-Each}
 use Rattle.stock_laws.proofs.Legality.{AreSound-from}
 use Rattle.stock_laws.proofs.LiveEntries.{IsBetween, entries_after-between, filter-passes, filter-fails, Each-filter, Pairwise-filter, Each-live}
+use Rattle.stock_laws.proofs.LiveTargets.{IsOfLive, entry-live}
 use Rattle.stock_laws.proofs.LiveLines.{filter-put_all, posting_line-longer}
 use Rattle.stock_laws.proofs.PostingLine.{IsInPostingOrder-posting_line}
 use Rattle.repost_laws.specs.Builds.{Suspects, IsOfOldLine, IsOfKeptLine, IsChange}
-use Rattle.repost_laws.specs.Changes.{goes_with, coming, both_lines, is_recharged, IsOfLiveLine, HasLiveTargets}
-use Rattle.repost_laws.specs.Touched.{is_new, is_old, is_left, is_touched_by}
+use Rattle.repost_laws.specs.Changes.{goes_with, coming, both_lines, is_recharged}
+use Rattle.repost_laws.specs.Touched.{is_old, is_left, is_touched_by}
 use Rattle.repost_laws.specs.Valuations.{Found}
 use Rattle.repost_laws.proofs.ChangedCharges.{added-change}
 use Rattle.repost_laws.proofs.JournalFronts.{AreSoundAfter-first}
-use Rattle.repost_laws.proofs.MoreRecords.{old-number, is_old-from, old_line, known-in_line}
-use Rattle.repost_laws.proofs.Spreading.{Each-passes}
+use Rattle.repost_laws.proofs.MoreRecords.{of_line, old-number, is_old-from, old_line, known-in_line}
+use Rattle.repost_laws.proofs.Spreading.{Each-Contains, Each-passes}
 
 -- each movement of the line has the number of one of the records
 pub line-between : (journal : List Record) → Each (IsBetween 0 (length journal)) (posting_line journal)
@@ -86,8 +87,24 @@ both-left journal more =
     ∙ ap (put_all (filter live (posting_line journal))) again
     ∙ sym (posting_line-longer journal more)
 
+-- the movements in the line are in force
+all-live : (journal : List Record) (es : List Entry) → Each (λ e. is_live_entry journal e ≡ true) (filter (is_live_entry journal) es)
+all-live journal [] = tt
+all-live journal (e ∷ es) =
+    let step : (b : Bool) → is_live_entry journal e ≡ b → Each (λ f. is_live_entry journal f ≡ true) (cond b (e ∷ filter (is_live_entry journal) es) (filter (is_live_entry journal) es)) =
+    λ b. elim b as (λ v. is_live_entry journal e ≡ v → Each (λ f. is_live_entry journal f ≡ true) (cond v (e ∷ filter (is_live_entry journal) es) (filter (is_live_entry journal) es))) [
+      | true ↦ λ is. (is, all-live journal es)
+      | false ↦ λ is. all-live journal es
+    ] in
+    step (is_live_entry journal e) refl
+
+in_line-live : (journal : List Record) (e : Entry) → Contains (posting_line journal) e → is_live_entry journal e ≡ true
+unfolding all_entries
+in_line-live journal e held =
+    Each-Contains (λ f. is_live_entry journal f ≡ true) (all_entries journal) e (all-live journal (entries_after [] journal)) (of_line journal e held)
+
 -- what an old movement returns is of an old line that stays
-kept_line : (n : ℕ) (journal more : List Record) (cause : Cause) → IsOfOldLine n cause → IsOfLiveLine (journal ++ more) cause
+kept_line : (n : ℕ) (journal more : List Record) (cause : Cause) → IsOfOldLine n cause → IsOfLive (journal ++ more) cause
     → IsOfKeptLine n (goes_with journal more) cause
 kept_line n journal more (Receipt amount) old live = tt
 kept_line n journal more (Issue sold) old live = tt
@@ -97,12 +114,11 @@ kept_line n journal more (CustomerReturn target issued) old live = (old, ap not 
 kept_line n journal more (SupplierReturn target amount received) old live = tt
 
 pub IsChange-more : (journal more : List Record) (found : Found) (suspects new_suspects : Suspects) → AreLegal (journal ++ more)
-    → HasLiveTargets (journal ++ more)
     → ((e : Entry) → Contains (posting_line (journal ++ more)) e → new_suspects e.place
     ≡ (suspects e.place || is_touched_by (length journal) (goes_with journal more) (is_recharged journal more) (both_lines journal more) e))
     → IsChange (length journal) (goes_with journal more) (is_recharged journal more) (both_lines journal more) (added journal)
     (posting_line journal) found suspects (added (journal ++ more)) (posting_line (journal ++ more)) found new_suspects
-IsChange-more journal more found suspects new_suspects legal live marked =
+IsChange-more journal more found suspects new_suspects legal marked =
     let n = length journal in
     let all = journal ++ more in
     let all_sound = AreSound-from all legal in
@@ -111,7 +127,8 @@ IsChange-more journal more found suspects new_suspects legal live marked =
       old = both-old journal more;
       left = both-left journal more;
       returned = λ e held is. kept_line n journal more e.cause
-          (old_line all n e e.cause (known-in_line all e all_sound held).target (old-number n e is)) (live e held);
+          (old_line all n e e.cause (known-in_line all e all_sound held).target (old-number n e is))
+          (entry-live all e all_sound (known-in_line all e all_sound held) (in_line-live all e held));
       others = λ target none. added-change journal more target sound none;
       found_stays = λ e held. refl;
       marked = marked;

@@ -1,5 +1,5 @@
 -- A movement that is not touched by what comes and goes has the value that it had.
-use Rattle.std.proofs.Common.{◌≡◌, ℕ, ◌+◌, ◌≤◌, Bool, true, false, cond, ◌&&◌, ◌||◌, ◌==◌, not, nat_lt, List, [], ◌∷◌, map, filter, reverse, sum_by, Some, refl, sym, ap, ◌∙◌, subst, arith, Option, None, unsigned_abs, Contains}
+use Rattle.std.proofs.Common.{◌≡◌, ℕ, ◌+◌, Bool, true, false, cond, ◌&&◌, ◌||◌, ◌==◌, not, nat_lt, List, [], ◌∷◌, map, filter, reverse, sum_by, Some, refl, sym, ap, ◌∙◌, subst, arith, Option, None, unsigned_abs, Contains}
 use Rattle.std.specs.List.{find, list_any}
 use Rattle.std.specs.Option.{option_map_or}
 use Rattle.std.proofs.lemmas.Bool.{false≢true}

@@ -1,8 +1,9 @@
 -- What further records leave of a replay: the rows up to a moment that is closed.
-use Rattle.std.proofs.Common.{◌≡◌, ℕ, ℤ, ◌+◌, Bool, true, false, cond, ◌||◌, List, [], ◌∷◌, ◌++◌, length, filter, fold, Option, Some, None, pos, refl, sym, ap, ◌∙◌, subst, arith, append_assoc, Contains}
-use Rattle.std.specs.List.{list_any}
+use Rattle.std.proofs.Common.{◌≡◌, ℕ, zero, suc, ℤ, ◌+◌, ◌<◌, ◌≤◌, inl, inr, Bool, true, false, cond, ◌||◌, List, [], ◌∷◌, ◌++◌, length, filter, fold, Option, Some, None, pos, refl, sym, ap, ◌∙◌, subst, arith, append_assoc, Contains}
+use Rattle.std.specs.List.{list_any, enumerate_from}
 use Rattle.std.specs.Option.{option_map, option_map_or, option_and_then}
-use Rattle.std.specs.Prelude.{◌+ℤ◌}
+use Rattle.std.specs.Prelude.{◌+ℤ◌, ◌&&◌, not, nat_eq, nat_lt, slice_get}
+use Rattle.std.proofs.lemmas.Bool.{cases_lt, false≢true}
 use Rattle.std.proofs.lemmas.Bool.Decides.{nat_tests}
 use Rattle.std.proofs.lemmas.List.{append-nil}
 use Rattle.std.proofs.lemmas.List.Elements.{filter-append}
@@ -18,8 +19,9 @@ use Rattle.stock_nums.specs.declared.moment.Moment.{Moment}
 use Rattle.stock_model.specs.declared.faults.PostFault.TheVariants.{Frozen}
 use Rattle.stock_model.specs.declared.records.Record.{Record}
 use Rattle.stock_model.specs.declared.vouchers.What.{What}
-use Rattle.stock_model.specs.Entries.{entries}
-use Rattle.stock_model.specs.Faults.{was_closed, changes_closed, frozen_by, voucher_fault}
+use Rattle.stock_model.specs.declared.vouchers.What.TheVariants.{Item, Store, Receipt, Issue, Transfer, CustomerReturn, SupplierReturn, Landed, Freeze, Cancel}
+use Rattle.stock_model.specs.Entries.{cancels, takes_back, is_live, is_spared, entries}
+use Rattle.stock_model.specs.Faults.{was_closed, says_closed, record_says_closed, cancels_closed, changes_closed, frozen_by, voucher_fault}
 use Rattle.stock_model.specs.Freezing.{closed_by, later_if_any, frozen, is_closed}
 use Rattle.stock_model.specs.InOrder.{IsBefore}
 use Rattle.stock_model.specs.Journals.{AreSoundAfter, AreSound, AreLegal}
@@ -32,20 +34,23 @@ use Rattle.stock_model.specs.TargetLines.{record_moment, target_moment}
 use Rattle.stock_model.specs.Values.{own_line, value_by, share_by}
 use Rattle.stock_model.specs.VoucherLines.{moment_of, moves_of, charged_targets}
 use Rattle.stock_model.proofs.Freezes.{frozen-snoc}
-use Rattle.stock_model.proofs.Growth.{posting_line-snoc}
 use Rattle.stock_model.proofs.NoFaults.{NoFaults, NoFaults-from}
 use Rattle.stock_model.proofs.Numbered.{Fails}
 use Rattle.stock_model.proofs.Pairwise.{Precedes, Pairwise, Pairwise-from_AllPairs, Each, Each-all, Each-weaker, Each-from_Precedes, Contains-first, Contains-later}
 use Rattle.stock_laws.proofs.Legality.{AreSound-from}
 use Rattle.stock_laws.proofs.LineEntries.{HoldsOf, movements-each}
+use Rattle.stock_laws.proofs.LiveEntries.{is_live-older}
+use Rattle.stock_laws.proofs.LiveLines.{posting_line-step}
 use Rattle.stock_laws.proofs.Linked.{is_same_target-true}
 use Rattle.stock_laws.proofs.PostingLine.{IsInPostingOrder-posting_line}
 use Rattle.stock_laws.proofs.RecordsAt.{said_by}
-use Rattle.repost_laws.specs.Touched.{is_the_line}
+use Rattle.repost_laws.specs.Changes.{recharges, is_recharged}
+use Rattle.repost_laws.specs.Touched.{is_the_line, charges_to}
 use Rattle.repost_laws.proofs.Filtered.{or_false}
 use Rattle.repost_laws.proofs.JournalFronts.{AreSoundAfter-first}
-use Rattle.repost_laws.proofs.MoreCharges.{added-more}
+use Rattle.repost_laws.proofs.ChangedCharges.{added-change}
 use Rattle.repost_laws.proofs.MoreRecords.{known-in_line}
+use Rattle.repost_laws.proofs.SincePublished.{filter-implied}
 
 -- the movement is not after the moment
 abbrev is_early : Moment → Entry → Bool
@@ -104,11 +109,17 @@ changes_none : (journal : List Record) (what : What) (last : Moment) → NoFault
 changes_none journal what last sound is =
     none-closed (changes_closed journal what last) last (ap (option_and_then (frozen_by journal what)) (sym is) ∙ sound.unclosed)
 
+-- neither itself nor by what it takes back
+changes-parts : (journal : List Record) (what : What) (last : Moment) → NoFaults journal what → frozen journal ≡ Some last
+    → (says_closed journal last what ≡ false) × (cancels_closed journal last what ≡ false)
+changes-parts journal what last sound is =
+    or_false (says_closed journal last what) (cancels_closed journal last what) (changes_none journal what last sound is)
+
 -- so its own movements are later
 entries-late : (journal : List Record) (item : Record) (until : Moment) → NoFaults journal item.what → IsClosedTo journal until
     → Each (Fails (is_early until)) (entries journal item)
 entries-late journal item until sound closed =
-    let none = or_false (option_map_or (is_closed closed.last) (moment_of item.what) false) (list_any (was_closed journal closed.last) (charged_targets item.what)) (changes_none journal item.what closed.last sound closed.is) in
+    let none = or_false (option_map_or (is_closed closed.last) (moment_of item.what) false) (list_any (was_closed journal closed.last) (charged_targets item.what)) (changes-parts journal item.what closed.last sound closed.is).0 in
     movements-each journal (length journal + 1) item.what (Fails (is_early until))
     (λ at timed i line is found found_is code named.
     let late : is_closed closed.last at ≡ false = ap (λ (o : Option Moment). option_map_or (is_closed closed.last) o false) (sym timed) ∙ none.0 in
@@ -159,21 +170,142 @@ each-passing P p (x ∷ xs) all =
 abbrev AddsSame : List Record → List Record → Entry → Type 0
 AddsSame journal new e = added new (own_line e) ≡ added journal (own_line e)
 
--- one more record charges nothing to what was received up to a closed moment
+one-number : (a b : ℕ) → nat_eq a b ≡ true → a ≡ b
+one-number a b same = grind (arith, nat_tests)
+
+-- the record of a movement at a closed moment says so
+said-closed : (journal : List Record) (last : Moment) (o : Option Record) (what : What) (at : Moment) → option_map said_by o ≡ Some what → moment_of what ≡ Some at → is_closed last at ≡ true
+    → option_map_or (record_says_closed journal last) o false ≡ true
+said-closed journal last None what at held timed closed = cc
+said-closed journal last (Some r) what at held timed closed =
+    let same : said_by r ≡ what = cc in
+    ap (λ (m : Option Moment). option_map_or (is_closed last) m false || list_any (was_closed journal last) (charged_targets r.what)) (ap moment_of same ∙ timed)
+    ∙ ap (λ (b : Bool). b || list_any (was_closed journal last) (charged_targets r.what)) closed
+
+-- what is said at a closed moment is taken back by no record
+cancels-says : (journal : List Record) (last : Moment) (what : What) (n : ℕ) → cancels n what ≡ true
+    → cancels_closed journal last what ≡ option_map_or (record_says_closed journal last) (record_at journal n) false
+unfolding cancels
+cancels-says journal last (Item code method) n takes = cc
+cancels-says journal last (Store code account) n takes = cc
+cancels-says journal last (Receipt at lines) n takes = cc
+cancels-says journal last (Issue at purpose lines) n takes = cc
+cancels-says journal last (Transfer at lines) n takes = cc
+cancels-says journal last (CustomerReturn at lines) n takes = cc
+cancels-says journal last (SupplierReturn at lines) n takes = cc
+cancels-says journal last (Landed charge basis targets) n takes = cc
+cancels-says journal last (Freeze until) n takes = cc
+cancels-says journal last (Cancel cancelled) n takes =
+    ap (λ (k : ℕ). option_map_or (record_says_closed journal last) (record_at journal k) false) (one-number cancelled.0 n takes)
+
+-- so a movement at a closed moment stays
+spared-early : (journal : List Record) (item : Record) (until : Moment) (e : Entry) → AreSound journal → NoFaults journal item.what → IsClosedTo journal until
+    → Contains (posting_line journal) e → is_early until e ≡ true → is_spared item e ≡ true
+spared-early journal item until e sound none closed held early =
+    let n = e.place.voucher.0 in
+    let own = known-in_line journal e sound held in
+    let parts = changes-parts journal item.what closed.last none closed.is in
+    let within = closed_within until closed.last e.place.moment closed.reaches early in
+    let says : option_map_or (record_says_closed journal closed.last) (record_at journal n) false ≡ true =
+    said-closed journal closed.last (record_at journal n) own.what e.place.moment own.held own.timed within in
+    let step : (b : Bool) → takes_back n item ≡ b → not b ≡ true =
+    λ b. elim b as (λ v. takes_back n item ≡ v → not v ≡ true) [
+      | true ↦ λ takes. absurd (false≢true (sym parts.1 ∙ cancels-says journal closed.last item.what n takes ∙ says))
+      | false ↦ λ takes. refl
+    ] in
+    ap not refl ∙ step (takes_back n item) refl
+
+-- one more record charges nothing to what was received up to a closed moment, and takes no charge of it back
+get-front : {X : Type 0} (xs ys : List X) (i : ℕ) → i < length xs → slice_get (xs ++ ys) i ≡ slice_get xs i
+get-front [] ys i within = absurd (omega (arith, within))
+get-front (x ∷ xs) ys zero within = refl
+get-front (x ∷ xs) ys (suc i) within = get-front xs ys i (omega (arith, within))
+
+get-last : {X : Type 0} (xs : List X) (x : X) (i : ℕ) (found : X) → length xs ≤ i → slice_get (xs ++ x ∷ []) i ≡ Some found → x ≡ found
+get-last [] x zero found beyond is = cc
+get-last [] x (suc i) found beyond is = cc
+get-last (y ∷ xs) x zero found beyond is = absurd (omega (arith, beyond))
+get-last (y ∷ xs) x (suc i) found beyond is = get-last xs x i found (omega (arith, beyond)) is
+
+none-numbered : {X : Type 0} (test : ℕ × X → Bool) (k : ℕ) (xs : List X) → ((i : ℕ) (x : X) → slice_get xs i ≡ Some x → test (k + i, x) ≡ false) → list_any test (enumerate_from k xs) ≡ false
+none-numbered test k [] fails = refl
+none-numbered test k (x ∷ xs) fails =
+    let at : k + 0 ≡ k = omega arith in
+    ap (λ (b : Bool). b || list_any test (enumerate_from (k + 1) xs)) (ap (λ (n : ℕ). test (n, x)) (sym at) ∙ fails zero x refl)
+    ∙ none-numbered test (k + 1) xs (λ i y is.
+    let later : k + suc i ≡ (k + 1) + i = omega arith in
+    ap (λ (n : ℕ). test (n, y)) (sym later) ∙ fails (suc i) y is)
+
+unrecharged-and : (a l c : Bool) → a ≡ false → ((a || (l && not l)) && c) ≡ false
+unrecharged-and true l c none = cc
+unrecharged-and false true c none = refl
+unrecharged-and false false c none = refl
+
+uncharged-and : (a c : Bool) → c ≡ false → (a && c) ≡ false
+uncharged-and true c none = none
+uncharged-and false c none = refl
+
+module _ (journal : List Record) (item : Record) (last at : Moment) (line : Target) (timed : target_moment journal line ≡ Some at) (closed : is_closed last at ≡ true)
+    (says : says_closed journal last item.what ≡ false) (takes : cancels_closed journal last item.what ≡ false) where
+  -- what charges nothing at a closed moment charges nothing to the line
+  unsaid : (what : What) → says_closed journal last what ≡ false → list_any (is_the_line line) (charged_targets what) ≡ false
+  unsaid what none =
+      targets-late journal last line at (charged_targets what) timed closed
+      (or_false (option_map_or (is_closed last) (moment_of what) false) (list_any (was_closed journal last) (charged_targets what)) none).1
+
+  older-none : (i : ℕ) (r : Record) → i < length journal → record_at journal (1 + i) ≡ Some r
+      → recharges (length journal) (is_live journal) (is_live (journal ++ item ∷ [])) line (1 + i, r) ≡ false
+  older-none i r within held =
+      let n = length journal in
+      let m = 1 + i in
+      let live = is_live-older journal item m (omega (arith, within)) in
+      let not_new : nat_lt n m ≡ false = old-test n m (omega (arith, within)) in
+      let step : (b : Bool) → takes_back m item ≡ b → ((nat_lt n m || (is_live journal m && not (is_live journal m && not b))) && charges_to line r) ≡ false =
+      λ b. elim b as (λ v. takes_back m item ≡ v → ((nat_lt n m || (is_live journal m && not (is_live journal m && not v))) && charges_to line r) ≡ false) [
+        | true ↦ λ goes.
+            let said : record_says_closed journal last r ≡ false =
+            sym (ap (λ (o : Option Record). option_map_or (record_says_closed journal last) o false) held) ∙ sym (cancels-says journal last item.what m goes) ∙ takes in
+            uncharged-and (nat_lt n m || (is_live journal m && not (is_live journal m && false))) (charges_to line r) (unsaid r.what said)
+        | false ↦ λ stays.
+            ap (λ (l : Bool). (nat_lt n m || (is_live journal m && not l)) && charges_to line r) (and-true (is_live journal m))
+            ∙ unrecharged-and (nat_lt n m) (is_live journal m) (charges_to line r) not_new
+      ] in
+      ap (λ (l : Bool). (nat_lt n m || (is_live journal m && not l)) && charges_to line r) live ∙ step (takes_back m item) refl
+    where
+      and-true : (b : Bool) → (b && true) ≡ b
+      and-true true = refl
+      and-true false = refl
+
+      old-test : (n m : ℕ) → m ≤ n → nat_lt n m ≡ false
+      old-test n m few = grind (arith, nat_tests)
+
+  none-recharged : is_recharged journal (item ∷ []) line ≡ false
+  none-recharged =
+      none-numbered (recharges (length journal) (is_live journal) (is_live (journal ++ item ∷ [])) line) 1 (journal ++ item ∷ []) (λ i r is.
+      elim (cases_lt i (length journal)) [
+        | inl within ↦ older-none i r within (numbered i (sym (get-front journal (item ∷ []) i within) ∙ is))
+        | inr beyond ↦
+            let same : item ≡ r = get-last journal item i r beyond is in
+            uncharged-and (nat_lt (length journal) (1 + i) || (is_live journal (1 + i) && not (is_live (journal ++ item ∷ []) (1 + i)))) (charges_to line r)
+            (subst (λ (one : Record). charges_to line one ≡ false) same (unsaid item.what says))
+      ])
+    where
+      numbered : {r : Record} (i : ℕ) → slice_get journal i ≡ Some r → record_at journal (1 + i) ≡ Some r
+      numbered {r} i is = let next : suc i ≡ 1 + i = omega arith in subst (λ (k : ℕ). record_at journal k ≡ Some r) next is
+
 adds-same : (journal : List Record) (item : Record) (until : Moment) → AreSound journal → NoFaults journal item.what → IsClosedTo journal until
     → Each (AddsSame journal (journal ++ item ∷ [])) (filter (is_early until) (posting_line journal))
 adds-same journal item until sound none closed =
     let new = journal ++ item ∷ [] in
     let line = posting_line journal in
-    let parts = or_false (option_map_or (is_closed closed.last) (moment_of item.what) false) (list_any (was_closed journal closed.last) (charged_targets item.what)) (changes_none journal item.what closed.last none closed.is) in
+    let parts = changes-parts journal item.what closed.last none closed.is in
     each-passing (AddsSame journal new) (is_early until) line
     (each-held (λ e. is_early until e ≡ true → AddsSame journal new e) line
     (λ e held early.
     let own = known-in_line journal e sound held in
     let timed : target_moment journal (own_line e) ≡ Some e.place.moment = moment-at (record_at journal e.place.voucher.0) own.what e.place.moment own.held own.timed in
-    let others : list_any (is_the_line (own_line e)) (charged_targets item.what) ≡ false =
-    targets-late journal closed.last (own_line e) e.place.moment (charged_targets item.what) timed (closed_within until closed.last e.place.moment closed.reaches early) parts.1 in
-    added-more journal (item ∷ []) (own_line e) sound (ap (λ (b : Bool). b || false) others)))
+    added-change journal (item ∷ []) (own_line e) sound
+    (none-recharged journal item closed.last e.place.moment (own_line e) timed (closed_within until closed.last e.place.moment closed.reaches early) parts.0 parts.1)))
 
 -- the worth of a movement by its cause, and that of a receipt by its charges
 abbrev worth_by : List Record → List Row → Entry → Cause → Worth
@@ -287,7 +419,10 @@ rows-stay_one journal item until sound none closed =
     let p = is_early until in
     let line = posting_line journal in
     rows-front until new [] (posting_line new) (line-order new until) refl
-    ∙ ap (rows_of new) (ap (filter p) (posting_line-snoc journal item) ∙ filter-put_all p line (entries journal item) (entries-late journal item until none closed))
+    ∙ ap (rows_of new)
+    (ap (filter p) (posting_line-step journal item)
+    ∙ filter-put_all p (filter (is_spared item) line) (entries journal item) (entries-late journal item until none closed)
+    ∙ filter-implied p (is_spared item) line (λ e held early. spared-early journal item until e sound none closed held early))
     ∙ rows-same journal new [] (filter p line) (adds-same journal item until sound none closed)
     ∙ sym (rows-front until journal [] line (line-order journal until) refl)
 

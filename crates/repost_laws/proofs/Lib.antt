@@ -12,7 +12,6 @@ pub mod MoreCharges
 pub mod ChangedCharges
 pub mod MoreRecords
 pub mod ChangedJournals
-pub mod MoreMovements
 pub mod ClosedRows
 pub mod SincePublished
 pub mod SinceChanges
@@ -24,5 +23,5 @@ pub mod LooksTouched
 pub mod LooksLeft
 pub mod LooksStarted
 pub mod InOrderFound
-pub mod NothingGone
+pub mod MadeEntries
 pub mod WholeSteps

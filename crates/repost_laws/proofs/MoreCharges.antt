@@ -1,35 +1,33 @@
 -- More records change what is charged to the lines alone that they charge something to.
-use Rattle.std.proofs.Common.{◌≡◌, ℕ, ◌+◌, Bool, false, cond, List, [], ◌∷◌, ◌++◌, ◌<◌, ◌^◌, ◌||◌, length, map, sum, unsigned_abs, refl, sym, ap, ◌∙◌, subst, arith, append_assoc}
+use Rattle.std.proofs.Common.{◌≡◌, ℕ, ◌+◌, ◌*◌, ◌≤◌, Bool, false, cond, List, [], ◌∷◌, ◌++◌, ◌<◌, ◌^◌, ◌||◌, length, map, sum, unsigned_abs, refl, sym, ap, ◌∙◌, arith, length-append}
 use Rattle.std.specs.List.{flat_map, zip, list_any}
 use Rattle.std.specs.Option.{option_map_or}
-use Rattle.std.proofs.lemmas.Grind.{flat_map-append}
 use Rattle.std.proofs.lemmas.List.Folds.{list_any-append}
 use Rattle.stock_nums.specs.Shares.{shares}
 use Rattle.stock_nums.specs.Targets.{is_same_target}
 use Rattle.stock_nums.specs.declared.cause.Target.{Target}
+use Rattle.stock_nums.specs.declared.limits.TheConstants.{MAX_AMOUNT}
 use Rattle.stock_model.specs.Faults.{lacks_target}
-use Rattle.stock_model.specs.Journals.{AreLegal, AreSoundAfter, AreSound}
+use Rattle.stock_model.specs.Journals.{AreLegal}
 use Rattle.stock_model.specs.LandedCost.{line_weight, weight, weights, charged, record_charged, is_charge_of, added}
 use Rattle.stock_model.specs.TargetLines.{target_line}
 use Rattle.stock_model.specs.VoucherLines.{landed_target, charged_targets}
 use Rattle.stock_model.specs.declared.records.Record.{Record}
 use Rattle.stock_model.specs.declared.vouchers.Basis.{Basis}
 use Rattle.stock_model.specs.declared.vouchers.What.{What}
-use Rattle.stock_model.specs.declared.vouchers.What.TheVariants.{Item, Store, Receipt, Issue, Transfer, CustomerReturn, SupplierReturn, Landed, Freeze}
-use Rattle.stock_model.proofs.Growth.{all_charged-all}
-use Rattle.stock_model.proofs.NoFaults.{NoFaults, NoFaults-from}
+use Rattle.stock_model.specs.declared.vouchers.What.TheVariants.{Item, Store, Receipt, Issue, Transfer, CustomerReturn, SupplierReturn, Landed, Freeze, Cancel}
+use Rattle.stock_model.proofs.NoFaults.{NoFaults, held-target}
 use Rattle.stock_model.proofs.Numbered.{Fails, first_line-none}
 use Rattle.stock_model.proofs.Pairwise.{Each}
 use Rattle.stock_model.proofs.TargetItems.{some-from}
-use Rattle.stock_laws.proofs.Legality.{AreSound-from, IsHeld-legal}
+use Rattle.stock_laws.proofs.Legality.{IsHeld-legal}
 use Rattle.stock_laws.proofs.RecordsAt.{target_line-append}
 use Rattle.cost_links.specs.Charged.{charged_to}
-use Rattle.cost_links.proofs.ChargeSums.{charged_to-cons, charged_to-append, length-shares, length-weights}
+use Rattle.cost_links.proofs.ChargeSums.{charged_to-cons, charged_to-append, charged-le, length-shares, length-weights}
 use Rattle.cost_links.proofs.LinkSteps.{added-le}
 use Rattle.repost_laws.specs.Fetches.{charges_after, is_charged_in}
-use Rattle.repost_laws.specs.Touched.{is_the_line, charges_to, is_charged_by}
+use Rattle.repost_laws.specs.Touched.{is_the_line, is_charged_by}
 use Rattle.repost_laws.proofs.Filtered.{or_false}
-use Rattle.repost_laws.proofs.JournalFronts.{AreSoundAfter-first}
 
 -- the weights of lines that a journal has are the same in a longer one
 weights-longer : (journal more : List Record) (basis : Basis) (targets : List Target)
@@ -37,7 +35,7 @@ weights-longer : (journal more : List Record) (basis : Basis) (targets : List Ta
     ≡ weights journal basis targets
 weights-longer journal more basis [] known = refl
 weights-longer journal more basis (target ∷ targets) known =
-    let found = some-from (target_line journal (landed_target target)) known.0 in
+    let found = some-from (target_line journal (landed_target target)) (held-target journal (landed_target target) known.0) in
     let own : weight (journal ++ more) basis target ≡ weight journal basis target = ap
     (λ o. option_map_or (line_weight basis) o 0) (target_line-append journal more (landed_target target) found.0 found.1
     ∙ sym found.1) in
@@ -59,22 +57,7 @@ charged-longer journal more (Landed charge basis targets) sound =
     (weights-longer journal more basis targets (first_line-none (lacks_target journal) 1
     (map landed_target targets) sound.known))
 charged-longer journal more (Freeze until) sound = refl
-
--- what the records of a sound journal charge, whatever records follow
-charges-longer : (done rest more : List Record) → AreSoundAfter done rest
-    → flat_map (record_charged ((done ++ rest) ++ more)) rest ≡ flat_map (record_charged (done ++ rest)) rest
-charges-longer done [] more sound = refl
-charges-longer done (r ∷ rest) more sound =
-    let own = NoFaults-from done r.what sound.0 in
-    let long : charged ((done ++ r ∷ rest) ++ more) r.what ≡ charged done r.what =
-    ap (λ (j : List Record). charged j r.what) (append_assoc done (r ∷ rest) more)
-    ∙ charged-longer done (r ∷ rest ++ more) r.what own in
-    let short : charged (done ++ r ∷ rest) r.what ≡ charged done r.what = charged-longer done (r ∷ rest) r.what own in
-    let others : flat_map (record_charged ((done ++ r ∷ rest) ++ more)) rest ≡ flat_map (record_charged (done ++ r ∷ rest)) rest =
-    subst (λ (j : List Record). flat_map (record_charged (j ++ more)) rest ≡ flat_map (record_charged j) rest)
-    (append_assoc done (r ∷ []) rest) (charges-longer (done ++ r ∷ []) rest more sound.1) in
-    ap (λ cs. cs ++ flat_map (record_charged ((done ++ r ∷ rest) ++ more)) rest) (long ∙ sym short)
-    ∙ ap (λ cs. charged (done ++ r ∷ rest) r.what ++ cs) others
+charged-longer journal more (Cancel cancelled) sound = refl
 
 -- nothing is charged to a line that is none of the targets
 zip-none : (line : Target) (targets : List Target) (ns : List ℕ) → list_any (is_the_line line) targets ≡ false
@@ -99,35 +82,7 @@ charged-none journal (SupplierReturn at lines) line none = refl
 charged-none journal (Landed charge basis targets) line none = zip-none line targets
     (shares (unsigned_abs charge.0) (weights journal basis targets)) none
 charged-none journal (Freeze until) line none = refl
-
-charges-none : (journal more : List Record) (line : Target) → is_charged_by more line ≡ false
-    → charged_to line (flat_map (record_charged journal) more) ≡ 0
-charges-none journal [] line none = refl
-charges-none journal (r ∷ more) line none =
-    let other = or_false (charges_to line r) (is_charged_by more line) none in
-    omega (
-      arith,
-      charged_to-append line (record_charged journal r)
-          (flat_map (record_charged journal) more),
-      charged-none journal r.what line other.0,
-      charges-none journal more line other.1,
-    )
-
--- what more records charge is added
-pub added-longer : (journal more : List Record) (line : Target) → AreSound journal
-    → added (journal ++ more) line ≡ added journal line + charged_to line (charges_after journal more)
-added-longer journal more line sound =
-    let all = journal ++ more in
-    let parts = ap (charged_to line) (all_charged-all all ∙ flat_map-append (record_charged all) journal more)
-    ∙ charged_to-append line (flat_map (record_charged all) journal) (flat_map (record_charged all) more) in
-    let before = ap (charged_to line) (charges-longer [] journal more sound ∙ sym (all_charged-all journal)) in
-    omega (arith, parts, before)
-
--- so other lines have the sum of charges that they had
-pub added-more : (journal more : List Record) (line : Target) → AreSound journal → is_charged_by more line ≡ false
-    → added (journal ++ more) line ≡ added journal line
-added-more journal more line sound none =
-    omega (arith, added-longer journal more line sound, charges-none (journal ++ more) more line none)
+charged-none journal (Cancel cancelled) line none = refl
 
 -- a line is one of the targets exactly where one of as many charges is to it
 any-zip : (line : Target) (targets : List Target) (ns : List ℕ) → length ns ≡ length targets
@@ -151,6 +106,7 @@ charged-named journal (Landed charge basis targets) line =
     any-zip line targets (shares (unsigned_abs charge.0) ws)
     (length-shares (unsigned_abs charge.0) 0 (sum ws) ws ∙ length-weights journal basis targets)
 charged-named journal (Freeze until) line = refl
+charged-named journal (Cancel cancelled) line = refl
 
 charges-named : (journal more : List Record) (line : Target)
     → is_charged_by more line ≡ is_charged_in (flat_map (record_charged journal) more) line
@@ -165,14 +121,27 @@ pub is_charged_by-more : (journal more : List Record) (line : Target)
     → is_charged_by more line ≡ is_charged_in (charges_after journal more) line
 is_charged_by-more journal more line = charges-named (journal ++ more) more line
 
+-- what more records charge to a line is at most so much
+charges_after-le : (journal more : List Record) (line : Target) → charged_to line (flat_map (record_charged journal) more) ≤ length more * MAX_AMOUNT
+charges_after-le journal [] line = omega arith
+charges_after-le journal (r ∷ more) line =
+    let longer : length (r ∷ more) ≡ length more + 1 = omega arith in
+    omega (
+      arith,
+      longer,
+      charged_to-append line (record_charged journal r) (flat_map (record_charged journal) more),
+      charged-le journal r.what line r.limits,
+      charges_after-le journal more line,
+    )
+
 -- all that is charged to a line has room
 pub charges-fit : (journal more : List Record) (line : Target) → AreLegal (journal ++ more)
     → added journal line + charged_to line (charges_after journal more) < 2 ^ 128
 charges-fit journal more line legal =
-    let sound = AreSoundAfter-first [] journal more (AreSound-from (journal ++ more) legal) in
     omega (
       arith,
-      added-longer journal more line sound,
-      added-le (journal ++ more) line,
+      added-le journal line,
+      charges_after-le (journal ++ more) more line,
+      length-append journal more,
       (IsHeld-legal (journal ++ more) legal).records,
     )

@@ -1,5 +1,5 @@
 -- What a build keeps is kept by each of its steps.
-use Rattle.std.proofs.Common.{◌≡◌, ℕ, pos, ◌+◌, ◌*◌, ◌≤◌, ◌≤ℤ◌, ℤ, Bool, true, false, cond, ◌&&◌, ◌||◌, List, [], ◌∷◌, ◌++◌, length, take, drop, filter, Some, None, inl, inr, refl, sym, ap, ◌∙◌, subst, arith, int_le, length-take, length-append, Contains}
+use Rattle.std.proofs.Common.{◌≡◌, ℕ, pos, ◌+◌, ◌≤◌, ◌≤ℤ◌, ℤ, true, ◌&&◌, ◌||◌, List, [], ◌++◌, length, take, drop, filter, Some, None, inl, inr, refl, sym, ap, ◌∙◌, subst, arith, int_le, length-take, length-append, Contains}
 use Rattle.std.proofs.lemmas.Bool.Decides.{nat_tests}
 use Rattle.std.proofs.lemmas.Int.{ints}
 use Rattle.std.proofs.lemmas.List.{take-append-le, take-append-drop, take_all}
@@ -17,15 +17,15 @@ use Rattle.stock_model.specs.declared.records.Record.{Record}
 use Rattle.stock_laws.proofs.Legality.{AreLegal-take}
 use Rattle.stock_laws.proofs.PostingLine.{IsInPostingOrder-posting_line}
 use Rattle.repost_laws.specs.Builds.{Suspects, IsBuilt, IsClean, IsTurn, ValuedSince, IsValuedAt, IsSince, is_as_published, is_row_left}
-use Rattle.repost_laws.specs.Changes.{goes_with, both_lines, is_recharged, HasLiveTargets}
-use Rattle.repost_laws.specs.Touched.{is_touched, is_touched_by, is_charged_by}
+use Rattle.repost_laws.specs.Changes.{goes_with, both_lines, is_recharged}
+use Rattle.repost_laws.specs.Touched.{is_touched_by}
 use Rattle.repost_laws.specs.Valuations.{Valued, Found, nothing_found, worth_of, no_worth, valuation, found_rows}
 use Rattle.repost_laws.specs.WholeBuilds.{made, worth_at, IsWorthInRange, IsBuildOf, none_suspect, none_valued}
 use Rattle.repost_laws.proofs.FirstSuspect.{first-can}
 use Rattle.repost_laws.proofs.LocalRows.{found_rows-replay}
 use Rattle.repost_laws.proofs.ChangedLines.{IsBuilt-change}
 use Rattle.repost_laws.proofs.ChangedJournals.{IsChange-more}
-use Rattle.repost_laws.proofs.NothingGone.{HasLiveTargets-all, touched-none, rows-none, length-line-made, made-line, made-grows}
+use Rattle.repost_laws.proofs.MadeEntries.{length-line-made, made-grows}
 use Rattle.repost_laws.proofs.SinceChanges.{IsSince-start, IsSince-change, IsSince-turn, replay-changed}
 use Rattle.repost_laws.proofs.TurnCounts.{AreAhead-turn, AreFew-start, AreFew-fetch, AreFew-turn}
 use Rattle.repost_laws.proofs.Turns.{place-cases, IsBuilt-turn}
@@ -63,11 +63,11 @@ first-same journal more n within = sym (take-append-le n journal more within)
 -- further records, which bring movements and may take some away
 pub IsBuildOf-change : (journal more : List Record) (n : ℕ) (found : Found) (suspects new_suspects : Suspects)
     (valued : ValuedSince) (fetches turns : ℕ) → IsBuildOf journal n found suspects valued fetches turns
-    → AreLegal (journal ++ more) → HasLiveTargets (journal ++ more)
+    → AreLegal (journal ++ more)
     → ((e : Entry) → Contains (posting_line (journal ++ more)) e → new_suspects e.place
     ≡ (suspects e.place || is_touched_by (length journal) (goes_with journal more) (is_recharged journal more) (both_lines journal more) e))
     → IsBuildOf (journal ++ more) n found new_suspects valued (fetches + 1) (turns + 1)
-IsBuildOf-change journal more n found suspects new_suspects valued fetches turns build legal live marked =
+IsBuildOf-change journal more n found suspects new_suspects valued fetches turns build legal marked =
     let line = posting_line journal in
     let all = journal ++ more in
     let new_line = posting_line all in
@@ -75,7 +75,7 @@ IsBuildOf-change journal more n found suspects new_suspects valued fetches turns
     let gone = goes_with journal more in
     let charged_by = is_recharged journal more in
     let both = both_lines journal more in
-    let change = IsChange-more journal more found suspects new_suspects legal live marked in
+    let change = IsChange-more journal more found suspects new_suspects legal marked in
     let was = build.published in
     let first = first-same journal more n was.within in
     record {
@@ -93,17 +93,6 @@ IsBuildOf-change journal more n found suspects new_suspects valued fetches turns
             since = IsSince-change n m was.published gone charged_by both (added journal) line found suspects (added all) new_line found new_suspects valued was.within change was.since;
           };
     }
-
--- as yet none takes any away
-pub IsBuildOf-fetch : (journal more : List Record) (n : ℕ) (found : Found) (suspects new_suspects : Suspects)
-    (valued : ValuedSince) (fetches turns : ℕ) → IsBuildOf journal n found suspects valued fetches turns
-    → AreLegal (journal ++ more)
-    → ((e : Entry) → Contains (posting_line (journal ++ more)) e → new_suspects e.place
-    ≡ (suspects e.place || is_touched (length journal) (is_charged_by more) (posting_line (journal ++ more)) e))
-    → IsBuildOf (journal ++ more) n found new_suspects valued (fetches + 1) (turns + 1)
-IsBuildOf-fetch journal more n found suspects new_suspects valued fetches turns build legal marked =
-    IsBuildOf-change journal more n found suspects new_suspects valued fetches turns build legal (HasLiveTargets-all (journal ++ more))
-    (λ e held. marked e held ∙ ap (λ (b : Bool). suspects e.place || b) (sym (touched-none journal more e)))
 
 -- what is valued is worth from 0 to 3*10^17
 range-of : (v : ℤ) → (int_le (pos 0) v && int_le v (pos MAX_VALUE)) ≡ true → (pos 0 ≤ℤ v) × (v ≤ℤ pos MAX_VALUE)
@@ -198,17 +187,3 @@ rows-changed journal n found suspects valued fetches turns build clean =
     (subst (λ (j : List Record). IsClean (posting_line j) suspects) whole clean)
     (subst (λ (m : ℕ). IsSince m was.published (posting_line (front ++ rest)) found suspects valued) count
     (subst (λ (j : List Record). IsSince n was.published (posting_line j) found suspects valued) whole was.since)))
-
--- as yet no row goes
-pub rows-others : (journal : List Record) (n : ℕ) (found : Found) (suspects : Suspects) (valued : ValuedSince)
-    (fetches turns : ℕ) → IsBuildOf journal n found suspects valued fetches turns → IsClean (posting_line journal) suspects
-    → filter (is_as_published valued) (replay journal) ≡ filter (is_as_published valued) (replay (take n journal))
-rows-others journal n found suspects valued fetches turns build clean =
-    rows-changed journal n found suspects valued fetches turns build clean
-    ∙ ap (filter (is_as_published valued)) (rows-none (take n journal) (drop n journal) (replay (take n journal)))
-
--- and there were no more movements than there are
-pub few-turns : {journal : List Record} {n : ℕ} {found : Found} {suspects : Suspects} {valued : ValuedSince} {fetches turns : ℕ}
-    → IsBuildOf journal n found suspects valued fetches turns → turns ≤ fetches * (length (posting_line journal) + 1)
-few-turns {journal} {n} {found} {suspects} {valued} {fetches} {turns} build =
-    subst (λ (entries : ℕ). turns ≤ fetches * (entries + 1)) (made-line journal) build.counted.few.bound

@@ -1,8 +1,6 @@
 -- What further records do to a journal: which movements come and which go, and which lines have another sum of charges.
-use Rattle.std.specs.Prelude.{ℕ, ◌≡◌, Bool, true, ◌&&◌, ◌||◌, not, List, ◌++◌, length, filter, nat_lt, Contains}
+use Rattle.std.specs.Prelude.{ℕ, Bool, ◌&&◌, ◌||◌, not, List, ◌++◌, length, filter, nat_lt}
 use Rattle.std.specs.List.{enumerate_from, list_any}
-use Rattle.stock_nums.specs.declared.cause.Cause.{Cause}
-use Rattle.stock_nums.specs.declared.cause.Cause.TheVariants.{CustomerReturn}
 use Rattle.stock_nums.specs.declared.cause.Target.{Target}
 use Rattle.stock_nums.specs.declared.entry.Entry.{Entry}
 use Rattle.stock_model.specs.Entries.{entries_after, is_live, is_live_entry}
@@ -29,12 +27,3 @@ recharges n live new_live line (k, item) = (nat_lt n k || (live k && not (new_li
 abbrev pub is_recharged : List Record → List Record → Target → Bool
 is_recharged journal more line =
     list_any (recharges (length journal) (is_live journal) (is_live (journal ++ more)) line) (enumerate_from 1 (journal ++ more))
-
--- where the cause is a customer's return, it is of a line of a record in force
-abbrev pub IsOfLiveLine : List Record → Cause → Type 0
-IsOfLiveLine journal (CustomerReturn target issued) = is_live journal target.voucher.0 ≡ true
-IsOfLiveLine journal _ = Unit {0}
-
--- so are all that customers return
-abbrev pub HasLiveTargets : List Record → Type 0
-HasLiveTargets journal = (e : Entry) → Contains (posting_line journal) e → IsOfLiveLine journal e.cause

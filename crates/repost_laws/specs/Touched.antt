@@ -1,5 +1,5 @@
 -- Which movements need a new value when records come in, and when what was found of one movement changes.
-use Rattle.std.specs.Prelude.{ℕ, ◌≡◌, Bool, false, ◌&&◌, ◌||◌, ◌==◌, not, List, [], filter, nat_lt, Option, Some, Contains, ◌⊎◌}
+use Rattle.std.specs.Prelude.{ℕ, ◌≡◌, Bool, false, ◌&&◌, ◌||◌, ◌==◌, not, List, filter, nat_lt, Option, Some, Contains, ◌⊎◌}
 use Rattle.std.specs.List.{find, list_any}
 use Rattle.std.specs.Option.{option_map, option_map_or}
 use Rattle.std.specs.Ordering.{int_eq}

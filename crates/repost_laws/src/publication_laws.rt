@@ -8,44 +8,14 @@ ghost use Rattle.stock_model.specs.LandedCost.{added};
 ghost use Rattle.stock_model.specs.PostingOrder.{posting_line};
 ghost use Rattle.stock_model.specs.Replay.{replay};
 ghost use Rattle.stock_model.specs.declared.records.Record.{Record};
-ghost use Rattle.repost_laws.specs.Builds.{Suspects, IsBuilt, IsClean, IsFetch, IsTurn};
-ghost use Rattle.repost_laws.specs.Builds.{IsChange, ValuedSince, IsValuedAt, IsSincePublished, IsSince, is_as_published, is_row_left};
+ghost use Rattle.repost_laws.specs.Builds.{Suspects, IsBuilt, IsClean, IsTurn};
+ghost use Rattle.repost_laws.specs.Builds.{IsChange, ValuedSince, IsValuedAt, IsSince, is_as_published, is_row_left};
 ghost use Rattle.repost_laws.specs.Changes.{goes_with};
 ghost use Rattle.repost_laws.specs.Valuations.{Found};
 
-/// From a publication on it is known where what was found may differ from what was published: at the places that were
-/// valued since. A publication starts so, and fetches and turns keep it.
+/// From a publication on it is known where what was found may differ from what was published: at the places that were valued
+/// since, and at those of movements that came. A publication starts so, and changes and turns keep it.
 pub fn what_was_valued_since_is_known()
-    ensures start { (journal : List Record) (found : Found) (suspects : Suspects) (valued : ValuedSince) → AreLegal journal
-        → ((place : Place) → valued place ≡ false)
-        → IsSincePublished (length journal) found (posting_line journal) found suspects valued }
-    ensures fetch { (n m : ℕ) (published found : Found) (is_charged : Target → Bool) (charged : Target → ℕ) (line : List Entry)
-        (suspects : Suspects) (new_charged : Target → ℕ) (new_line : List Entry) (new_suspects : Suspects) (valued : ValuedSince)
-        → IsFetch m is_charged charged line suspects new_charged new_line new_suspects
-        → IsSincePublished n published line found suspects valued
-        → IsSincePublished n published new_line found new_suspects valued }
-    ensures turn { (n : ℕ) (published : Found) (charged : Target → ℕ) (line : List Entry) (found : Found)
-        (suspects : Suspects) (e : Entry) (new_found : Found) (new_suspects : Suspects) (valued new_valued : ValuedSince)
-        → IsTurn charged line found suspects e new_found new_suspects → IsValuedAt valued new_valued e.place
-        → IsSincePublished n published line found suspects valued
-        → IsSincePublished n published line new_found new_suspects new_valued }
-{}
-
-/// Where there is no suspect, the replay of a journal with more records has the rows of the replay that was published, but
-/// for those at places that were valued since.
-pub fn a_publication_changes_what_was_valued()
-    ensures { (journal more : List Record) (published found : Found) (suspects first_suspects : Suspects)
-        (valued : ValuedSince) → AreLegal journal → AreLegal (journal ++ more)
-        → IsBuilt (added journal) (posting_line journal) published first_suspects
-        → IsClean (posting_line journal) first_suspects
-        → IsBuilt (added (journal ++ more)) (posting_line (journal ++ more)) found suspects
-        → IsClean (posting_line (journal ++ more)) suspects
-        → IsSincePublished (length journal) published (posting_line (journal ++ more)) found suspects valued
-        → filter (is_as_published valued) (replay (journal ++ more)) ≡ filter (is_as_published valued) (replay journal) }
-{}
-
-/// The same where movements go: it is known where what was found of those that are left may differ from what was published.
-pub fn what_was_valued_since_is_known_of_those_left()
     ensures start { (journal : List Record) (found : Found) (suspects : Suspects) (valued : ValuedSince) → AreLegal journal
         → ((place : Place) → valued place ≡ false)
         → IsSince (length journal) found (posting_line journal) found suspects valued }

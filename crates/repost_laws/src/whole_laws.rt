@@ -7,8 +7,8 @@ ghost use Rattle.stock_model.specs.PostingOrder.{posting_line};
 ghost use Rattle.stock_model.specs.Replay.{replay};
 ghost use Rattle.stock_model.specs.declared.records.Record.{Record};
 ghost use Rattle.repost_laws.specs.Builds.{Suspects, IsClean, IsTurn, ValuedSince, IsValuedAt, is_as_published, is_row_left};
-ghost use Rattle.repost_laws.specs.Changes.{goes_with, both_lines, is_recharged, HasLiveTargets};
-ghost use Rattle.repost_laws.specs.Touched.{is_touched, is_touched_by, is_charged_by};
+ghost use Rattle.repost_laws.specs.Changes.{goes_with, both_lines, is_recharged};
+ghost use Rattle.repost_laws.specs.Touched.{is_touched_by};
 ghost use Rattle.repost_laws.specs.Valuations.{Found, nothing_found, found_rows};
 ghost use Rattle.repost_laws.specs.WholeBuilds.{IsBuildOf, made, none_suspect, none_valued};
 
@@ -16,15 +16,9 @@ ghost use Rattle.repost_laws.specs.WholeBuilds.{IsBuildOf, made, none_suspect, n
 /// take movements away, where the first suspect is valued, and where no suspect is left and all is published.
 pub fn a_build_stays_one()
     ensures start { IsBuildOf [] 0 nothing_found none_suspect none_valued 0 0 }
-    ensures fetch { (journal more : List Record) (n : ℕ) (found : Found) (suspects new_suspects : Suspects)
-        (valued : ValuedSince) (fetches turns : ℕ) → IsBuildOf journal n found suspects valued fetches turns
-        → AreLegal (journal ++ more)
-        → ((e : Entry) → Contains (posting_line (journal ++ more)) e → new_suspects e.place
-        ≡ (suspects e.place || is_touched (length journal) (is_charged_by more) (posting_line (journal ++ more)) e))
-        → IsBuildOf (journal ++ more) n found new_suspects valued (fetches + 1) (turns + 1) }
     ensures change { (journal more : List Record) (n : ℕ) (found : Found) (suspects new_suspects : Suspects)
         (valued : ValuedSince) (fetches turns : ℕ) → IsBuildOf journal n found suspects valued fetches turns
-        → AreLegal (journal ++ more) → HasLiveTargets (journal ++ more)
+        → AreLegal (journal ++ more)
         → ((e : Entry) → Contains (posting_line (journal ++ more)) e → new_suspects e.place
         ≡ (suspects e.place || is_touched_by (length journal) (goes_with journal more) (is_recharged journal more) (both_lines journal more) e))
         → IsBuildOf (journal ++ more) n found new_suspects valued (fetches + 1) (turns + 1) }
@@ -39,15 +33,11 @@ pub fn a_build_stays_one()
         → IsBuildOf journal (length journal) found suspects none_valued 0 0 }
 {}
 
-/// Since the last publication there were no more turns than fetches times one more than there were ever movements, and so than
-/// there are.
+/// Since the last publication there were no more turns than fetches times one more than there were ever movements.
 pub fn a_build_takes_few_turns()
-    ensures made { (journal : List Record) (n : ℕ) (found : Found) (suspects : Suspects) (valued : ValuedSince)
+    ensures { (journal : List Record) (n : ℕ) (found : Found) (suspects : Suspects) (valued : ValuedSince)
         (fetches turns : ℕ) → IsBuildOf journal n found suspects valued fetches turns
         → turns ≤ fetches * (made journal + 1) }
-    ensures there { (journal : List Record) (n : ℕ) (found : Found) (suspects : Suspects) (valued : ValuedSince)
-        (fetches turns : ℕ) → IsBuildOf journal n found suspects valued fetches turns
-        → turns ≤ fetches * (length (posting_line journal) + 1) }
 {}
 
 /// Where no suspect is left, all that was found is the replay of the build's journal, whatever fetches came between, and of the
@@ -60,7 +50,4 @@ pub fn a_clean_build_leads_on()
         (fetches turns : ℕ) → IsBuildOf journal n found suspects valued fetches turns → IsClean (posting_line journal) suspects
         → filter (is_as_published valued) (replay journal)
         ≡ filter (is_as_published valued) (filter (is_row_left (goes_with (take n journal) (drop n journal))) (replay (take n journal))) }
-    ensures others { (journal : List Record) (n : ℕ) (found : Found) (suspects : Suspects) (valued : ValuedSince)
-        (fetches turns : ℕ) → IsBuildOf journal n found suspects valued fetches turns → IsClean (posting_line journal) suspects
-        → filter (is_as_published valued) (replay journal) ≡ filter (is_as_published valued) (replay (take n journal)) }
 {}

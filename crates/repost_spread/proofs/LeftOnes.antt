@@ -1,5 +1,5 @@
 -- The returns of a line among movements of which some are taken out.
-use Rattle.std.proofs.Common.{◌≡◌, ℕ, ◌+◌, ◌<◌, Bool, true, false, cond, ◌||◌, not, List, [], ◌∷◌, ◌++◌, length, drop, get_or, map, filter, fold, Contains, inl, inr, refl, sym, ap, ◌∙◌, subst, arith}
+use Rattle.std.proofs.Common.{◌≡◌, Bool, true, false, cond, ◌||◌, not, List, [], ◌∷◌, filter, fold, Contains, inl, inr, refl, sym, ap, ◌∙◌, subst}
 use Rattle.std.specs.List.Sorted.{IsPermutation}
 use Rattle.std.proofs.lemmas.Bool.{false≢true}
 use Rattle.std.proofs.lemmas.List.Elements.{filter_agree}
@@ -9,12 +9,12 @@ use Rattle.stock_nums.specs.declared.entry.Entry.{Entry}
 use Rattle.stock_nums.specs.declared.place.Place.{Place}
 use Rattle.stock_nums.proofs.PlaceOrder.{is_before-irreflexive, is_before-total}
 use Rattle.stock_model.specs.InOrder.{IsBefore, IsInPostingOrder}
-use Rattle.stock_model.proofs.Pairwise.{Precedes-Contains, Pairwise-from_AllPairs, AllPairs-from_Pairwise, Each, Each-weaker, Contains-first, Contains-later}
+use Rattle.stock_model.proofs.Pairwise.{Precedes-Contains, Pairwise-from_AllPairs, AllPairs-from_Pairwise, Each-weaker, Contains-first, Contains-later}
 use Rattle.stock_laws.proofs.LiveEntries.{filter-passes}
 use Rattle.cost_links.specs.Sources.{is_elsewhere, left_by}
 use Rattle.key_order.specs.SamePlace.{is_same_place}
 use Rattle.key_order.proofs.SamePlaces.{is_same_place-true, is_same_place-refl, is_same_place-before, is_same_place-after}
-use Rattle.posting_order.specs.Timelines.{is_at, without}
+use Rattle.posting_order.specs.Timelines.{is_at}
 use Rattle.posting_order.proofs.KeyLines.{Each-kept, filter-swap, own-place}
 use Rattle.posting_order.proofs.Parting.{fails_from_not_passes}
 use Rattle.quantity_check.specs.OwnPlaces.{StandApart, HaveOwnPlaces}

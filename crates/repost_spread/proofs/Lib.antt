@@ -8,6 +8,7 @@ pub mod TakingLayers
 pub mod TakingLines
 pub mod TakingReturns
 pub mod TouchingMarks
+pub mod RecordsAmong
 pub mod TouchingAll
 pub mod TouchingLines
 pub mod TouchingWalk

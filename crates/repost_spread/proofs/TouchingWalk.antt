@@ -1,9 +1,8 @@
--- A walk over the movements of an item in a warehouse that come after a new one, up to the next new one.
-use Rattle.std.proofs.Common.{◌≡◌, ℕ, ◌<◌, ◌≤◌, Bool, true, false, cond, ◌&&◌, List, [], ◌∷◌, length, filter, Some, None, nat_lt, Contains, ◌⊎◌, inl, inr, refl, sym, ap, ◌∙◌, subst, arith}
+-- A walk over the movements of an item in a warehouse that come after one that passes a test, up to the next that does.
+use Rattle.std.proofs.Common.{◌≡◌, ℕ, ◌<◌, ◌≤◌, Bool, true, false, cond, ◌&&◌, List, [], ◌∷◌, length, filter, Some, None, Contains, ◌⊎◌, inl, inr, refl, sym, ap, ◌∙◌, subst, arith}
 use Rattle.std.specs.List.{find}
 use Rattle.std.specs.Option.{option_map}
 use Rattle.std.proofs.lemmas.Bool.{false≢true}
-use Rattle.std.proofs.lemmas.Bool.Decides.{nat_tests}
 use Rattle.std.proofs.lemmas.Option.{none-some}
 use Rattle.stock_nums.specs.Places.{is_before}
 use Rattle.stock_nums.specs.declared.entry.Entry.{Entry}
@@ -16,7 +15,6 @@ use Rattle.stock_model.proofs.Pairwise.{Pairwise, Pairwise-from_AllPairs, Preced
 use Rattle.stock_laws.proofs.CostedRows.{both}
 use Rattle.stock_laws.proofs.Enough.{is_same_key-true, is_same_key-refl}
 use Rattle.cost_links.specs.Sources.{entry_place}
-use Rattle.repost_laws.specs.Touched.{is_new}
 use Rattle.repost_laws.proofs.Turns.{both-true, false-from}
 use Rattle.repost_spread.specs.Movements.{line_of}
 use Rattle.repost_spread.specs.Marks.{AreMarked}
@@ -33,10 +31,10 @@ comes_after key place f = is_of_key key f && is_before place f.place
 abbrev pub behind : List Entry → Place → ℕ
 behind line place = length (filter (λ f. is_before place f.place) line)
 
--- the place is the movement's or a later one, and none new of its item in its warehouse comes after it up to there
-pub record IsWalked (n : ℕ) (line : List Entry) (e : Entry) (last : Place) : Type 0 where
+-- the place is the movement's or a later one, and none of its item in its warehouse that passes comes after it up to there
+pub record IsWalked (test : Entry → Bool) (line : List Entry) (e : Entry) (last : Place) : Type 0 where
   pub onward : (last ≡ e.place) ⊎ (is_before e.place last ≡ true)
-  pub old : (h : Entry) → Contains line h → is_new n h ≡ true → is_of_key (entry_key e) h ≡ true → is_before e.place h.place ≡ true
+  pub old : (h : Entry) → Contains line h → test h ≡ true → is_of_key (entry_key e) h ≡ true → is_before e.place h.place ≡ true
       → is_before last h.place ≡ false → ⊥
 
 -- the movement leaves first in, first out after that one, and not after the place
@@ -121,14 +119,14 @@ key-swap : (e f : Entry) → is_of_key (entry_key f) e ≡ true → is_of_key (e
 key-swap e f one = key-same e f f one (is_same_key-refl (entry_key f))
 
 -- the walk begins
-pub walk-begins : (n : ℕ) (line : List Entry) (e : Entry) → IsWalked n line e e.place
-walk-begins n line e = record { onward = inl refl; old = λ h held new own before not_after. false≢true (sym not_after ∙ before) }
+pub walk-begins : (test : Entry → Bool) (line : List Entry) (e : Entry) → IsWalked test line e e.place
+walk-begins test line e = record { onward = inl refl; old = λ h held new own before not_after. false≢true (sym not_after ∙ before) }
 
 pub none-passed : (e f : Entry) → IsPassed e e.place f → ⊥
 none-passed e f is = false≢true (sym is.3 ∙ is.2)
 
 -- a step of it, to the first movement of the key that comes after the place
-module _ (n : ℕ) (line : List Entry) (e : Entry) (last place : Place) (in_order : IsInPostingOrder line) (walked : IsWalked n line e last)
+module _ (test : Entry → Bool) (line : List Entry) (e : Entry) (last place : Place) (in_order : IsInPostingOrder line) (walked : IsWalked test line e last)
     (next : FoundAt (comes_after (entry_key e) last) line place) where
   x-after : is_before last next.e.place ≡ true
   x-after = (both-true (is_of_key (entry_key e) next.e) (is_before last next.e.place) next.passes).1
@@ -187,10 +185,10 @@ module _ (n : ℕ) (line : List Entry) (e : Entry) (last place : Place) (in_orde
         subst (λ (p : Place). is_before place p ≡ false) (sym at) (is_before-irreflexive place),
       )
 
-  pub walk-goes_on : is_new n next.e ≡ false → IsWalked n line e place
+  pub walk-goes_on : test next.e ≡ false → IsWalked test line e place
   walk-goes_on is_old = record { onward = inr after-own; old = old }
     where
-      old : (h : Entry) → Contains line h → is_new n h ≡ true → is_of_key (entry_key e) h ≡ true → is_before e.place h.place ≡ true
+      old : (h : Entry) → Contains line h → test h ≡ true → is_of_key (entry_key e) h ≡ true → is_before e.place h.place ≡ true
           → is_before place h.place ≡ false → ⊥
       old h held new own before not_after = by_cases (is_before last h.place) refl
         where
@@ -198,7 +196,7 @@ module _ (n : ℕ) (line : List Entry) (e : Entry) (last place : Place) (in_orde
           by_cases false after = walked.old h held new own before after
           by_cases true after =
               elim (on-or-after h held own after) [
-                | inl same ↦ false≢true (sym is_old ∙ ap (is_new n) (sym same) ∙ new)
+                | inl same ↦ false≢true (sym is_old ∙ ap (test) (sym same) ∙ new)
                 | inr later ↦ false≢true (sym not_after ∙ later)
               ]
 
@@ -208,12 +206,12 @@ module _ (n : ℕ) (line : List Entry) (e : Entry) (last place : Place) (in_orde
       (λ f later. is_before-transitive last place f.place after-last later) line next.e next.held
       (subst (λ (p : Place). is_before place p ≡ false) (sym next.at) (is_before-irreflexive place)) x-after
 
-  -- it ends at a new one
-  pub ends-next : (f : Entry) → Contains line e → is_new n e ≡ true → IsPassed e place f → LeavesNext n line e f
+  -- it ends at one that passes
+  pub ends-next : (f : Entry) → Contains line e → test e ≡ true → IsPassed e place f → LeavesNext test line e f
   ends-next f own_held own_new is =
       (is.0.0, is.0.1, record { held = own_held; new = own_new; of_key = key-swap f e is.1; before = is.2; none_between = between })
     where
-      between : (h : Entry) → Contains line h → is_new n h ≡ true → is_of_key (entry_key f) h ≡ true → is_before e.place h.place ≡ true
+      between : (h : Entry) → Contains line h → test h ≡ true → is_of_key (entry_key f) h ≡ true → is_before e.place h.place ≡ true
           → is_before h.place f.place ≡ true → ⊥
       between h held new own after before = by_cases (is_before last h.place) refl
         where
@@ -228,7 +226,7 @@ module _ (n : ℕ) (line : List Entry) (e : Entry) (last place : Place) (in_orde
                 | inr more ↦ false≢true (sym is.3 ∙ is_before-transitive place h.place f.place more before)
               ]
 
-  pub next-ends : (f : Entry) → is_new n next.e ≡ true → LeavesNext n line e f → IsPassed e place f
+  pub next-ends : (f : Entry) → test next.e ≡ true → LeavesNext test line e f → IsPassed e place f
   next-ends f new is = (
     (is.0, is.1),
     key-swap e f is.2.of_key,
@@ -241,9 +239,9 @@ module _ (n : ℕ) (line : List Entry) (e : Entry) (last place : Place) (in_orde
   )
 
 -- it ends where no more of the key come
-pub ends-none : (n : ℕ) (line : List Entry) (e : Entry) (last : Place) (f : Entry) → IsWalked n line e last → Contains line e → is_new n e ≡ true
-    → IsPassed e last f → LeavesNext n line e f
-ends-none n line e last f walked own_held own_new is = (
+pub ends-none : (test : Entry → Bool) (line : List Entry) (e : Entry) (last : Place) (f : Entry) → IsWalked test line e last → Contains line e → test e ≡ true
+    → IsPassed e last f → LeavesNext test line e f
+ends-none test line e last f walked own_held own_new is = (
   is.0.0,
   is.0.1,
   record {
@@ -256,9 +254,9 @@ ends-none n line e last f walked own_held own_new is = (
   },
 )
 
-pub none-ends : (n : ℕ) (line : List Entry) (e : Entry) (last : Place) (f : Entry) → find (comes_after (entry_key e) last) line ≡ None
-    → Contains line f → LeavesNext n line e f → IsPassed e last f
-none-ends n line e last f none held is = (
+pub none-ends : (test : Entry → Bool) (line : List Entry) (e : Entry) (last : Place) (f : Entry) → find (comes_after (entry_key e) last) line ≡ None
+    → Contains line f → LeavesNext test line e f → IsPassed e last f
+none-ends test line e last f none held is = (
   (is.0, is.1),
   key-swap e f is.2.of_key,
   is.2.before,
@@ -267,7 +265,7 @@ none-ends n line e last f none held is = (
 )
 
 -- what a step marks, where what is found leaves and where it stays
-module _ (n : ℕ) (line : List Entry) (e : Entry) (last place : Place) (in_order : IsInPostingOrder line) (walked : IsWalked n line e last)
+module _ (test : Entry → Bool) (line : List Entry) (e : Entry) (last place : Place) (in_order : IsInPostingOrder line) (walked : IsWalked test line e last)
     (next : FoundAt (comes_after (entry_key e) last) line place) (old mid : Movements) (same : line_of old ≡ line)
     (were : AreMarked old mid (IsPassed e last)) where
   pub step-leaving : (new : Movements) → AreMarked mid new (λ f. f.place ≡ place)
@@ -275,18 +273,18 @@ module _ (n : ℕ) (line : List Entry) (e : Entry) (last place : Place) (in_orde
   step-leaving new are leaves =
       marked-as old new (λ f. IsPassed e last f ⊎ (f.place ≡ place)) (IsPassed e place)
       (λ f held either. elim either [
-        | inl before ↦ passed-before n line e last place in_order walked next f before
+        | inl before ↦ passed-before test line e last place in_order walked next f before
         | inr at ↦ let own = subst (λ (l : List Entry). Contains l f) same held in
-            passed-next n line e last place in_order walked next f own (leaves f own at) at
+            passed-next test line e last place in_order walked next f own (leaves f own at) at
       ])
-      (λ f held is. passed-more n line e last place in_order walked next f (subst (λ (l : List Entry). Contains l f) same held) is)
+      (λ f held is. passed-more test line e last place in_order walked next f (subst (λ (l : List Entry). Contains l f) same held) is)
       (marked-then old mid new (IsPassed e last) (λ f. f.place ≡ place) were are)
 
   pub step-staying : ((f : Entry) → Contains line f → f.place ≡ place → LeavesFirstIn f → ⊥) → AreMarked old mid (IsPassed e place)
   step-staying stays =
-      marked-as old mid (IsPassed e last) (IsPassed e place) (λ f held is. passed-before n line e last place in_order walked next f is)
+      marked-as old mid (IsPassed e last) (IsPassed e place) (λ f held is. passed-before test line e last place in_order walked next f is)
       (λ f held is. let own = subst (λ (l : List Entry). Contains l f) same held in
-      elim (passed-more n line e last place in_order walked next f own is) [
+      elim (passed-more test line e last place in_order walked next f own is) [
         | inl before ↦ before
         | inr at ↦ absurd (stays f own at is.0)
       ])
@@ -301,10 +299,3 @@ step-to line e last place key own is =
 pub step-none : (line : List Entry) (e : Entry) (last : Place) (key : Key) → key ≡ entry_key e
     → None ≡ option_map entry_place (find (comes_after key last) line) → find (comes_after (entry_key e) last) line ≡ None
 step-none line e last key own is = subst (λ (k : Key). find (comes_after k last) line ≡ None) own (found-none (comes_after key last) line is)
-
--- how a comparison of numbers ends
-pub below-tests : (n m : ℕ) → n < m → nat_lt n m ≡ true
-below-tests n m h = grind (arith, nat_tests)
-
-pub above-tests : (n m : ℕ) → m ≤ n → nat_lt n m ≡ false
-above-tests n m h = grind (arith, nat_tests)

@@ -14,7 +14,7 @@ use Rattle.stock_model.specs.declared.records.Record.{Record}
 use Rattle.stock_laws.proofs.Histories.{records-append, covered_after-append}
 use Rattle.stock_model.proofs.Pairwise.{Contains-first, Contains-later}
 use Rattle.repost_laws.specs.Touched.{is_new}
-use Rattle.repost_laws.proofs.WholeSteps.{few-turns}
+use Rattle.repost_laws.specs.WholeBuilds.{made}
 use Rattle.repost_build.specs.Readings.{turns_of, fetches_of, target_of, IsUnchanged}
 use Rattle.repost_build.specs.declared.build.Build.{Build}
 use Rattle.repost_worker.specs.Paces.{Pace, pace_of, movements_of, movements_after, IsInPace, IsAtRest, IsSamePace, WorksInPace, StopsInPace}
@@ -24,7 +24,7 @@ use Rattle.repost_worker.specs.Runs.{AreTurnsTo, AreAtWork, AreUntilRefused, IsR
 use Rattle.repost_worker.specs.declared.turn.Turned.{Turned}
 use Rattle.repost_worker.specs.declared.turn.Turned.TheVariants.{Valued, Fetched, Published, Idle}
 use Rattle.repost_worker.specs.declared.turn.TheConstants.{MAX_FETCHES}
-use Rattle.repost_worker.proofs.TurnsAhead.{movements-front}
+use Rattle.repost_worker.proofs.TurnsAhead.{made-front}
 use Rattle.repost_worker.proofs.OpenedOrder.{records-kept, covered-kept, take-front}
 use Rattle.repost_worker.proofs.Works.{turns-at_rest, clean-before}
 use Rattle.repost_worker.proofs.RunLaws.{covered-idle, covered-full, covered-many}
@@ -92,14 +92,14 @@ counted-run limit history build build' steps steps' waits run =
     ]
 
 few-counted : (history : List Deed) (build : Build) → IsWorkOf history build
-    → turns_of build ≤ MAX_FETCHES * (length (posting_line (records history)) + 1)
+    → turns_of build ≤ MAX_FETCHES * (made (records history) + 1)
 few-counted history build work =
-    let all = length (posting_line (records history)) in
-    let front = movements-front (records history) (target_of build) in
+    let all = made (records history) in
+    let front = made-front (records history) (target_of build) in
     omega (
       arith,
-      few-turns work.of.built,
-      mul-le-mul_left (fetches_of build) (let more : length (posting_line (records_of history build)) + 1 ≤ all + 1 = omega (arith, front) in more),
+      work.of.built.counted.few.bound,
+      mul-le-mul_left (fetches_of build) (let more : made (records_of history build) + 1 ≤ all + 1 = omega (arith, front) in more),
       mul-le-mul_left (all + 1) work.fetches,
       mul_comm (fetches_of build) (all + 1),
     )
@@ -229,10 +229,10 @@ module _ (old new : Pace) (keeps : KeepsAlone old.history new.history) where
 
   movements-alone : movements_of old.history ≤ movements_of new.history
   movements-alone =
-      let front = movements-front (records new.history) (accepted old.history) in
+      let front = made-front (records new.history) (accepted old.history) in
       let is : take (accepted old.history) (records new.history) ≡ records old.history =
       ap (take (accepted old.history)) records-alone ∙ take-front (records old.history) keeps.0 in
-      omega (arith, front, ap (λ (items : List Record). length (posting_line items)) is)
+      omega (arith, front, ap (λ (items : List Record). made items) is)
 
   pub in_pace-alone : IsInPace old → IsSamePace old new → IsInPace new
   in_pace-alone pace same =

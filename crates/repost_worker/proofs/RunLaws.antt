@@ -2,8 +2,8 @@
 use Rattle.std.proofs.Common.{◌≡◌, ℕ, ◌+◌, ◌*◌, ◌≤◌, List, [], ◌∷◌, ◌++◌, length, Option, Some, None, inl, inr, refl, sym, ap, ◌∙◌, subst, length-append, arith}
 use Rattle.stock_keeper.specs.declared.fault.KeepFault.{KeepFault}
 use Rattle.stock_model.specs.History.{records, accepted, covered}
-use Rattle.stock_model.specs.PostingOrder.{posting_line}
 use Rattle.stock_model.specs.declared.deeds.Deed.{Deed}
+use Rattle.repost_laws.specs.WholeBuilds.{made}
 use Rattle.repost_build.specs.declared.build.Build.{Build}
 use Rattle.repost_worker.specs.Turns.{IsWorkOf, IsTurnTo}
 use Rattle.repost_worker.specs.Runs.{AreTurnsTo, AreAtWork, AreAllUntil, IsRun}
@@ -51,7 +51,7 @@ covered-idle turns before history build history' build' is run =
 -- so it is where as many turns did something as may come
 pub covered-full : (turns : List Turned) (history : List Deed) (build : Build) (history' : List Deed) (build' : Build)
     → IsWorkOf history build → AreTurnsTo turns history build history' build' → AreAtWork turns
-    → 2 * length (posting_line (records history)) + 3 ≤ length turns → covered history' ≡ accepted history'
+    → 2 * made (records history) + 3 ≤ length turns → covered history' ≡ accepted history'
 covered-full turns history build history' build' work run at_work many =
     let fewer = turns_ahead-run turns history build history' build' (between-work history build work) run at_work in
     turns_ahead-none history' build' fewer.0 (omega (arith, fewer.1, turns_ahead-most history build, many))
@@ -59,14 +59,14 @@ covered-full turns history build history' build' work run at_work many =
 -- and no more of them can come
 few-at_work : (turns : List Turned) (history : List Deed) (build : Build) (history' : List Deed) (build' : Build)
     → IsWorkOf history build → AreTurnsTo turns history build history' build' → AreAtWork turns
-    → length turns ≤ 2 * length (posting_line (records history)) + 3
+    → length turns ≤ 2 * made (records history) + 3
 few-at_work turns history build history' build' work run at_work =
     let fewer = turns_ahead-run turns history build history' build' (between-work history build work) run at_work in
     omega (arith, fewer.1, turns_ahead-most history build)
 
 few-until : (stopped : Option KeepFault) (limit : Option ℕ) (turns : List Turned) (history : List Deed) (build : Build)
     (history' : List Deed) (build' : Build) → IsWorkOf history build → AreTurnsTo turns history build history' build'
-    → AreAllUntil stopped limit turns → length turns ≤ 2 * length (posting_line (records history)) + 4
+    → AreAllUntil stopped limit turns → length turns ≤ 2 * made (records history) + 4
 few-until None limit turns history build history' build' work run (inl idle) =
     let last = turns-last idle.before Idle history build history' build'
     (subst (λ (ts : List Turned). AreTurnsTo ts history build history' build') idle.last run) in
@@ -82,7 +82,7 @@ module _ (limit : Option ℕ) (stopped : Option KeepFault) (history history' : L
   pub records-run : records history' ≡ records history
   records-run = records-turns run.turns history build history' run.last run.run
 
-  pub few-run : IsWorkOf history build → length run.turns ≤ 2 * length (posting_line (records history)) + 4
+  pub few-run : IsWorkOf history build → length run.turns ≤ 2 * made (records history) + 4
   few-run work = few-until stopped limit run.turns history build history' run.last work run.run run.ended
 
 pub covered-run : (history history' : List Deed) (build build' : Build) (steps steps' : ℕ)
@@ -95,7 +95,7 @@ covered-run history history' build build' steps steps' run =
 
 pub covered-many : (limit : ℕ) (history history' : List Deed) (build build' : Build) (steps steps' : ℕ) → IsWorkOf history build
     → IsRun (Some limit) None history build steps history' build' steps'
-    → 2 * length (posting_line (records history)) + 3 ≤ limit → covered history' ≡ accepted history'
+    → 2 * made (records history) + 3 ≤ limit → covered history' ≡ accepted history'
 covered-many limit history history' build build' steps steps' work run many =
     elim run.ended [
       | inl idle ↦ covered-idle run.turns idle.before history build history' run.last idle.last run.run

@@ -1,7 +1,8 @@
 -- How many turns may come until there is nothing to do.
-use Rattle.std.proofs.Common.{◌≡◌, ◌≢◌, ℕ, ◌+◌, ◌*◌, ◌<◌, ◌≤◌, Bool, true, false, cond, nat_lt, if◌then◌else◌, List, [], ◌∷◌, ◌++◌, length, take, Some, Contains, inl, inr, refl, sym, ap, ◌∙◌, subst, arith}
+use Rattle.std.proofs.Common.{◌≡◌, ◌≢◌, ℕ, ◌+◌, ◌*◌, ◌<◌, ◌≤◌, Bool, true, false, cond, nat_lt, if◌then◌else◌, List, [], ◌∷◌, ◌++◌, length, take, drop, Some, Contains, inl, inr, refl, sym, ap, ◌∙◌, subst, arith}
 use Rattle.std.proofs.lemmas.Bool.{false≢true}
 use Rattle.std.proofs.lemmas.Bool.Decides.{nat_tests}
+use Rattle.std.proofs.lemmas.List.{take-append-drop}
 use Rattle.stock_nums.specs.Places.{is_before}
 use Rattle.stock_nums.specs.declared.entry.Entry.{Entry}
 use Rattle.stock_nums.specs.declared.numbers.RecordNo.{RecordNo}
@@ -14,10 +15,11 @@ use Rattle.stock_model.specs.PostingOrder.{posting_line}
 use Rattle.stock_model.specs.declared.deeds.Deed.{Deed}
 use Rattle.stock_model.specs.declared.deeds.Deed.TheVariants as deed
 use Rattle.stock_model.specs.declared.records.Record.{Record}
-use Rattle.stock_model.proofs.Growth.{length-posting_line, length-all_entries-take}
 use Rattle.stock_model.proofs.Pairwise.{Pairwise, Pairwise-from_AllPairs, Precedes-Contains, Contains-cases, Contains-first, Contains-later}
 use Rattle.stock_laws.proofs.PostingLine.{IsInPostingOrder-posting_line}
 use Rattle.repost_laws.specs.Builds.{Suspects, IsClean, AreAhead}
+use Rattle.repost_laws.specs.WholeBuilds.{made}
+use Rattle.repost_laws.proofs.MadeEntries.{length-line-made, made-grows}
 use Rattle.repost_laws.proofs.TurnCounts.{AreAhead-turn}
 use Rattle.repost_build.specs.Builds.{IsTurned}
 use Rattle.repost_build.specs.Readings.{found_in, suspects_in, target_of, fetches_of}
@@ -39,7 +41,7 @@ turns_after accepted covered target fetches movements =
 abbrev pub turns_from : List Deed → Suspects → ℕ → ℕ → ℕ
 turns_from history suspects target fetches =
     ahead_in suspects (posting_line (take target (records history)))
-    + turns_after (accepted history) (covered history) target fetches (length (posting_line (records history)))
+    + turns_after (accepted history) (covered history) target fetches (made (records history))
 
 abbrev pub turns_ahead : List Deed → Build → ℕ
 turns_ahead history build = turns_from history (suspects_in build) (target_of build) (fetches_of build)
@@ -112,9 +114,13 @@ ahead-turned journal old new place turned =
     (Pairwise-from_AllPairs IsBefore (posting_line journal) (IsInPostingOrder-posting_line journal)) turned.turn.first.held turned.turn.suspect
     (AreAhead-turn (added journal) (posting_line journal) (found_in old) (suspects_in old) turned.entry (found_in new) (suspects_in new) turned.turn)
 
--- the first records have no more movements than all
-pub movements-front : (journal : List Record) (n : ℕ) → length (posting_line (take n journal)) ≤ length (posting_line journal)
-movements-front journal n = omega (arith, length-posting_line (take n journal), length-posting_line journal, length-all_entries-take journal n)
+-- the first records made no more movements than all, and have no more
+pub made-front : (journal : List Record) (n : ℕ) → made (take n journal) ≤ made journal
+made-front journal n =
+    subst (λ (j : List Record). made (take n journal) ≤ made j) (take-append-drop n journal) (made-grows (take n journal) (drop n journal))
+
+pub movements-front : (journal : List Record) (n : ℕ) → length (posting_line (take n journal)) ≤ made journal
+movements-front journal n = omega (arith, length-line-made (take n journal), made-front journal n)
 
 -- ---- the fetches and publications
 
@@ -149,7 +155,7 @@ module _ (history : List Deed) (build build' : Build) (between : IsBetween histo
   fetched-less : target_of build' ≡ accepted history → CanFetch history build → turns_ahead history build' < turns_ahead history build
   fetched-less all can =
       let journal = records history in
-      let movements = length (posting_line journal) in
+      let movements = made journal in
       let within = ahead-within (suspects_in build') (posting_line (take (target_of build') journal)) in
       let front = movements-front journal (target_of build') in
       let after : turns_after (accepted history) (covered history) (target_of build') (fetches_of build') movements ≤ 1 =
@@ -164,13 +170,13 @@ module _ (history : List Deed) (build build' : Build) (between : IsBetween histo
       → turns_ahead (history ++ deed.Published n ∷ []) build' < turns_ahead history build
   published-less n all clean no_fetch more target fetches suspects =
       let journal = records history in
-      let movements = length (posting_line journal) in
+      let movements = made journal in
       let none = ahead-clean (suspects_in build') (posting_line (take (target_of build) journal)) (λ e held. suspects e.place ∙ clean e held) in
       let later = after-published (accepted history) (covered history) (target_of build) (fetches_of build) movements no_fetch more in
       let less : ahead_in (suspects_in build') (posting_line (take (target_of build) journal))
       + turns_after (accepted history) (target_of build) (target_of build) 0 movements < turns_ahead history build = omega (arith, none, later) in
       subst (λ (rs : List Record). ahead_in (suspects_in build') (posting_line (take (target_of build') rs))
-      + turns_after (length rs) (covered (history ++ deed.Published n ∷ [])) (target_of build') (fetches_of build') (length (posting_line rs))
+      + turns_after (length rs) (covered (history ++ deed.Published n ∷ [])) (target_of build') (fetches_of build') (made rs)
       < turns_ahead history build) (sym (records-published history n))
       (subst (λ (c : ℕ). ahead_in (suspects_in build') (posting_line (take (target_of build') journal))
       + turns_after (accepted history) c (target_of build') (fetches_of build') movements < turns_ahead history build)
@@ -228,10 +234,10 @@ turns_ahead-run (turned ∷ turns) history build history' build' between run at_
     (λ t held. at_work t (Contains-later turned turns t held)) in
     (rest.0, omega (arith, less, rest.1))
 
--- at first there come two for each movement and three more at most
-pub turns_ahead-most : (history : List Deed) (build : Build) → turns_ahead history build ≤ 2 * length (posting_line (records history)) + 3
+-- at first there come two for each movement that was ever made and three more at most
+pub turns_ahead-most : (history : List Deed) (build : Build) → turns_ahead history build ≤ 2 * made (records history) + 3
 turns_ahead-most history build =
-    let movements = length (posting_line (records history)) in
+    let movements = made (records history) in
     omega (
       arith,
       ahead-within (suspects_in build) (posting_line (records_of history build)),
@@ -243,5 +249,5 @@ turns_ahead-most history build =
 pub turns_ahead-none : (history : List Deed) (build : Build) → IsBetween history build → turns_ahead history build ≡ 0
     → covered history ≡ accepted history
 turns_ahead-none history build between none =
-    after-none (accepted history) (covered history) (target_of build) (fetches_of build) (length (posting_line (records history)))
+    after-none (accepted history) (covered history) (target_of build) (fetches_of build) (made (records history))
     between.covered between.accepted (omega (arith, none))

@@ -11,12 +11,11 @@ use Rattle.stock_laws.proofs.Histories.{records-append, covered_after-append}
 use Rattle.repost_frontier.specs.Readings.{found_of, suspects_of, revalued_of}
 use Rattle.repost_frontier.specs.declared.slot.Slot.{Slot}
 use Rattle.repost_laws.specs.Builds.{IsClean}
-use Rattle.repost_laws.specs.Touched.{is_touched, is_charged_by}
-use Rattle.repost_laws.proofs.WholeSteps.{few-turns}
+use Rattle.repost_laws.specs.WholeBuilds.{made}
 use Rattle.repost_build.specs.Builds.{IsOf}
 use Rattle.repost_build.specs.Readings.{suspects_in, target_of, fetches_of, turns_of, IsUnchanged}
 use Rattle.repost_build.specs.declared.build.Build.{Build}
-use Rattle.repost_worker.specs.Turns.{records_of, IsWorkOf, IsCleanOf, CanFetch, CanPublish, IsFetched, IsPublished}
+use Rattle.repost_worker.specs.Turns.{records_of, IsWorkOf, IsCleanOf, CanFetch, CanPublish, is_touched_since, IsFetched, IsPublished}
 
 -- a new build can work on a book that covers nothing
 pub work-start : (history : List Deed) (build : Build) → IsOf [] build → covered history ≡ 0 → IsWorkOf history build
@@ -74,12 +73,12 @@ module _ (history : List Deed) (old mid : Build) (same : IsUnchanged old mid) wh
   fetched-still new fetched = record {
     target = fetched.target;
     touched = λ e held.
-        subst (λ (slots : List Slot). suspects_in new e.place ≡ (suspects_of slots e.place
-        || is_touched (target_of old) (is_charged_by (drop (target_of old) (records history))) (posting_line (records history)) e)) same.slots
-        (subst (λ (n : ℕ). suspects_in new e.place ≡ (suspects_in mid e.place
-        || is_touched n (is_charged_by (drop n (records history))) (posting_line (records history)) e)) same.target (fetched.touched e held));
-    found = λ place. fetched.found place ∙ ap (λ (slots : List Slot). found_of slots place) same.slots;
-    valued = λ place. fetched.valued place ∙ ap (λ (slots : List Slot). revalued_of slots place) same.slots;
+        subst (λ (slots : List Slot). suspects_in new e.place ≡ (suspects_of slots e.place || is_touched_since (records history) (target_of old) e))
+        same.slots
+        (subst (λ (n : ℕ). suspects_in new e.place ≡ (suspects_in mid e.place || is_touched_since (records history) n e)) same.target
+        (fetched.touched e held));
+    found = λ e held. fetched.found e held ∙ ap (λ (slots : List Slot). found_of slots e.place) same.slots;
+    valued = λ e held. fetched.valued e held ∙ ap (λ (slots : List Slot). revalued_of slots e.place) same.slots;
     base = fetched.base ∙ same.base;
     fetches = omega (arith, fetched.fetches, same.fetches);
     turns = omega (arith, fetched.turns, same.turns);
@@ -99,7 +98,7 @@ module _ (history : List Deed) (old mid : Build) (same : IsUnchanged old mid) wh
 -- without a fetch there was no turn
 pub turns-none : (journal : List Record) (build : Build) → IsOf journal build → fetches_of build ≡ 0 → turns_of build ≡ 0
 turns-none journal build of none =
-    let bound = subst (λ (f : ℕ). turns_of build ≤ f * (length (posting_line journal) + 1)) none (few-turns of.built) in
+    let bound = subst (λ (f : ℕ). turns_of build ≤ f * (made journal + 1)) none of.built.counted.few.bound in
     omega (arith, bound)
 
 -- a build that is of no more than is covered made none since that was published

@@ -9,6 +9,7 @@ use Rattle.stock_keeper.specs.declared.fault.KeepFault.{KeepFault}
 use Rattle.stock_keeper.specs.declared.fault.KeepFault.TheVariants.{Failed}
 use Rattle.generation_book.specs.State.{BookState}
 use Rattle.repost_laws.specs.Touched.{is_new}
+use Rattle.repost_laws.specs.WholeBuilds.{made}
 use Rattle.repost_build.specs.Readings.{target_of, turns_of}
 use Rattle.repost_build.specs.declared.build.Build.{Build}
 use Rattle.repost_worker.specs.declared.turn.TheConstants.{MAX_FETCHES}
@@ -29,15 +30,15 @@ pace_of book build = record { history = book.history; keeper = book.keeper; know
 abbrev pub first_pace : Pace
 first_pace = record { history = []; keeper = first_state; known = 0; turns = 0 }
 
--- how many movements the accepted records make, and how many of them those after the first n ones
+-- how many movements the accepted records had when each was accepted, and how many of those after the first n ones are there
 abbrev pub movements_of : List Deed → ℕ
-movements_of history = length (posting_line (records history))
+movements_of history = made (records history)
 
 abbrev pub movements_after : ℕ → List Deed → ℕ
 movements_after n history = length (filter (is_new n) (posting_line (records history)))
 
 -- the worker has taken in what is covered, and no more than was accepted; and since the last publication it made no more turns
--- than four times one for each movement and one, and none where it has taken in no more than is covered
+-- than four times one for each movement that was ever made and one, and none where it has taken in no more than is covered
 pub record IsInPace (pace : Pace) : Type 0 where
   pub none : pace.known ≡ covered pace.history → pace.turns ≡ 0
   pub covered : covered pace.history ≤ pace.known
@@ -56,7 +57,7 @@ pub record IsSamePace (old new : Pace) : Type 0 where
 
 -- so many turns were asked for, and were made or brought all that there was to do
 pub record WorksInPace (old : Pace) (turns : ℕ) (new : Pace) : Type 0 where
-  -- two for each movement and three more are always enough
+  -- two for each movement that was ever made and three more are always enough
   pub covers : 2 * movements_of old.history + 3 ≤ turns → covered new.history ≡ accepted new.history
   -- where records wait and none is published, each of the turns was made
   pub waits : covered old.history < accepted old.history → new.history ≡ old.history → new.turns ≡ old.turns + turns

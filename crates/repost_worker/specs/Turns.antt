@@ -1,5 +1,5 @@
 -- What one turn of the policy does to a book and a build.
-use Rattle.std.specs.Prelude.{ℕ, ◌≡◌, ◌+◌, ◌<◌, ◌≤◌, ◌||◌, List, ◌∷◌, [], ◌++◌, length, take, drop, Contains, false, if◌then◌else◌}
+use Rattle.std.specs.Prelude.{ℕ, ◌≡◌, ◌+◌, ◌<◌, ◌≤◌, Bool, ◌||◌, List, ◌∷◌, [], ◌++◌, length, take, drop, Contains, false, if◌then◌else◌}
 use Rattle.stock_nums.specs.declared.entry.Entry.{Entry}
 use Rattle.stock_nums.specs.declared.place.Place.{Place}
 use Rattle.stock_model.specs.History.{records, accepted, covered}
@@ -8,7 +8,8 @@ use Rattle.stock_model.specs.declared.deeds.Deed.{Deed}
 use Rattle.stock_model.specs.declared.deeds.Deed.TheVariants as deed
 use Rattle.stock_model.specs.declared.records.Record.{Record}
 use Rattle.repost_laws.specs.Builds.{Suspects, IsClean}
-use Rattle.repost_laws.specs.Touched.{is_touched, is_charged_by}
+use Rattle.repost_laws.specs.Changes.{goes_with, both_lines, is_recharged}
+use Rattle.repost_laws.specs.Touched.{is_touched_by}
 use Rattle.repost_build.specs.Builds.{IsOf, IsTurned}
 use Rattle.repost_build.specs.Readings.{found_in, suspects_in, valued_in, base_of, target_of, fetches_of, turns_of, IsUnchanged}
 use Rattle.repost_build.specs.declared.build.Build.{Build}
@@ -44,13 +45,18 @@ CanFetch history build = (target_of build < accepted history) × (fetches_of bui
 abbrev pub CanPublish : List Deed → Build → Type 0
 CanPublish history build = IsCleanOf history build × (CanFetch history build → ⊥) × (covered history < target_of build)
 
--- the build has taken in all records, and what they touch is suspect beside what was
+-- what comes and goes with the records after the first n ones touches the movement
+abbrev pub is_touched_since : List Record → ℕ → Entry → Bool
+is_touched_since all n e =
+    is_touched_by n (goes_with (take n all) (drop n all)) (is_recharged (take n all) (drop n all)) (both_lines (take n all) (drop n all)) e
+
+-- the build has taken in all records, what they bring and take back, and of its movements what both touch is suspect beside what was
 pub record IsFetched (history : List Deed) (old new : Build) : Type 0 where
   pub target : target_of new ≡ accepted history
   pub touched : (e : Entry) → Contains (posting_line (records history)) e → suspects_in new e.place
-      ≡ (suspects_in old e.place || is_touched (target_of old) (is_charged_by (drop (target_of old) (records history))) (posting_line (records history)) e)
-  pub found : (place : Place) → found_in new place ≡ found_in old place
-  pub valued : (place : Place) → valued_in new place ≡ valued_in old place
+      ≡ (suspects_in old e.place || is_touched_since (records history) (target_of old) e)
+  pub found : (e : Entry) → Contains (posting_line (records history)) e → found_in new e.place ≡ found_in old e.place
+  pub valued : (e : Entry) → Contains (posting_line (records history)) e → valued_in new e.place ≡ valued_in old e.place
   pub base : base_of new ≡ base_of old
   pub fetches : fetches_of new ≡ fetches_of old + 1
   pub turns : turns_of new ≡ turns_of old + 1

@@ -1,12 +1,12 @@
 //! What holds of turns and runs of turns. None of it runs: these are facts about plain histories and builds, with their proofs.
 ghost use Rattle.std.specs.Prelude.{◌≡◌, ◌+◌, ◌*◌, ◌<◌, ◌≤◌, ℕ, List, [], ◌∷◌, ◌++◌, length, Option, Some, None};
 ghost use Rattle.stock_model.specs.History.{records, accepted, covered};
-ghost use Rattle.stock_model.specs.PostingOrder.{posting_line};
 ghost use Rattle.stock_model.specs.declared.deeds.Deed.{Deed};
 ghost use Rattle.stock_model.specs.declared.deeds.Deed.TheVariants as deed;
 ghost use Rattle.stock_model.specs.declared.records.Record.{Record};
 ghost use Rattle.stock_keeper.specs.declared.fault.KeepFault.{KeepFault};
 ghost use Rattle.generation_book.specs.State.{BookState};
+ghost use Rattle.repost_laws.specs.WholeBuilds.{made};
 ghost use Rattle.repost_build.specs.Builds.{IsOf};
 ghost use Rattle.repost_build.specs.declared.build.Build.{Build};
 ghost use Rattle.repost_worker.specs.Paces.{pace_of, IsInPace, WorksInPace};
@@ -28,15 +28,15 @@ pub fn a_run_without_limit_covers_all()
         → IsRun None None history build steps history' build' steps' → covered history' ≡ accepted history' }
 {}
 
-/// A run makes two turns at most for each movement of all accepted records, three more for fetches and publications, and one
+/// A run makes two turns at most for each movement that accepted records ever made, three more for fetches and publications, and one
 /// that is idle. So where it may make the first of these and none was refused, it covers all that were accepted.
 pub fn few_turns_cover_all()
     ensures few { (limit : Option ℕ) (stopped : Option KeepFault) (history history' : List Deed) (build build' : Build)
         (steps steps' : ℕ) → IsWorkOf history build → (run : IsRun limit stopped history build steps history' build' steps')
-        → length run.turns ≤ 2 * length (posting_line (records history)) + 4 }
+        → length run.turns ≤ 2 * made (records history) + 4 }
     ensures all { (limit : ℕ) (history history' : List Deed) (build build' : Build) (steps steps' : ℕ)
         → IsWorkOf history build → IsRun (Some limit) None history build steps history' build' steps'
-        → 2 * length (posting_line (records history)) + 3 ≤ limit → covered history' ≡ accepted history' }
+        → 2 * made (records history) + 3 ≤ limit → covered history' ≡ accepted history' }
 {}
 
 /// A build that works on a book is in pace, and a run of so many turns, none of which was refused, keeps the pace.

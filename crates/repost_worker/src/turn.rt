@@ -154,7 +154,7 @@ fn publish_all<K: Keeper>(
 {
     let target = build.target();
     let changed = build.changed(alloc)?;
-    book.publish(alloc, target, changed.as_slice())?;
+    book.publish(alloc, target, changed.as_slice(), build.gone())?;
     build.published();
     Ok(target)
 }

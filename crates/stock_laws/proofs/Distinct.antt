@@ -14,7 +14,7 @@ use Rattle.stock_nums.specs.declared.place.Side.TheVariants.{Leaves, Enters}
 use Rattle.stock_model.specs.declared.records.Record.{Record}
 use Rattle.stock_model.specs.declared.seen.Move.{Move}
 use Rattle.stock_model.specs.declared.vouchers.What.{What}
-use Rattle.stock_model.specs.declared.vouchers.What.TheVariants.{Item, Store, Receipt, Issue, Transfer, CustomerReturn, SupplierReturn, Landed, Freeze}
+use Rattle.stock_model.specs.declared.vouchers.What.TheVariants.{Item, Store, Receipt, Issue, Transfer, CustomerReturn, SupplierReturn, Landed, Freeze, Cancel}
 use Rattle.stock_model.specs.Entries.{moved, move_made, moves_made, found_made, line_made, movements, entries, entries_after, all_entries}
 use Rattle.stock_model.specs.Masters.{store_with}
 use Rattle.stock_model.specs.TargetLines.{coded_item, line_found}
@@ -79,6 +79,7 @@ moves_of-apart (CustomerReturn at lines) line found = return_moves-apart custome
 moves_of-apart (SupplierReturn at lines) line found = return_moves-apart supplier_return line.item found
 moves_of-apart (Landed charge basis targets) line found = tt
 moves_of-apart (Freeze until) line found = tt
+moves_of-apart (Cancel cancelled) line found = tt
 
 -- a line makes movements that differ
 line-Pairwise : (journal : List Record) (n : ℕ) (at : Moment) (what : What) (number : ℕ) (line : VoucherLine) → Pairwise Differ (line_made journal n at what (number, line))

@@ -1,7 +1,9 @@
 -- What each movement of a journal has to do with the record that makes it, and a return with the line that it names.
-use Rattle.std.proofs.Common.{◌≡◌, ℕ, ◌+◌, ◌<◌, true, false, List, ◌++◌, length, map, Option, Some, None, refl, sym, ap, ◌∙◌, subst, arith}
-use Rattle.std.specs.Prelude.{slice_get, ◌||◌}
+use Rattle.std.proofs.Common.{◌≡◌, ℕ, zero, suc, ◌+◌, ◌<◌, Bool, true, false, List, [], ◌∷◌, ◌++◌, length, map, Option, Some, None, refl, sym, ap, ◌∙◌, subst, arith}
+use Rattle.std.specs.Prelude.{nat_eq, slice_get, ◌||◌}
 use Rattle.std.specs.Option.{option_map, option_map_or, option_and_then}
+use Rattle.std.specs.List.{list_any}
+use Rattle.std.proofs.lemmas.Bool.Decides.{nat_tests}
 use Rattle.stock_nums.specs.declared.cause.Cause.{Cause}
 use Rattle.stock_nums.specs.declared.cause.Cause.TheVariants as cause
 use Rattle.stock_nums.specs.declared.cause.Method.{Method}
@@ -15,8 +17,9 @@ use Rattle.stock_model.specs.declared.targets.NamedTarget.{NamedTarget}
 use Rattle.stock_model.specs.declared.targets.TargetKind.{TargetKind}
 use Rattle.stock_model.specs.declared.targets.TargetKind.TheVariants.{OfSale, OfReceipt}
 use Rattle.stock_model.specs.declared.vouchers.What.{What}
-use Rattle.stock_model.specs.declared.vouchers.What.TheVariants.{Item, Store, Receipt, Issue, Transfer, CustomerReturn, SupplierReturn, Landed, Freeze}
+use Rattle.stock_model.specs.declared.vouchers.What.TheVariants.{Item, Store, Receipt, Issue, Transfer, CustomerReturn, SupplierReturn, Landed, Freeze, Cancel}
 use Rattle.stock_model.specs.declared.vouchers.ReturnLine.{ReturnLine}
+use Rattle.stock_model.specs.Cancelling.{is_line_of, names_line_of}
 use Rattle.stock_model.specs.Conservation.{is_receipt, is_sent, is_arrived, is_customer_return, is_supplier_return}
 use Rattle.stock_model.specs.Entries.{movements}
 use Rattle.stock_model.specs.Faults.{is_after, comes_later, first_later}
@@ -54,6 +57,12 @@ KnowsTarget journal e (cause.CustomerReturn target issued) = IsReturnOf journal 
 KnowsTarget journal e (cause.SupplierReturn target amount received) = IsReturnOf journal e OfReceipt target received.0
 KnowsTarget journal e _ = Unit {0}
 
+-- where the movement is a return, the voucher names a line of its target's record
+abbrev pub NamesTarget : What → Cause → Type 0
+NamesTarget what (cause.CustomerReturn target issued) = names_line_of target.voucher.0 what ≡ true
+NamesTarget what (cause.SupplierReturn target amount received) = names_line_of target.voucher.0 what ≡ true
+NamesTarget what _ = Unit {0}
+
 -- the record with the movement's number says so, at its moment, and a return's target is known
 pub record IsOfRecord (journal : List Record) (e : Entry) : Type 0 where
   pub what : What
@@ -61,6 +70,7 @@ pub record IsOfRecord (journal : List Record) (e : Entry) : Type 0 where
   pub timed : moment_of what ≡ Some e.place.moment
   pub fits : Fits what e.cause
   pub target : KnowsTarget journal e e.cause
+  pub names : NamesTarget what e.cause
 
 -- so it stays
 IsReturnOf-append : (journal more : List Record) (e : Entry) (kind : TargetKind) (target : Target) (units : ℕ) → IsReturnOf journal e kind target units → IsReturnOf (journal ++ more) e kind target units
@@ -92,6 +102,7 @@ IsOfRecord-append journal more e own =
       timed = own.timed;
       fits = own.fits;
       target = KnowsTarget-append journal more e e.cause own.target;
+      names = own.names;
     }
 
 abbrev option_said : Option Record → Option What
@@ -136,6 +147,24 @@ return-knows journal more kind lines at i l found e none here is number timed =
       not_later = λ what held m said. subst (λ (t : Moment). is_later m t ≡ false) (sym timed) (target-not_later journal at named fails what held m said);
     })
 
+-- and the voucher names it
+return-names : (kind : TargetKind) (lines : List ReturnLine) (i : ℕ) (l : ReturnLine) → slice_get lines i ≡ Some l → list_any (is_line_of l.target.voucher.0) (map (return_target kind) lines) ≡ true
+return-names kind [] zero l here = cc
+return-names kind [] (suc i) l here = cc
+return-names kind (line ∷ lines) zero l here =
+    let same : line ≡ l = cc in
+    let own : nat_eq line.target.voucher.0 l.target.voucher.0 ≡ true = ap (λ (one : ReturnLine). nat_eq one.target.voucher.0 l.target.voucher.0) same ∙ itself l.target.voucher.0 in
+    ap (λ (b : Bool). b || list_any (is_line_of l.target.voucher.0) (map (return_target kind) lines)) own
+  where
+    itself : (n : ℕ) → nat_eq n n ≡ true
+    itself n = grind (arith, nat_tests)
+return-names kind (line ∷ lines) (suc i) l here =
+    either (nat_eq line.target.voucher.0 l.target.voucher.0) (list_any (is_line_of l.target.voucher.0) (map (return_target kind) lines)) (return-names kind lines i l here)
+  where
+    either : (a b : Bool) → b ≡ true → (a || b) ≡ true
+    either true b h = refl
+    either false b h = h
+
 -- the moves of a line of a voucher without faults
 moves-known : (journal more : List Record) (what : What) → NoFaults journal what → what_at (journal ++ more) (length journal + 1) ≡ Some what
     → (at : Moment) → moment_of what ≡ Some at → (i : ℕ) (line : VoucherLine) → slice_get (lines_of what) i ≡ Some line
@@ -144,12 +173,12 @@ moves-known : (journal more : List Record) (what : What) → NoFaults journal wh
 moves-known journal more (Item code method) sound held at timed i line is found found_is item = tt
 moves-known journal more (Store code account) sound held at timed i line is found found_is item = tt
 moves-known journal more (Receipt m lines) sound held at timed i line is found found_is item =
-    ((λ store. record { what = Receipt m lines; held = held; timed = timed; fits = refl; target = tt }), tt)
+    ((λ store. record { what = Receipt m lines; held = held; timed = timed; fits = refl; target = tt; names = tt }), tt)
 moves-known journal more (Issue m purpose lines) sound held at timed i line is found found_is item =
-    ((λ store. record { what = Issue m purpose lines; held = held; timed = timed; fits = refl; target = tt }), tt)
+    ((λ store. record { what = Issue m purpose lines; held = held; timed = timed; fits = refl; target = tt; names = tt }), tt)
 moves-known journal more (Transfer m lines) sound held at timed i line is found found_is item = (
-  (λ store. record { what = Transfer m lines; held = held; timed = timed; fits = refl; target = tt }),
-  ((λ store. record { what = Transfer m lines; held = held; timed = timed; fits = refl; target = tt }), tt),
+  (λ store. record { what = Transfer m lines; held = held; timed = timed; fits = refl; target = tt; names = tt }),
+  ((λ store. record { what = Transfer m lines; held = held; timed = timed; fits = refl; target = tt; names = tt }), tt),
 )
 moves-known journal more (CustomerReturn m lines) sound held at timed i line is found found_is item =
     let n = length journal + 1 in
@@ -165,6 +194,7 @@ moves-known journal more (CustomerReturn m lines) sound held at timed i line is 
         timed = timed;
         fits = refl;
         target = return-knows journal more OfSale lines at i l found _ none own.1 known refl refl;
+        names = return-names OfSale lines i l own.1;
       }),
       tt,
     ) in
@@ -183,12 +213,14 @@ moves-known journal more (SupplierReturn m lines) sound held at timed i line is 
         timed = timed;
         fits = refl;
         target = return-knows journal more OfReceipt lines at i l found _ none own.1 known refl refl;
+        names = return-names OfReceipt lines i l own.1;
       }),
       tt,
     ) in
     subst P own.2 of_line found_is
 moves-known journal more (Landed charge basis targets) sound held at timed i line is found found_is item = tt
 moves-known journal more (Freeze until) sound held at timed i line is found found_is item = tt
+moves-known journal more (Cancel cancelled) sound held at timed i line is found found_is item = tt
 
 -- each movement of a record without faults is known
 pub movements-known : (journal more : List Record) (what : What) → NoFaults journal what → what_at (journal ++ more) (length journal + 1) ≡ Some what

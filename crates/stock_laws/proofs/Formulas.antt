@@ -12,7 +12,7 @@ use Rattle.stock_nums.specs.declared.entry.Entry.{Entry}
 use Rattle.stock_nums.specs.declared.numbers.ItemNo.{ItemNo}
 use Rattle.stock_model.specs.declared.records.Record.{Record}
 use Rattle.stock_model.specs.declared.vouchers.What.{What}
-use Rattle.stock_model.specs.declared.vouchers.What.TheVariants.{Item, Store, Receipt, Issue, Transfer, CustomerReturn, SupplierReturn, Landed, Freeze}
+use Rattle.stock_model.specs.declared.vouchers.What.TheVariants.{Item, Store, Receipt, Issue, Transfer, CustomerReturn, SupplierReturn, Landed, Freeze, Cancel}
 use Rattle.stock_model.specs.Entries.{movements, entries, entries_after, all_entries}
 use Rattle.stock_model.specs.Formulas.{HasFormula, HaveOneFormula}
 use Rattle.stock_nums.specs.Heads.{ItemHead, has_item_code, item_found}
@@ -84,6 +84,7 @@ found-IsItemOf k code (r ∷ rs) head is =
       | SupplierReturn at lines ↦ λ says. onward
       | Landed charge basis targets ↦ λ says. onward
       | Freeze until ↦ λ says. onward
+      | Cancel cancelled ↦ λ says. onward
     ] in
     step r.what refl is
 

@@ -8,7 +8,7 @@ use Rattle.stock_model.specs.declared.queries.Query.{Query}
 use Rattle.stock_model.specs.declared.queries.Selected.{Selected}
 use Rattle.stock_model.specs.declared.records.Record.{Record}
 use Rattle.stock_model.specs.declared.vouchers.What.{What}
-use Rattle.stock_model.specs.declared.vouchers.What.TheVariants.{Item, Store, Receipt, Issue, Transfer, CustomerReturn, SupplierReturn, Landed, Freeze}
+use Rattle.stock_model.specs.declared.vouchers.What.TheVariants.{Item, Store, Receipt, Issue, Transfer, CustomerReturn, SupplierReturn, Landed, Freeze, Cancel}
 use Rattle.stock_model.specs.Books.{IsHeadBefore, is_named, AreHeads}
 use Rattle.stock_model.specs.Faults.{code_taken, code_shape}
 use Rattle.stock_model.specs.Journals.{AreLegal, AreSoundAfter}
@@ -51,6 +51,7 @@ made-from k (CustomerReturn at lines) rest later order = (at_least k rest later,
 made-from k (SupplierReturn at lines) rest later order = (at_least k rest later, order)
 made-from k (Landed charge basis targets) rest later order = (at_least k rest later, order)
 made-from k (Freeze until) rest later order = (at_least k rest later, order)
+made-from k (Cancel cancelled) rest later order = (at_least k rest later, order)
 
 -- the heads of records that are numbered from k on have these numbers, in their order
 heads-in_order : (k : ℕ) (records : List Record) → Each (IsFrom k) (heads_from k records) × Pairwise IsHeadBefore (heads_from k records)
@@ -75,6 +76,7 @@ made-named k (CustomerReturn at lines) rest none named = named
 made-named k (SupplierReturn at lines) rest none named = named
 made-named k (Landed charge basis targets) rest none named = named
 made-named k (Freeze until) rest none named = named
+made-named k (Cancel cancelled) rest none named = named
 
 -- a record without faults has none of its code's shape
 NoFaults-shape : (journal : List Record) (what : What) → NoFaults journal what → code_shape what ≡ None

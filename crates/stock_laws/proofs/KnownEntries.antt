@@ -1,5 +1,5 @@
 -- Each movement of a sound journal is known by its record.
-use Rattle.std.proofs.Common.{◌≡◌, List, [], ◌∷◌, ◌++◌, subst, append_assoc}
+use Rattle.std.proofs.Common.{List, [], ◌∷◌, ◌++◌, subst, append_assoc}
 use Rattle.stock_model.specs.declared.records.Record.{Record}
 use Rattle.stock_model.specs.Entries.{entries, entries_after, all_entries}
 use Rattle.stock_model.specs.Journals.{AreSoundAfter, AreSound}

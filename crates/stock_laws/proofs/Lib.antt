@@ -1,6 +1,7 @@
 pub mod Bounds
 pub mod LineEntries
 pub mod LiveEntries
+pub mod GoneEntries
 pub mod Distinct
 pub mod PostingLine
 pub mod LiveLines
@@ -24,6 +25,7 @@ pub mod Legality
 pub mod RecordsAt
 pub mod EntryRecords
 pub mod KnownEntries
+pub mod LiveTargets
 pub mod LinkedJournals
 pub mod LegalReplay
 pub mod Conservation

@@ -19,7 +19,7 @@ use Rattle.stock_model.specs.declared.records.Record.{Record}
 use Rattle.stock_model.specs.declared.targets.TargetKind.{TargetKind}
 use Rattle.stock_model.specs.declared.targets.TargetKind.TheVariants.{OfSale, OfReceipt}
 use Rattle.stock_model.specs.declared.vouchers.What.{What}
-use Rattle.stock_model.specs.declared.vouchers.What.TheVariants.{Item, Store, Receipt, Issue, Transfer, CustomerReturn, SupplierReturn, Landed, Freeze}
+use Rattle.stock_model.specs.declared.vouchers.What.TheVariants.{Item, Store, Receipt, Issue, Transfer, CustomerReturn, SupplierReturn, Landed, Freeze, Cancel}
 use Rattle.stock_model.specs.Conservation.{is_receipt, is_sale, is_sent, is_arrived, is_customer_return}
 use Rattle.stock_model.specs.Enough.{entry_units}
 use Rattle.stock_model.specs.Entries.{all_entries}
@@ -181,6 +181,7 @@ transfer-sends (CustomerReturn at lines) c h k leaves = cc
 transfer-sends (SupplierReturn at lines) c h k leaves = cc
 transfer-sends (Landed charge basis targets) c h k leaves = absurd h
 transfer-sends (Freeze until) c h k leaves = absurd h
+transfer-sends (Cancel cancelled) c h k leaves = absurd h
 
 -- what leaves by a sale's line is sold
 sale-sells : (what : What) (c : Cause) → is_of_kind OfSale what ≡ true → Fits what c → is_sale c ≡ true
@@ -193,6 +194,7 @@ sale-sells (CustomerReturn at lines) c h k = cc
 sale-sells (SupplierReturn at lines) c h k = cc
 sale-sells (Landed charge basis targets) c h k = cc
 sale-sells (Freeze until) c h k = cc
+sale-sells (Cancel cancelled) c h k = cc
 
 sent-only : (journal : List Record) (e : Entry) → IsOfRecord journal e → e.cause ≡ cause.TransferEnters → (x : Entry) → IsEarlier journal e x → LeavesBy is_sent (own_line e) x
 sent-only journal e own is x earlier same leaves =

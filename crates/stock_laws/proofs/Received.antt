@@ -15,7 +15,7 @@ use Rattle.stock_nums.specs.declared.entry.Row.{Row}
 use Rattle.stock_nums.proofs.SharesLemmas.{sum-cons, sum-shares-le}
 use Rattle.stock_model.specs.declared.records.Record.{Record}
 use Rattle.stock_model.specs.declared.vouchers.What.{What}
-use Rattle.stock_model.specs.declared.vouchers.What.TheVariants.{Item, Store, Receipt, Issue, Transfer, CustomerReturn, SupplierReturn, Landed, Freeze}
+use Rattle.stock_model.specs.declared.vouchers.What.TheVariants.{Item, Store, Receipt, Issue, Transfer, CustomerReturn, SupplierReturn, Landed, Freeze, Cancel}
 use Rattle.stock_model.specs.Conservation.{is_receipt, price_by, price_of, purchases, charge_by, record_charge, charge_if, charges, received}
 use Rattle.stock_model.specs.Entries.{is_live}
 use Rattle.stock_model.specs.LandedCost.{weights, charged, record_charged, charged_if, all_charged, is_charge_of, charge_amount, added}
@@ -167,6 +167,7 @@ charged-le journal (SupplierReturn at lines) = omega arith
 charged-le journal (Landed charge basis targets) =
     omega (arith, zip-le targets (shares (unsigned_abs charge.0) (weights journal basis targets)), sum-shares-le (unsigned_abs charge.0) (weights journal basis targets))
 charged-le journal (Freeze until) = omega arith
+charged-le journal (Cancel cancelled) = omega arith
 
 -- in force or not
 charged_if-le : (b : Bool) (journal : List Record) (item : Record) → sum_by charge_amount (cond b (record_charged journal item) []) ≤ cond b (record_charge item) 0
@@ -201,6 +202,7 @@ charge-le (CustomerReturn at lines) h = omega arith
 charge-le (SupplierReturn at lines) h = omega arith
 charge-le (Landed charge basis targets) h = amount-le charge.0 (both-first (is_line_amount charge.0) _ h)
 charge-le (Freeze until) h = omega arith
+charge-le (Cancel cancelled) h = omega arith
 
 charge_if-le : (b : Bool) (item : Record) → cond b (record_charge item) 0 ≤ 1_000_000_000_000
 charge_if-le true item = charge-le item.what item.limits

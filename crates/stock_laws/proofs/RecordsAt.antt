@@ -8,7 +8,7 @@ use Rattle.stock_model.specs.declared.targets.NamedTarget.{NamedTarget}
 use Rattle.stock_model.specs.declared.targets.TargetKind.{TargetKind}
 use Rattle.stock_model.specs.declared.targets.TargetKind.TheVariants.{OfSale, OfReceipt}
 use Rattle.stock_model.specs.declared.vouchers.What.{What}
-use Rattle.stock_model.specs.declared.vouchers.What.TheVariants.{Item, Store, Receipt, Issue, Transfer, CustomerReturn, SupplierReturn, Landed, Freeze}
+use Rattle.stock_model.specs.declared.vouchers.What.TheVariants.{Item, Store, Receipt, Issue, Transfer, CustomerReturn, SupplierReturn, Landed, Freeze, Cancel}
 use Rattle.stock_model.specs.Masters.{record_at}
 use Rattle.stock_model.specs.Returns.{line_units}
 use Rattle.stock_model.specs.TargetLines.{line_of_kind, target_line}
@@ -109,6 +109,7 @@ kinds-once OfSale OfReceipt (CustomerReturn at lines) h k = cc
 kinds-once OfSale OfReceipt (SupplierReturn at lines) h k = cc
 kinds-once OfSale OfReceipt (Landed charge basis targets) h k = cc
 kinds-once OfSale OfReceipt (Freeze until) h k = cc
+kinds-once OfSale OfReceipt (Cancel cancelled) h k = cc
 kinds-once OfReceipt OfSale (Item code method) h k = cc
 kinds-once OfReceipt OfSale (Store code account) h k = cc
 kinds-once OfReceipt OfSale (Receipt at lines) h k = cc
@@ -118,6 +119,7 @@ kinds-once OfReceipt OfSale (CustomerReturn at lines) h k = cc
 kinds-once OfReceipt OfSale (SupplierReturn at lines) h k = cc
 kinds-once OfReceipt OfSale (Landed charge basis targets) h k = cc
 kinds-once OfReceipt OfSale (Freeze until) h k = cc
+kinds-once OfReceipt OfSale (Cancel cancelled) h k = cc
 
 pub target-kind : (journal : List Record) (a b : NamedTarget) (found other : VoucherLine) → a.target ≡ b.target → target_line journal a ≡ Some found → target_line journal b ≡ Some other → a.kind ≡ b.kind
 target-kind journal a b found other same h k =

@@ -5,7 +5,7 @@ use Rattle.std.proofs.lemmas.Bool.Decides.{nat_tests}
 use Rattle.std.proofs.lemmas.List.{append-nil}
 use Rattle.std.proofs.lemmas.List.Elements.{filter-append}
 use Rattle.std.proofs.lemmas.List.Sums.{sum_by-append, sum_by-cons}
-use Rattle.std.specs.Prelude.{slice_get, is_none, ◌||◌}
+use Rattle.std.specs.Prelude.{slice_get, is_none, not, nat_eq, ◌||◌, ◌&&◌}
 use Rattle.std.specs.Option.{option_map, option_map_or, option_and_then, option_to_list}
 use Rattle.std.specs.List.{filter_map, flat_map, enumerate_from, cons_option, zip, list_any}
 use Rattle.stock_nums.specs.Targets.{is_same_target}
@@ -14,6 +14,8 @@ use Rattle.stock_nums.specs.declared.cause.Target.{Target}
 use Rattle.stock_nums.specs.declared.entry.Entry.{Entry}
 use Rattle.stock_nums.specs.declared.moment.Moment.{Moment}
 use Rattle.stock_nums.specs.declared.numbers.ItemNo.{ItemNo}
+use Rattle.stock_nums.specs.declared.numbers.RecordNo.{RecordNo}
+use Rattle.stock_model.specs.declared.faults.PostFault.TheVariants.{NotLive}
 use Rattle.stock_model.specs.declared.records.Record.{Record}
 use Rattle.stock_model.specs.declared.seen.Move.{Move}
 use Rattle.stock_model.specs.declared.targets.NamedTarget.{NamedTarget}
@@ -21,17 +23,18 @@ use Rattle.stock_model.specs.declared.targets.TargetKind.{TargetKind}
 use Rattle.stock_model.specs.declared.targets.TargetKind.TheVariants.{OfSale, OfReceipt}
 use Rattle.stock_model.specs.declared.vouchers.ReturnLine.{ReturnLine}
 use Rattle.stock_model.specs.declared.vouchers.What.{What}
-use Rattle.stock_model.specs.declared.vouchers.What.TheVariants.{Item, Store, Receipt, Issue, Transfer, CustomerReturn, SupplierReturn, Landed, Freeze}
+use Rattle.stock_model.specs.declared.vouchers.What.TheVariants.{Item, Store, Receipt, Issue, Transfer, CustomerReturn, SupplierReturn, Landed, Freeze, Cancel}
 use Rattle.stock_model.specs.Enough.{entry_units}
-use Rattle.stock_model.specs.Entries.{moved, move_made, moves_made, found_made, line_made, lines_made, movements, entries, is_spared, all_entries}
-use Rattle.stock_model.specs.Faults.{is_unknown_store, asks_more, is_less, left_to_return, first_repeated, is_among, name_one_line, voucher_fault}
+use Rattle.stock_model.specs.Entries.{moved, move_made, moves_made, found_made, line_made, lines_made, movements, entries, cancels, takes_back, is_live, is_spared, is_of_record, all_entries, entries_of}
+use Rattle.stock_model.specs.Cancelling.{record_is_voucher, is_voucher, is_voucher_in_force, record_units, units_gone}
+use Rattle.stock_model.specs.Faults.{is_unknown_store, not_live, asks_more, is_less, left_to_return, first_repeated, is_among, name_one_line, voucher_fault}
 use Rattle.stock_model.specs.Journals.{AreSound, AreSoundAfter}
 use Rattle.stock_model.specs.Masters.{record_at, store_with}
 use Rattle.stock_model.specs.Returns.{is_return_of, returns_of, returned, returns_line, line_units, units_named}
 use Rattle.stock_model.specs.TargetLines.{line_numbered, target_line, coded_item}
 use Rattle.stock_model.specs.VoucherLines.{VoucherLine, lines_of, moves_of, receipt_line, issue_line, transfer_line, return_line, return_target}
-use Rattle.stock_model.proofs.Growth.{all_entries-snoc}
 use Rattle.stock_laws.proofs.LiveEntries.{all_entries-step}
+use Rattle.stock_laws.proofs.GoneEntries.{IsAt-from, sound-parts, entries_of-at, own-live}
 use Rattle.stock_model.proofs.MovementCount.{IsMade, lines-IsMade}
 use Rattle.stock_model.proofs.NoFaults.{NoFaults, NoFaults-from}
 use Rattle.stock_model.proofs.Numbered.{Fails, first_line-none}
@@ -121,6 +124,7 @@ lines-return (SupplierReturn at lines) target =
     (λ line. record { moves = λ found. (refl, tt); once = single (is_same_target line.target target) line.qty.0 }) lines
 lines-return (Landed charge basis targets) target = tt
 lines-return (Freeze until) target = tt
+lines-return (Cancel cancelled) target = tt
 
 line-returned : (journal : List Record) (n : ℕ) (at : Moment) (what : What) (number : ℕ) (line : VoucherLine) (target : Target) → IsMade journal what line → ReturnsWhatItNames what target line
     → returned (line_made journal n at what (number, line)) target ≡ cond (returns_line target line) line.qty.0 0
@@ -158,14 +162,107 @@ movements-returned journal n (CustomerReturn at lines) target sound none = timed
 movements-returned journal n (SupplierReturn at lines) target sound none = timed-returned journal n at (SupplierReturn at lines) target (lines-IsMade journal (SupplierReturn at lines) sound none)
 movements-returned journal n (Landed charge basis targets) target sound none = refl
 movements-returned journal n (Freeze until) target sound none = refl
+movements-returned journal n (Cancel cancelled) target sound none = refl
+
+-- the units of the movements that are kept, and of those that are not
+returned-parts : (p : Entry → Bool) (es : List Entry) (target : Target) → returned es target ≡ returned (filter p es) target + returned (filter (λ e. not (p e)) es) target
+returned-parts p [] target = omega arith
+returned-parts p (e ∷ es) target =
+    let rest = returned-parts p es target in
+    let own = returned-cons e es target in
+    let q : Entry → Bool = λ f. not (p f) in
+    (elim (p e) as (λ b. returned (e ∷ es) target ≡ returned (cond b (e ∷ filter p es) (filter p es)) target + returned (cond (not b) (e ∷ filter q es) (filter q es)) target) [
+      | true ↦ omega (arith, own, rest, returned-cons e (filter p es) target)
+      | false ↦ omega (arith, own, rest, returned-cons e (filter q es) target)
+    ])
+
+-- where nothing is taken back nothing goes
+spared-all : (item : Record) (es : List Entry) → ((n : ℕ) → takes_back n item ≡ false) → filter (λ e. not (is_spared item e)) es ≡ []
+spared-all item [] none = refl
+spared-all item (e ∷ es) none =
+    ap (λ (b : Bool). cond (not (not b)) (e ∷ filter (λ f. not (is_spared item f)) es) (filter (λ f. not (is_spared item f)) es)) (none e.place.voucher.0)
+    ∙ spared-all item es none
+
+gone-none : (journal : List Record) (item : Record) (target : Target) → ((n : ℕ) → takes_back n item ≡ false)
+    → returned (filter (λ e. not (is_spared item e)) (all_entries journal)) target ≡ 0
+gone-none journal item target none = ap (λ (es : List Entry). returned es target) (spared-all item (all_entries journal) none)
+
+-- what goes with a cancel are the movements of the record that it names
+spared-none : (item : Record) (n : ℕ) (es : List Entry) → ((k : ℕ) → takes_back k item ≡ nat_eq n k) → filter (λ e. not (is_spared item e)) es ≡ filter (is_of_record n) es
+spared-none item n [] only = refl
+spared-none item n (e ∷ es) only =
+    ap (λ (b : Bool). cond (not (not b)) (e ∷ filter (λ f. not (is_spared item f)) es) (filter (λ f. not (is_spared item f)) es)) (only e.place.voucher.0)
+    ∙ ap (λ (b : Bool). cond b (e ∷ filter (λ f. not (is_spared item f)) es) (filter (λ f. not (is_spared item f)) es)) (twice (nat_eq n e.place.voucher.0))
+    ∙ ap (λ (fs : List Entry). cond (nat_eq n e.place.voucher.0) (e ∷ fs) fs) (spared-none item n es only)
+  where
+    twice : (b : Bool) → not (not b) ≡ b
+    twice true = refl
+    twice false = refl
+
+-- a record of a sound journal that is in force returns the units that its lines name
+own-returned : (journal : List Record) (n : ℕ) (item : Record) (target : Target) → AreSound journal → record_at journal n ≡ Some item → is_live journal n ≡ true
+    → returned (filter (is_of_record n) (all_entries journal)) target ≡ units_named (lines_of item.what) target
+own-returned journal n item target sound held live =
+    let at = IsAt-from journal n item held in
+    let parts = sound-parts [] at.front item at.rest (subst AreSound at.parts sound) in
+    let made : entries_of journal n ≡ entries at.front item =
+    ap (λ (records : List Record). entries_of records n) at.parts ∙ ap (entries_of (at.front ++ item ∷ at.rest)) at.count ∙ entries_of-at at.front item at.rest in
+    ap (λ (es : List Entry). returned es target) (own-live journal n item held live ∙ made)
+    ∙ movements-returned at.front (length at.front + 1) item.what target parts.0 (NoFaults-from at.front item.what parts.1)
+
+-- a cancel that has no fault names a record that is held and in force
+pub in-force : (journal : List Record) (cancelled : RecordNo) → not_live journal (Cancel cancelled) ≡ None → is_voucher_in_force journal cancelled.0 ≡ true
+in-force journal cancelled none =
+    (elim (is_voucher_in_force journal cancelled.0) as (λ b. cond b None (Some (NotLive cancelled)) ≡ None → b ≡ true) [ true ↦ λ h. refl | false ↦ λ h. cc ]) none
+
+pub held-live : (journal : List Record) (n : ℕ) → is_voucher_in_force journal n ≡ true → ((item : Record) × (record_at journal n ≡ Some item)) × (is_live journal n ≡ true)
+held-live journal n =
+    elim (record_at journal n) as (λ o. (option_map_or record_is_voucher o false && is_live journal n) ≡ true → ((item : Record) × (o ≡ Some item)) × (is_live journal n ≡ true)) [
+      | None ↦ λ h. cc
+      | Some item ↦ λ h. ((item, refl), second (is_voucher item.what) (is_live journal n) h)
+    ]
+  where
+    second : (a b : Bool) → (a && b) ≡ true → b ≡ true
+    second true b h = h
+    second false b h = cc
+
+-- so the units that go with it are those of the record that it names
+gone-by : (journal : List Record) (item : Record) (target : Target) (what : What) → AreSound journal → item.what ≡ what → NoFaults journal what
+    → returned (filter (λ e. not (is_spared item e)) (all_entries journal)) target ≡ units_gone journal what target
+unfolding cancels
+gone-by journal item target (Item code method) sound says none = gone-none journal item target (λ n. ap (cancels n) says)
+gone-by journal item target (Store code account) sound says none = gone-none journal item target (λ n. ap (cancels n) says)
+gone-by journal item target (Receipt at lines) sound says none = gone-none journal item target (λ n. ap (cancels n) says)
+gone-by journal item target (Issue at purpose lines) sound says none = gone-none journal item target (λ n. ap (cancels n) says)
+gone-by journal item target (Transfer at lines) sound says none = gone-none journal item target (λ n. ap (cancels n) says)
+gone-by journal item target (CustomerReturn at lines) sound says none = gone-none journal item target (λ n. ap (cancels n) says)
+gone-by journal item target (SupplierReturn at lines) sound says none = gone-none journal item target (λ n. ap (cancels n) says)
+gone-by journal item target (Landed charge basis targets) sound says none = gone-none journal item target (λ n. ap (cancels n) says)
+gone-by journal item target (Freeze until) sound says none = gone-none journal item target (λ n. ap (cancels n) says)
+gone-by journal item target (Cancel cancelled) sound says none =
+    let found = held-live journal cancelled.0 (in-force journal cancelled none.live) in
+    ap (λ (es : List Entry). returned es target) (spared-none item cancelled.0 (all_entries journal) (λ k. ap (cancels k) says))
+    ∙ own-returned journal cancelled.0 found.0.0 target sound found.0.1 found.1
+    ∙ sym (ap (λ (o : Option Record). option_map_or (record_units target) o 0) found.0.1)
+
+-- they are no more than were counted
+pub units_gone-le : (journal : List Record) (item : Record) (target : Target) → AreSound journal → voucher_fault journal item.what ≡ None → units_gone journal item.what target ≤ returned (all_entries journal) target
+units_gone-le journal item target sound none =
+    omega (arith, returned-parts (is_spared item) (all_entries journal) target, gone-by journal item target item.what sound refl (NoFaults-from journal item.what none))
 
 -- the units that are returned with one more record
 pub returned-snoc : (journal : List Record) (item : Record) (target : Target) → AreSound journal → voucher_fault journal item.what ≡ None
-    → returned (all_entries (journal ++ item ∷ [])) target ≡ returned (all_entries journal) target + units_named (lines_of item.what) target
+    → returned (all_entries (journal ++ item ∷ [])) target + units_gone journal item.what target ≡ returned (all_entries journal) target + units_named (lines_of item.what) target
 returned-snoc journal item target sound none =
-    ap (λ (es : List Entry). returned es target) (all_entries-snoc journal item)
-    ∙ returned-append (all_entries journal) (entries journal item) target
-    ∙ ap (λ (x : ℕ). returned (all_entries journal) target + x) (movements-returned journal (length journal + 1) item.what target sound (NoFaults-from journal item.what none))
+    let own = NoFaults-from journal item.what none in
+    omega (
+      arith,
+      ap (λ (es : List Entry). returned es target) (all_entries-step journal item),
+      returned-append (filter (is_spared item) (all_entries journal)) (entries journal item) target,
+      returned-parts (is_spared item) (all_entries journal) target,
+      gone-by journal item target item.what sound refl own,
+      movements-returned journal (length journal + 1) item.what target sound own,
+    )
 
 -- they are no more than those of before and those that it names
 pub returned-step : (journal : List Record) (item : Record) (target : Target) → AreSound journal → voucher_fault journal item.what ≡ None
@@ -311,6 +408,7 @@ units-within journal (SupplierReturn at lines) target none held =
     omega (arith, held, few.within, target_line-units journal (record { kind = OfReceipt; target = target }))
 units-within journal (Landed charge basis targets) target none held = omega (arith, held)
 units-within journal (Freeze until) target none held = omega (arith, held)
+units-within journal (Cancel cancelled) target none held = omega (arith, held)
 
 -- one more record leaves the lines of those before
 slice_get-append : {X : Type 0} (xs ys : List X) (i : ℕ) (x : X) → slice_get xs i ≡ Some x → slice_get (xs ++ ys) i ≡ Some x

@@ -15,7 +15,7 @@ use Rattle.stock_nums.specs.declared.numbers.ItemNo.{ItemNo}
 use Rattle.stock_model.specs.declared.records.Record.{Record}
 use Rattle.stock_model.specs.declared.seen.Move.{Move}
 use Rattle.stock_model.specs.declared.vouchers.What.{What}
-use Rattle.stock_model.specs.declared.vouchers.What.TheVariants.{Item, Store, Receipt, Issue, Transfer, CustomerReturn, SupplierReturn, Landed, Freeze}
+use Rattle.stock_model.specs.declared.vouchers.What.TheVariants.{Item, Store, Receipt, Issue, Transfer, CustomerReturn, SupplierReturn, Landed, Freeze, Cancel}
 use Rattle.stock_model.specs.Conservation.{is_sent, is_arrived}
 use Rattle.stock_model.specs.Entries.{moved, move_made, moves_made, found_made, line_made, lines_made, entries, entries_after, is_live_entry, all_entries}
 use Rattle.stock_model.specs.Faults.{is_unknown_store, voucher_fault}
@@ -90,6 +90,7 @@ moves_of-even n (CustomerReturn at lines) line found = customer_moves-even n lin
 moves_of-even n (SupplierReturn at lines) line found = supplier_moves-even n line.item found
 moves_of-even n (Landed charge basis targets) line found = refl
 moves_of-even n (Freeze until) line found = refl
+moves_of-even n (Cancel cancelled) line found = refl
 
 -- a line makes movements that are even
 line-even : (journal : List Record) (n : ℕ) (at : Moment) (what : What) (number : ℕ) (line : VoucherLine) (weight : Moment → Target → ℕ) → IsMade journal what line

@@ -8,7 +8,7 @@ use Rattle.std.proofs.lemmas.List.Elements.{filter_map-append}
 use Rattle.stock_nums.specs.declared.head.Head.{Head}
 use Rattle.stock_model.specs.declared.records.Record.{Record}
 use Rattle.stock_model.specs.declared.vouchers.What.{What}
-use Rattle.stock_model.specs.declared.vouchers.What.TheVariants.{Item, Store, Receipt, Issue, Transfer, CustomerReturn, SupplierReturn, Landed, Freeze}
+use Rattle.stock_model.specs.declared.vouchers.What.TheVariants.{Item, Store, Receipt, Issue, Transfer, CustomerReturn, SupplierReturn, Landed, Freeze, Cancel}
 use Rattle.stock_model.specs.Masters.{heads, head_made, head_numbered, has_number, head_code, code_of, code_made, record_code, record_at}
 
 -- the heads of records that are numbered from k on
@@ -35,6 +35,7 @@ passed k n (CustomerReturn at lines) rest h = refl
 passed k n (SupplierReturn at lines) rest h = refl
 passed k n (Landed charge basis targets) rest h = refl
 passed k n (Freeze until) rest h = refl
+passed k n (Cancel target) rest h = refl
 
 -- no head has a lower number
 none_below : (k n : ℕ) (records : List Record) → n < k → find (has_number n) (heads_from k records) ≡ None
@@ -55,6 +56,7 @@ code_of-first n (CustomerReturn at lines) rest none = ap (λ (found : Option Hea
 code_of-first n (SupplierReturn at lines) rest none = ap (λ (found : Option Head). unwrap_or (option_map head_code found) []) none
 code_of-first n (Landed charge basis targets) rest none = ap (λ (found : Option Head). unwrap_or (option_map head_code found) []) none
 code_of-first n (Freeze until) rest none = ap (λ (found : Option Head). unwrap_or (option_map head_code found) []) none
+code_of-first n (Cancel target) rest none = ap (λ (found : Option Head). unwrap_or (option_map head_code found) []) none
 
 -- of the heads of records numbered from k on, the one with the number of the d-th has its code
 code_of-from : (d k n : ℕ) (records : List Record) → n ≡ d + k → code_of (heads_from k records) n ≡ option_map_or record_code (slice_get records d) []

@@ -13,14 +13,14 @@ use Rattle.stock_model.specs.declared.targets.TargetKind.{TargetKind}
 use Rattle.stock_model.specs.declared.targets.TargetKind.TheVariants.{OfSale, OfReceipt}
 use Rattle.stock_model.specs.declared.vouchers.ReturnLine.{ReturnLine}
 use Rattle.stock_model.specs.declared.vouchers.What.{What}
-use Rattle.stock_model.specs.declared.vouchers.What.TheVariants.{Item, Store, Receipt, Issue, Transfer, CustomerReturn, SupplierReturn, Landed, Freeze}
+use Rattle.stock_model.specs.declared.vouchers.What.TheVariants.{Item, Store, Receipt, Issue, Transfer, CustomerReturn, SupplierReturn, Landed, Freeze, Cancel}
 use Rattle.stock_model.specs.Entries.{moved, move_made, moves_made, found_made, line_made, lines_made, movements}
 use Rattle.stock_model.specs.Faults.{lacks_item, is_unknown_item, lacks_store, is_unknown_store, lacks_target, voucher_fault}
 use Rattle.stock_model.specs.Journals.{AreSound}
 use Rattle.stock_model.specs.Masters.{item_with, store_with}
 use Rattle.stock_model.specs.TargetLines.{target_line, coded_item, line_having, line_found}
 use Rattle.stock_model.specs.VoucherLines.{Subject, Coded, OfTarget, VoucherLine, lines_of, targets_of, stores_each, moves_of, receipt_line, issue_line, transfer_line, return_line, return_target}
-use Rattle.stock_model.proofs.NoFaults.{NoFaults, NoFaults-from}
+use Rattle.stock_model.proofs.NoFaults.{NoFaults, NoFaults-from, held-target}
 use Rattle.stock_model.proofs.Numbered.{Fails, first_line-none}
 use Rattle.stock_model.proofs.Pairwise.{Each, Each-map}
 use Rattle.stock_model.proofs.TargetItems.{some-from, target-coded}
@@ -96,6 +96,7 @@ lines-move (CustomerReturn at lines) = Each-map (MovesEach (CustomerReturn at li
 lines-move (SupplierReturn at lines) = Each-map (MovesEach (SupplierReturn at lines)) (return_line OfReceipt) (λ line found. refl) lines
 lines-move (Landed charge basis targets) = tt
 lines-move (Freeze until) = tt
+lines-move (Cancel target) = tt
 
 -- where the item is that of a target, the target is known
 abbrev pub HasTarget : List Record → Subject → Type 0
@@ -119,6 +120,7 @@ lines-targets journal (CustomerReturn at lines) all = returns-targets journal Of
 lines-targets journal (SupplierReturn at lines) all = returns-targets journal OfReceipt lines all
 lines-targets journal (Landed charge basis targets) all = tt
 lines-targets journal (Freeze until) all = tt
+lines-targets journal (Cancel target) all = tt
 
 -- a line whose item or target is there is known
 known-having : (journal : List Record) (line : VoucherLine) (subject : Subject) → AreSound journal → line.item ≡ subject → is_unknown_item journal subject ≡ false → HasTarget journal subject
@@ -127,7 +129,7 @@ known-having journal line (Coded code) sound is known target =
     let some = some-from (item_with journal code) known in
     (line, refl, some.0, ap (coded_item journal) is ∙ some.1)
 known-having journal line (OfTarget named) sound is known target =
-    let some = some-from (target_line journal named) target in
+    let some = some-from (target_line journal named) (held-target journal named target) in
     let item = target-coded journal named some.0 sound some.1 in
     (some.0, some.1, item.0, item.1)
 
@@ -164,6 +166,7 @@ movements-count journal n (CustomerReturn at lines) sound none = count-timed jou
 movements-count journal n (SupplierReturn at lines) sound none = count-timed journal n at (SupplierReturn at lines) (lines-IsMade journal (SupplierReturn at lines) sound (NoFaults-from journal (SupplierReturn at lines) none))
 movements-count journal n (Landed charge basis targets) sound none = refl
 movements-count journal n (Freeze until) sound none = refl
+movements-count journal n (Cancel target) sound none = refl
 
 -- as many for each line
 each-count : {X : Type 0} (line : X → VoucherLine) (m : ℕ) → ((x : X) → store_count (line x) ≡ m) → (xs : List X) → sum_by store_count (map line xs) ≡ length (map line xs) * m
@@ -180,3 +183,4 @@ move_count-each (CustomerReturn at lines) = sym (each-count (return_line OfSale)
 move_count-each (SupplierReturn at lines) = sym (each-count (return_line OfReceipt) 1 (λ line. refl) lines)
 move_count-each (Landed charge basis targets) = refl
 move_count-each (Freeze until) = refl
+move_count-each (Cancel target) = refl

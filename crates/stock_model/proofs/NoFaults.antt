@@ -1,10 +1,14 @@
 -- What it means that a record has no fault of its own.
 use Rattle.std.proofs.Common.{◌≡◌, Bool, true, false, cond, List, [], Option, Some, None, refl}
+use Rattle.std.specs.Prelude.{not, ◌||◌, is_none}
 use Rattle.std.specs.Option.{option_map, option_or, option_and_then}
 use Rattle.stock_model.specs.declared.faults.PostFault.TheVariants.{NoBasis}
 use Rattle.stock_model.specs.declared.records.Record.{Record}
+use Rattle.stock_model.specs.declared.targets.NamedTarget.{NamedTarget}
 use Rattle.stock_model.specs.declared.vouchers.What.{What}
-use Rattle.stock_model.specs.Faults.{first_line, first_repeated, lacks_item, lacks_store, stays, lacks_target, first_later, asks_more, has_no_basis, master_fault, lines_fault, targets_fault, frozen_fault, unknown_item, unknown_store, same_store, unknown_target, link_later, repeated_target, over_return, no_basis, voucher_fault}
+use Rattle.stock_model.specs.Entries.{is_live}
+use Rattle.stock_model.specs.Faults.{first_line, first_repeated, lacks_item, lacks_store, stays, lacks_target, not_live, linked, first_later, asks_more, has_no_basis, master_fault, lines_fault, targets_fault, frozen_fault, unknown_item, unknown_store, same_store, unknown_target, link_later, repeated_target, over_return, no_basis, voucher_fault}
+use Rattle.stock_model.specs.TargetLines.{target_line}
 use Rattle.stock_model.specs.VoucherLines.{lines_of, targets_of, moment_of}
 
 -- of two faults there is none only where there is neither
@@ -27,6 +31,8 @@ pub record NoFaults (journal : List Record) (what : What) : Type 0 where
   pub stores : first_line (lacks_store journal) 1 (lines_of what) ≡ None
   pub moves : first_line stays 1 (lines_of what) ≡ None
   pub known : first_line (lacks_target journal) 1 (targets_of what) ≡ None
+  pub live : not_live journal what ≡ None
+  pub unlinked : linked journal what ≡ None
   pub earlier : option_and_then (first_later journal what) (moment_of what) ≡ None
   pub once : first_repeated [] 1 (targets_of what) ≡ None
   pub left : first_line (asks_more journal) 1 (lines_of what) ≡ None
@@ -43,7 +49,9 @@ NoFaults-from journal what none =
     let store = neither (unknown_store journal what) _ item.1 in
     let same = neither (same_store what) None store.1 in
     let target = neither (unknown_target journal what) _ last.0 in
-    let later = neither (link_later journal what) _ target.1 in
+    let cancelled = neither (not_live journal what) _ target.1 in
+    let free = neither (linked journal what) _ cancelled.1 in
+    let later = neither (link_later journal what) _ free.1 in
     let again = neither (repeated_target what) _ later.1 in
     let over = neither (over_return journal what) _ again.1 in
     let base = neither (no_basis journal what) None over.1 in
@@ -53,9 +61,28 @@ NoFaults-from journal what none =
       stores = none-map _ _ store.0;
       moves = none-map _ _ same.0;
       known = none-map _ _ target.0;
+      live = cancelled.0;
+      unlinked = free.0;
       earlier = none-map _ _ later.0;
       once = none-map _ _ again.0;
       left = none-map _ _ over.0;
       basis = basis-none (has_no_basis journal what) base.0;
       unclosed = closed.0;
     }
+
+-- a target that is known is held
+pub held-target : (journal : List Record) (named : NamedTarget) → lacks_target journal named ≡ false → is_none (target_line journal named) ≡ false
+held-target journal named =
+    elim (is_none (target_line journal named)) as (λ b. (b || not (is_live journal named.target.voucher.0)) ≡ false → b ≡ false) [ true ↦ λ h. cc | false ↦ λ h. refl ]
+
+-- and in force
+pub live-target : (journal : List Record) (named : NamedTarget) → lacks_target journal named ≡ false → is_live journal named.target.voucher.0 ≡ true
+live-target journal named =
+    elim (is_none (target_line journal named)) as (λ b. (b || not (is_live journal named.target.voucher.0)) ≡ false → is_live journal named.target.voucher.0 ≡ true) [
+      | true ↦ λ h. cc
+      | false ↦ not-live (is_live journal named.target.voucher.0)
+    ]
+  where
+    not-live : (b : Bool) → not b ≡ false → b ≡ true
+    not-live true h = refl
+    not-live false h = cc

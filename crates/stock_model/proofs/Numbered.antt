@@ -80,6 +80,17 @@ any-drop test (suc i) (suc n) [] within = refl
 any-drop test zero (suc n) (x ∷ xs) within = refl
 any-drop test (suc i) (suc n) (x ∷ xs) within = any-drop test i n xs (omega arith)
 
+-- of the rest from an index on: the element there, or one after it
+any-drop_suc : {X : Type 0} (test : X → Bool) (i : ℕ) (xs : List X) → list_any test (drop i xs) ≡ (option_map_or test (slice_get xs i) false || list_any test (drop (suc i) xs))
+any-drop_suc test zero [] = refl
+any-drop_suc test (suc i) [] = refl
+any-drop_suc test zero (x ∷ xs) = refl
+any-drop_suc test (suc i) (x ∷ xs) = any-drop_suc test i xs
+
+pub any-drop_all : {X : Type 0} (test : X → Bool) (i : ℕ) (xs : List X) → list_any test (drop i xs) ≡ (option_map_or test (slice_get xs i) false || list_any test (drop (i + 1) xs))
+any-drop_all test i xs =
+    subst (λ (k : ℕ). list_any test (drop i xs) ≡ (option_map_or test (slice_get xs i) false || list_any test (drop k xs))) (sym (add-one i)) (any-drop_suc test i xs)
+
 -- where the target at an index repeats none before it, those after it have the first that repeats one
 repeated-drop_suc : (earlier : List NamedTarget) (n i : ℕ) (named : List NamedTarget) → i < length named
     → option_map_or (is_among (earlier ++ take i named)) (slice_get named i) false ≡ false

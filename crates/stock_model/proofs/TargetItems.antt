@@ -12,7 +12,7 @@ use Rattle.stock_model.specs.declared.targets.NamedTarget.{NamedTarget}
 use Rattle.stock_model.specs.declared.targets.TargetKind.{TargetKind}
 use Rattle.stock_model.specs.declared.targets.TargetKind.TheVariants.{OfSale, OfReceipt}
 use Rattle.stock_model.specs.declared.vouchers.What.{What}
-use Rattle.stock_model.specs.declared.vouchers.What.TheVariants.{Item, Store, Receipt, Issue, Transfer, CustomerReturn, SupplierReturn, Landed, Freeze}
+use Rattle.stock_model.specs.declared.vouchers.What.TheVariants.{Item, Store, Receipt, Issue, Transfer, CustomerReturn, SupplierReturn, Landed, Freeze, Cancel}
 use Rattle.stock_model.specs.Faults.{lacks_item, is_unknown_item, voucher_fault}
 use Rattle.stock_model.specs.Journals.{AreSound, AreSoundAfter}
 use Rattle.stock_model.specs.Masters.{item_numbered, items, item_with, record_at}
@@ -121,6 +121,7 @@ lines-coded OfSale (CustomerReturn at lines) is = cc
 lines-coded OfSale (SupplierReturn at lines) is = cc
 lines-coded OfSale (Landed charge basis targets) is = tt
 lines-coded OfSale (Freeze until) is = tt
+lines-coded OfSale (Cancel target) is = tt
 lines-coded OfReceipt (Item code method) is = tt
 lines-coded OfReceipt (Store code account) is = tt
 lines-coded OfReceipt (Receipt at lines) is = Each-map IsCoded receipt_line (λ line. (line.item, refl)) lines
@@ -130,6 +131,7 @@ lines-coded OfReceipt (CustomerReturn at lines) is = cc
 lines-coded OfReceipt (SupplierReturn at lines) is = cc
 lines-coded OfReceipt (Landed charge basis targets) is = tt
 lines-coded OfReceipt (Freeze until) is = tt
+lines-coded OfReceipt (Cancel target) is = tt
 
 -- what holds of each line holds of the one with a number
 pub line_numbered-each : (P : VoucherLine → Type 0) (lines : List VoucherLine) (n : ℕ) (line : VoucherLine) → Each P lines → line_numbered lines n ≡ Some line → P line

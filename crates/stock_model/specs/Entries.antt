@@ -1,5 +1,5 @@
 -- The movements of a record: one for one item and one warehouse each.
-use Rattle.std.specs.Prelude.{ℕ, ◌+◌, ◌-◌, Bool, false, not, List, [], ◌∷◌, ◌++◌, length, take, drop, filter, Option}
+use Rattle.std.specs.Prelude.{ℕ, ◌+◌, ◌-◌, ◌==◌, Bool, false, not, List, [], ◌∷◌, ◌++◌, length, take, drop, filter, Option}
 use Rattle.std.specs.Option.{option_map, option_to_list}
 use Rattle.std.specs.List.{filter_map, enumerate_from, flat_map, zip, list_any}
 use Rattle.stock_nums.specs.declared.moment.Moment.{Moment}
@@ -9,6 +9,7 @@ use Rattle.stock_nums.specs.declared.numbers.AccountNo.{AccountNo}
 use Rattle.stock_nums.specs.declared.cause.Method.{Method}
 use Rattle.stock_nums.specs.declared.entry.Entry.{Entry}
 use Rattle.stock_model.specs.declared.vouchers.What.{What}
+use Rattle.stock_model.specs.declared.vouchers.What.TheVariants.{Cancel}
 use Rattle.stock_model.specs.declared.records.Record.{Record}
 use Rattle.stock_model.specs.declared.seen.Move.{Move}
 use Rattle.stock_model.specs.Masters.{store_with, record_at}
@@ -64,9 +65,10 @@ abbrev pub entries_after : List Record → List Record → List Entry
 entries_after journal [] = []
 entries_after journal (item ∷ rest) = entries journal item ++ entries_after (journal ++ item ∷ []) rest
 
--- what says this takes the record with this number back: as yet nothing does
+-- what says this takes the record with this number back
 unfoldable pub cancels : ℕ → What → Bool
-cancels n what = false
+cancels n (Cancel target) = target.0 == n
+cancels n _ = false
 
 abbrev pub takes_back : ℕ → Record → Bool
 takes_back n item = cancels n item.what
@@ -89,3 +91,7 @@ all_entries journal = filter (is_live_entry journal) (entries_after [] journal)
 -- the movements of the record with this number, from 1
 abbrev pub entries_of : List Record → ℕ → List Entry
 entries_of journal n = flat_map (entries (take (n - 1) journal)) (option_to_list (record_at journal n))
+
+-- the movement is one of the record with this number
+abbrev pub is_of_record : ℕ → Entry → Bool
+is_of_record n e = n == e.place.voucher.0

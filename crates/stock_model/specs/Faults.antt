@@ -1,5 +1,5 @@
 -- Why a record is refused: the first fault in the one order of faults, with its data.
-use Rattle.std.specs.Prelude.{ℕ, ◌+◌, ◌-◌, Bool, false, ◌||◌, ◌==◌, List, [], ◌∷◌, ◌++◌, length, sum, nat_eq, nat_lt, nat_le, if◌then◌else◌, Option, Some, None, is_some, is_none}
+use Rattle.std.specs.Prelude.{ℕ, ◌+◌, ◌-◌, Bool, false, not, ◌||◌, ◌==◌, List, [], ◌∷◌, ◌++◌, length, sum, nat_eq, nat_lt, nat_le, if◌then◌else◌, Option, Some, None, is_some, is_none}
 use Rattle.std.specs.Option.{option_map, option_map_or, option_or, option_and_then}
 use Rattle.std.specs.List.{list_any}
 use Rattle.std.specs.Cmp.Lexicographic.{pointwise}
@@ -11,20 +11,21 @@ use Rattle.stock_nums.specs.declared.limits.TheConstants.{MAX_RECORDS, MAX_ENTRI
 use Rattle.stock_nums.specs.declared.cause.Target.{Target}
 use Rattle.stock_nums.specs.declared.moment.Moment.{Moment}
 use Rattle.stock_model.specs.declared.faults.PostFault.{PostFault}
-use Rattle.stock_model.specs.declared.faults.PostFault.TheVariants.{CodeTaken, CodeShape, AccountRange, UnknownItem, UnknownStore, SameStore, UnknownTarget, LinkLater, RepeatedTarget, OverReturn, NoBasis, Frozen, Full, Short}
+use Rattle.stock_model.specs.declared.faults.PostFault.TheVariants.{CodeTaken, CodeShape, AccountRange, UnknownItem, UnknownStore, SameStore, UnknownTarget, NotLive, Linked, LinkLater, RepeatedTarget, OverReturn, NoBasis, Frozen, Full, Short}
 use Rattle.stock_model.specs.declared.line_faults.LineTest.{LineTest}
 use Rattle.stock_model.specs.declared.line_faults.LineTest.TheVariants.{LacksItem, LacksStore, Stays, AsksMore}
 use Rattle.stock_model.specs.declared.target_faults.TargetTest.{TargetTest}
 use Rattle.stock_model.specs.declared.target_faults.TargetTest.TheVariants.{IsUnknown, ComesLater}
 use Rattle.stock_model.specs.declared.targets.NamedTarget.{NamedTarget}
 use Rattle.stock_model.specs.declared.vouchers.What.{What}
-use Rattle.stock_model.specs.declared.vouchers.What.TheVariants.{Item, Store, Landed}
+use Rattle.stock_model.specs.declared.vouchers.What.TheVariants.{Item, Store, Landed, Cancel}
 use Rattle.stock_model.specs.declared.shortages.Shortage.{Shortage}
 use Rattle.stock_model.specs.declared.records.Record.{Record}
-use Rattle.stock_model.specs.Masters.{item_with, store_with}
+use Rattle.stock_model.specs.Masters.{item_with, store_with, record_at}
 use Rattle.stock_model.specs.VoucherLines.{Subject, Coded, OfTarget, VoucherLine, moment_of, lines_of, targets_of, charged_targets}
 use Rattle.stock_model.specs.TargetLines.{line_numbered, target_line, target_moment}
-use Rattle.stock_model.specs.Entries.{entries, all_entries}
+use Rattle.stock_model.specs.Entries.{is_live, entries, all_entries}
+use Rattle.stock_model.specs.Cancelling.{is_voucher_in_force, first_link}
 use Rattle.stock_model.specs.Returns.{returned, line_units}
 use Rattle.stock_model.specs.LandedCost.{weights}
 use Rattle.stock_model.specs.Freezing.{is_closed, frozen}
@@ -88,12 +89,25 @@ stays line = are_same_stores line.stores
 abbrev pub same_store : What → Option PostFault
 same_store what = option_map SameStore (first_line stays 1 (lines_of what))
 
--- the target is no line of an accepted voucher of its kind
+-- the target is no line of an accepted voucher of its kind that is in force
 abbrev pub lacks_target : List Record → NamedTarget → Bool
-lacks_target journal named = is_none (target_line journal named)
+lacks_target journal named = is_none (target_line journal named) || not (is_live journal named.target.voucher.0)
 
 abbrev pub unknown_target : List Record → What → Option PostFault
 unknown_target journal what = option_map UnknownTarget (first_line (lacks_target journal) 1 (targets_of what))
+
+-- what is to be cancelled is no voucher in force
+abbrev pub not_live : List Record → What → Option PostFault
+not_live journal (Cancel target) = if is_voucher_in_force journal target.0 then None else Some (NotLive target)
+not_live journal _ = None
+
+abbrev pub linked_by : ℕ × Record → PostFault
+linked_by (n, item) = Linked (record { 0 = n })
+
+-- a voucher in force names a line of what is to be cancelled: the first one
+abbrev pub linked : List Record → What → Option PostFault
+linked journal (Cancel target) = option_map linked_by (first_link journal target.0)
+linked journal _ = None
 
 abbrev pub is_after : Moment → Moment → Bool
 is_after at moment = is_later moment at
@@ -177,8 +191,19 @@ abbrev pub was_closed : List Record → Moment → Target → Bool
 was_closed journal until target = option_map_or (is_closed until) (target_moment journal target) false
 
 -- the voucher moves goods at a closed moment, or charges goods that were received at one
+abbrev pub says_closed : List Record → Moment → What → Bool
+says_closed journal until what = option_map_or (is_closed until) (moment_of what) false || list_any (was_closed journal until) (charged_targets what)
+
+abbrev pub record_says_closed : List Record → Moment → Record → Bool
+record_says_closed journal until item = says_closed journal until item.what
+
+-- what is taken back moved goods at a closed moment, or charged goods that were received at one
+abbrev pub cancels_closed : List Record → Moment → What → Bool
+cancels_closed journal until (Cancel target) = option_map_or (record_says_closed journal until) (record_at journal target.0) false
+cancels_closed journal until _ = false
+
 abbrev pub changes_closed : List Record → What → Moment → Bool
-changes_closed journal what until = option_map_or (is_closed until) (moment_of what) false || list_any (was_closed journal until) (charged_targets what)
+changes_closed journal what until = says_closed journal until what || cancels_closed journal until what
 
 abbrev pub frozen_by : List Record → What → Moment → Option PostFault
 frozen_by journal what until = if changes_closed journal what until then Some (Frozen until) else None
@@ -203,7 +228,7 @@ lines_fault journal what = first_fault (unknown_item journal what ∷ unknown_st
 -- the faults of the lines of earlier vouchers that the voucher names
 abbrev pub targets_fault : List Record → What → Option PostFault
 targets_fault journal what =
-    first_fault (unknown_target journal what ∷ link_later journal what ∷ repeated_target what ∷ over_return journal what ∷ no_basis journal what ∷ [])
+    first_fault (unknown_target journal what ∷ not_live journal what ∷ linked journal what ∷ link_later journal what ∷ repeated_target what ∷ over_return journal what ∷ no_basis journal what ∷ [])
 
 -- the first fault of what the record says, whatever room there is
 abbrev pub voucher_fault : List Record → What → Option PostFault

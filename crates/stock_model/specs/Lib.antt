@@ -6,6 +6,7 @@ pub mod LineViews
 pub mod Entries
 pub mod PostingOrder
 pub mod Returns
+pub mod Cancelling
 pub mod LandedCost
 pub mod Freezing
 pub mod Sums

@@ -1,7 +1,7 @@
 //! Why a record is not accepted.
 
 use stock_nums::moment::Moment;
-use stock_nums::numbers::{ItemNo, Qty, StoreNo};
+use stock_nums::numbers::{ItemNo, Qty, RecordNo, StoreNo};
 use stock_nums::place::Place;
 
 /// Why a record was not accepted, in the order in which faults are looked for. A fault of a line names
@@ -26,9 +26,17 @@ pub enum PostFault {
     SameStore {
         line: u32,
     },
-    /// The line's target is no line of an accepted voucher of the right kind.
+    /// The line's target is no line of an accepted voucher of the right kind that is in force.
     UnknownTarget {
         line: u32,
+    },
+    /// What is to be cancelled is no accepted receipt, issue, transfer, return or landed voucher, or isn't in force any more.
+    NotLive {
+        target: RecordNo,
+    },
+    /// A return or a landed voucher that is in force names a line of what is to be cancelled. `by` is the first one.
+    Linked {
+        by: RecordNo,
     },
     /// The record's moment is before that of the line's target.
     LinkLater {

@@ -1,7 +1,7 @@
 //! Closed books: up to which moment the records of a journal close the past, and what would change it.
 ghost use Rattle.std.specs.Prelude.{◌≡◌, Some};
 ghost use Rattle.std.specs.List.{list_any};
-ghost use Rattle.stock_model.specs.Faults.{was_closed, changes_closed, frozen_fault};
+ghost use Rattle.stock_model.specs.Faults.{was_closed, says_closed, cancels_closed, changes_closed, frozen_fault};
 ghost use Rattle.stock_model.specs.Freezing.{closed_by, later_of, later_if_any, frozen, is_closed};
 ghost use Rattle.stock_model.specs.VoucherLines.{charged_targets};
 
@@ -74,13 +74,33 @@ pub(crate) fn frozen_fault<N: Returns>(names: &N, what: &What) -> Option<PostFau
     }
 }
 
-// Whether the voucher moves goods at a moment that is closed, or charges goods that were received at one.
+// Whether the voucher changes what is closed, itself or by taking back one that does.
 fn changes_closed<N: Names>(names: &N, what: &What, until: Moment) -> bool
     ensures { result ≡ changes_closed (N.journal names.now) what.now until }
+{
+    says_closed(names, until, what) || cancels_closed(names, until, what)
+}
+
+// Whether the voucher moves goods at a moment that is closed, or charges goods that were received at one.
+fn says_closed<N: Names>(names: &N, until: Moment, what: &What) -> bool
+    ensures { result ≡ says_closed (N.journal names.now) until what.now }
 {
     match moment_of(what) {
         Some(at) if is_closed(until, at) => true,
         _ => charges_closed(names, what, until),
+    }
+}
+
+// Whether what is taken back moved goods at a moment that is closed, or charged goods that were received at one.
+fn cancels_closed<N: Names>(names: &N, until: Moment, what: &What) -> bool
+    ensures { result ≡ cancels_closed (N.journal names.now) until what.now }
+{
+    match what {
+        What::Cancel { target } => match names.record_at(*target) {
+            Some(record) => says_closed(names, until, &record.what),
+            None => false,
+        },
+        _ => false,
     }
 }
 

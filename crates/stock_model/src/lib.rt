@@ -3,6 +3,7 @@
 #![tactic(auto)]
 
 pub mod answers;
+pub mod cancelling;
 pub mod deeds;
 pub mod faults;
 pub mod freezing;

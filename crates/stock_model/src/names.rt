@@ -2,7 +2,7 @@
 ghost use Rattle.std.specs.Prelude.{◌≡◌, ◌^◌, ◌<◌, List, length};
 ghost use Rattle.std.specs.Option.{option_copied};
 ghost use Rattle.stock_model.specs.declared.records.Record.{Record};
-ghost use Rattle.stock_model.specs.Entries.{all_entries};
+ghost use Rattle.stock_model.specs.Entries.{all_entries, is_live};
 ghost use Rattle.stock_model.specs.Freezing.{frozen};
 ghost use Rattle.stock_model.specs.Masters.{item_with, store_with, record_at};
 ghost use Rattle.stock_model.specs.Returns.{returned};
@@ -30,11 +30,20 @@ pub trait Names {
     /// The record with this number, from 1. None exactly where the journal has no such record.
     fn record_at(&self, number: RecordNo) -> Option<&Record>
         ensures { option_copied result ≡ record_at (journal self.now) number.0 };
+
+    /// The records in the order of their numbers.
+    fn records(&self) -> &[Record]
+        ensures records { result.now ≡ journal self.now }
+        ensures few { length result.now < 2 ^ 32 };
 }
 
-/// What a voucher may name, how many units of lines were returned, and up to which moment the past is closed.
+/// What a voucher may name, which of it is in force, how many units of lines were returned, and up to which moment the past is closed.
 pub trait Returns: Names {
-    /// How many units of the line all vouchers of the journal return, whatever their moments.
+    /// Whether the record with this number, from 1, is in force: no later record of the journal takes it back.
+    fn is_live(&self, number: RecordNo) -> bool
+        ensures { result ≡ is_live (Self.Names.journal self.now) number.0 };
+
+    /// How many units of the line all vouchers in force return, whatever their moments.
     fn returned(&self, target: Target) -> Qty
         ensures { result.0 ≡ returned (all_entries (Self.Names.journal self.now)) target };
 
@@ -63,5 +72,9 @@ impl<'a> Names for Listed<'a> {
 
     fn record_at(&self, number: RecordNo) -> Option<&Record> {
         masters::record_at(self.records, number)
+    }
+
+    fn records(&self) -> &[Record] {
+        self.records
     }
 }

@@ -1,7 +1,9 @@
 //! All movements of a journal in posting order, put in one by one.
-ghost use Rattle.std.specs.Prelude.{◌≡◌, ◌^◌, ◌<◌, ◌≤◌, length, insert, IfOk, OnOk, OnErr};
+ghost use Rattle.std.specs.Prelude.{◌≡◌, ◌^◌, ◌<◌, ◌≤◌, length, insert, filter, IfOk, OnOk, OnErr};
+ghost use Rattle.stock_model.specs.Entries.{is_live_entry};
 ghost use Rattle.stock_model.specs.PostingOrder.{put, put_all, posting_line};
 
+use crate::cancelling::is_live;
 use crate::movements::entries;
 use crate::names::Listed;
 use crate::records::Record;
@@ -43,7 +45,19 @@ pub fn put_all(line: &mut Lines<Entry>, entries: &[Entry]) -> Result<(), NoMemor
     Ok(())
 }
 
-/// The movements of all records of a journal, in posting order.
+// Puts those of the entries among those of the line whose records are in force.
+fn put_live(line: &mut Lines<Entry>, records: &[Record], entries: &[Entry]) -> Result<(), NoMemory>
+    ensures { OnOk result (line.new ≡ put_all line.old (filter (is_live_entry records.now) entries.now)) }
+{
+    for entry in entries {
+        if is_live(records, entry.place.voucher) {
+            put(line, *entry)?;
+        }
+    }
+    Ok(())
+}
+
+/// The movements of all records of a journal that are in force, in posting order.
 pub fn posting_line(alloc: Global, records: &[Record]) -> Result<Lines<Entry>, NoMemory>
     requires { length records.now < 2 ^ 32 }
     ensures { IfOk result (λ line. line ≡ posting_line records.now) }
@@ -55,7 +69,7 @@ pub fn posting_line(alloc: Global, records: &[Record]) -> Result<Lines<Entry>, N
         };
         let number = RecordNo(index as u32 + 1);
         let new = entries(alloc, &before, number, &records[index])?;
-        put_all(&mut line, new.as_slice())?;
+        put_live(&mut line, records, new.as_slice())?;
     }
     Ok(line)
 }

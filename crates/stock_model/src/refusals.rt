@@ -6,6 +6,7 @@ ghost use Rattle.stock_model.specs.Faults.{master_fault, lines_fault, link_later
 ghost use Rattle.stock_model.specs.LineViews.{seen};
 ghost use Rattle.stock_model.specs.VoucherLines.{lines_of, targets_of};
 
+use crate::cancelling::{linked, not_live};
 use crate::faults::PostFault;
 use crate::freezing::frozen_fault;
 use crate::landed_weights::has_no_basis;
@@ -102,6 +103,12 @@ fn targets_fault<N: Returns>(names: &N, what: &What) -> Option<PostFault>
     if let Some(line) = first_target(TargetTest::IsUnknown, names, what) {
         return Some(PostFault::UnknownTarget { line });
     }
+    if let Some(fault) = not_live(names, what) {
+        return Some(fault);
+    }
+    if let Some(fault) = linked(names, what) {
+        return Some(fault);
+    }
     if let Some(fault) = link_later(names, what) {
         return Some(fault);
     }
@@ -118,7 +125,7 @@ fn targets_fault<N: Returns>(names: &N, what: &What) -> Option<PostFault>
 }
 
 // The first target that is of a later moment than a return.
-fn link_later<N: Names>(names: &N, what: &What) -> Option<PostFault>
+fn link_later<N: Returns>(names: &N, what: &What) -> Option<PostFault>
     requires { length (targets_of what.now) ≤ MAX_LINES }
     ensures { result ≡ link_later (N.journal names.now) what.now }
 {

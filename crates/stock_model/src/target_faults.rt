@@ -1,11 +1,11 @@
 //! The first line of an earlier voucher that a voucher names and that has a fault.
 ghost use Rattle.std.specs.Prelude.{◌≡◌, ◌≤◌, false, [], length, take, slice_get};
 ghost use Rattle.std.specs.Option.{option_map_or};
-ghost use Rattle.stock_model.specs.Faults.{first_line, first_repeated, target_test, comes_later, is_among, name_one_line};
+ghost use Rattle.stock_model.specs.Faults.{first_line, first_repeated, target_test, lacks_target, comes_later, is_among, name_one_line};
 ghost use Rattle.stock_model.specs.VoucherLines.{targets_of};
 
 use crate::line_views::{target_at, target_count};
-use crate::names::Names;
+use crate::names::{Names, Returns};
 use crate::target_lines::{target_line, target_moment};
 use crate::targets::NamedTarget;
 use crate::vouchers::What;
@@ -15,14 +15,14 @@ use stock_nums::moment::Moment;
 /// What a target is tested for.
 #[derive(Clone, Copy)]
 pub enum TargetTest {
-    /// It is no line of an accepted voucher of its kind.
+    /// It is no line of an accepted voucher of its kind that is in force.
     IsUnknown,
     /// It is of a voucher of a later moment than this.
     ComesLater(Moment),
 }
 
 /// The number of the first target that has what is tested, from 1.
-pub(crate) fn first_target<N: Names>(test: TargetTest, names: &N, what: &What) -> Option<u32>
+pub(crate) fn first_target<N: Returns>(test: TargetTest, names: &N, what: &What) -> Option<u32>
     requires { length (targets_of what.now) ≤ MAX_LINES }
     ensures { result ≡ first_line (target_test test (N.journal names.now)) 1 (targets_of what.now) }
 {
@@ -35,7 +35,7 @@ pub(crate) fn first_target<N: Names>(test: TargetTest, names: &N, what: &What) -
 }
 
 // Whether the target at this index, from 0, has what is tested.
-fn has_at<N: Names>(test: TargetTest, names: &N, what: &What, index: usize) -> bool
+fn has_at<N: Returns>(test: TargetTest, names: &N, what: &What, index: usize) -> bool
     ensures { result ≡ option_map_or (target_test test (N.journal names.now)) (slice_get (targets_of what.now) index) false }
 {
     match target_at(what, index) {
@@ -44,13 +44,19 @@ fn has_at<N: Names>(test: TargetTest, names: &N, what: &What, index: usize) -> b
     }
 }
 
-fn has<N: Names>(test: TargetTest, names: &N, named: NamedTarget) -> bool
+fn has<N: Returns>(test: TargetTest, names: &N, named: NamedTarget) -> bool
     ensures { result ≡ target_test test (N.journal names.now) named }
 {
     match test {
-        TargetTest::IsUnknown => target_line(names, named).is_none(),
+        TargetTest::IsUnknown => lacks_target(names, named),
         TargetTest::ComesLater(at) => comes_later(names, at, named),
     }
+}
+
+fn lacks_target<N: Returns>(names: &N, named: NamedTarget) -> bool
+    ensures { result ≡ lacks_target (N.journal names.now) named }
+{
+    target_line(names, named).is_none() || !names.is_live(named.target.voucher)
 }
 
 fn comes_later<N: Names>(names: &N, at: Moment, named: NamedTarget) -> bool

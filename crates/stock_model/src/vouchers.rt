@@ -10,7 +10,7 @@ use stock_nums::code::Code;
 use stock_nums::lines::Lines;
 use stock_nums::memory::NoMemory;
 use stock_nums::moment::Moment;
-use stock_nums::numbers::{AccountNo, Minor, Qty};
+use stock_nums::numbers::{AccountNo, Minor, Qty, RecordNo};
 
 /// A line of a receipt.
 #[derive(Drop)]
@@ -129,6 +129,10 @@ pub enum What {
     Freeze {
         until: Moment,
     },
+    /// The voucher with this number, at least 1, is taken back: its movements and what it charges count no more, at no moment.
+    Cancel {
+        target: RecordNo,
+    },
 }
 
 /// A line of which an equal one can be made.
@@ -231,6 +235,7 @@ impl What {
                 targets: copy_lines(alloc, targets.as_slice())?,
             }),
             What::Freeze { until } => Ok(What::Freeze { until: *until }),
+            What::Cancel { target } => Ok(What::Cancel { target: *target }),
         }
     }
 }

@@ -58,10 +58,11 @@ impl LineSums {
         let _ = self.by_line.insert(line, sum);
     }
 
-    /// Takes from the number of a line, which is no less. It takes no memory.
+    /// Takes from the number of a line, which is no less. It takes no memory, and no room away.
     pub fn subtract(&mut self, line: Target, number: u128)
         requires within { number ≤ number_of self.old line }
-        ensures { (other : Target) → number_of self.new other ≡ number_of self.old other - (if is_same_target line other then number else 0) }
+        ensures kept { (other : Target) → has_room self.old other ≡ true → has_room self.new other ≡ true }
+        ensures taken { (other : Target) → number_of self.new other ≡ number_of self.old other - (if is_same_target line other then number else 0) }
     {
         let before = self.of(line);
         if before > 0 {

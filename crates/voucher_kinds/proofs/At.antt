@@ -1,7 +1,7 @@
 -- The record with a number, as an index finds it.
-use Rattle.std.proofs.Common.{◌≡◌, ℕ, zero, suc, ◌+◌, ◌-◌, ◌<◌, ◌≤◌, List, [], ◌∷◌, ◌++◌, length, take, get_or, Some, refl, sym, ap, ◌∙◌, arith}
+use Rattle.std.proofs.Common.{◌≡◌, ℕ, zero, suc, ◌+◌, ◌-◌, ◌<◌, ◌≤◌, List, [], ◌∷◌, ◌++◌, length, take, drop, get_or, Some, refl, sym, ap, ◌∙◌, arith}
 use Rattle.std.proofs.lemmas.Option.{slice_get_read}
-use Rattle.std.proofs.lemmas.List.{append-nil, take_more}
+use Rattle.std.proofs.lemmas.List.{append-nil, take_more, take_all, drop_all}
 use Rattle.std.proofs.Math.Seq.{take-length}
 use Rattle.stock_model.specs.declared.records.Record.{Record}
 use Rattle.stock_model.specs.Masters.{record_at}
@@ -36,3 +36,8 @@ journal-last journal shown count last some same counted is =
     let all : count - 1 + 1 ≡ length journal = omega (arith, ap (λ (records : List Record). length records) same) in
     sym (take-length journal) ∙ ap (λ (k : ℕ). take k journal) (sym all) ∙ take_more journal (count - 1) last (omega arith)
     ∙ ap (λ (r : Record). take (count - 1) journal ++ r ∷ []) (sym (is ∙ ap (λ (records : List Record). get_or records (count - 1) last) same))
+
+-- a list that was changed in its place, and none of it was beyond
+pub whole-of : {X : Type 0} (n : ℕ) (xs ys : List X) → length xs ≡ length ys → n ≡ length ys → take n (xs ++ drop (length xs) ys) ≡ xs
+whole-of n xs ys same count =
+    ap (λ rest. take n (xs ++ rest)) (drop_all (length xs) ys (omega (arith, same))) ∙ ap (take n) (append-nil xs) ∙ take_all n xs (omega (arith, same, count))

@@ -6,8 +6,9 @@ ghost use Rattle.stock_model.specs.Faults.{voucher_fault};
 ghost use Rattle.stock_model.specs.Entries.{entries, entries_of};
 ghost use Rattle.stock_model.specs.Freezing.{frozen};
 ghost use Rattle.stock_model.specs.Masters.{record_at};
+ghost use Rattle.voucher_kinds.specs.Heads.{made_fault, with_made};
 
-use crate::{heads, returned_units};
+use crate::{heads, live_records, returned_units};
 use item_master::master::Master;
 use std::alloc::Global;
 use std::marker::Model;
@@ -25,14 +26,15 @@ use stock_nums::memory::NoMemory;
 use stock_nums::moment::Moment;
 use stock_nums::numbers::{AccountNo, ItemNo, Qty, RecordNo, StoreNo};
 
-/// The accepted records in the order of their numbers, their items and warehouses, the units that they return, and up
-/// to which moment they close the past, which are found without going over the records. Contracts see it as the list
-/// of the records.
+/// The accepted records in the order of their numbers, their items and warehouses, the units that they return, which of
+/// them are in force, and up to which moment they close the past, which are found without going over the records.
+/// Contracts see it as the list of the records.
 #[derive(Drop)]
 pub struct Journal {
     records: Vec<Record>,
     master: Master,
     returned_units: LineSums,
+    live: Vec<bool>,
     frozen: Option<Moment>,
 }
 
@@ -45,7 +47,7 @@ impl Model for Journal {
 
     ghost view = { λ journal. journal.records.items };
 
-    ghost invariant = { λ journal. IsJournal journal.records.items journal.master journal.returned_units journal.frozen };
+    ghost invariant = { λ journal. IsJournal journal.records.items journal.master journal.returned_units journal.live.items journal.frozen };
 }
 
 impl Names for Journal {
@@ -62,9 +64,17 @@ impl Names for Journal {
     fn record_at(&self, number: RecordNo) -> Option<&Record> {
         self.at(number)
     }
+
+    fn records(&self) -> &[Record] {
+        self.records.as_slice()
+    }
 }
 
 impl Returns for Journal {
+    fn is_live(&self, number: RecordNo) -> bool {
+        live_records::noted(self.live.as_slice(), number)
+    }
+
     fn returned(&self, target: Target) -> Qty {
         Qty(self.returned_units.of(target) as u64)
     }
@@ -83,6 +93,7 @@ impl Journal {
             records: Vec::new(alloc),
             master: Master::new(alloc),
             returned_units: LineSums::new(alloc),
+            live: Vec::new(alloc),
             frozen: None,
         }
     }
@@ -128,24 +139,22 @@ impl Journal {
         ensures unchanged { OnErr result (self.new ≡ self.old) }
     {
         let number = self.next();
-        let made = heads::made_by(&item.what);
         let frozen = freezing::frozen_with(self.frozen, &item.what);
         returned_units::make_room(&mut self.returned_units, &item.what)?;
-        if heads::add_made(&mut self.master, number, &item.what).is_err() {
+        if self.live.push(true).is_err() {
             return Err(NoMemory);
         }
-        match self.records.push(item) {
-            Ok(()) => {
-                let last = &self.records.as_slice()[number.0 as usize - 1];
-                returned_units::add_units(&mut self.returned_units, &last.what);
-                self.frozen = frozen;
-                Ok(number)
-            }
-            Err(_) => {
-                heads::take_away(&mut self.master, made);
-                Err(NoMemory)
-            }
+        if enter(&mut self.records, &mut self.master, number, item).is_err() {
+            self.live.truncate(number.0 as usize - 1);
+            return Err(NoMemory);
         }
+        let records = self.records.as_slice();
+        let last = &records[number.0 as usize - 1];
+        returned_units::add_units(&mut self.returned_units, &last.what);
+        returned_units::take_cancelled(&mut self.returned_units, records, &last.what);
+        live_records::note(self.live.as_mut_slice(), &last.what, false);
+        self.frozen = frozen;
+        Ok(number)
     }
 
     /// Takes the last record away again: the journal is as it was before that record's `push`. It takes no memory.
@@ -156,7 +165,10 @@ impl Journal {
         let index = self.records.len() - 1;
         let records = self.records.as_slice();
         let last = &records[index];
+        returned_units::put_cancelled(&mut self.returned_units, records, &last.what);
         returned_units::take_units(&mut self.returned_units, &last.what);
+        live_records::note(self.live.as_mut_slice(), &last.what, true);
+        self.live.truncate(index);
         heads::take_away(&mut self.master, heads::made_by(&last.what));
         self.frozen = freezing::frozen_without(self.frozen, &records[..index], &last.what);
         self.records.truncate(index);
@@ -215,5 +227,32 @@ impl Journal {
             records: &records[..index],
         };
         movements::entries(alloc, &before, number, &records[index])
+    }
+}
+
+// Adds the record with this number, and what it makes. A refusal changes nothing.
+fn enter(
+    records: &mut Vec<Record>,
+    master: &mut Master,
+    number: RecordNo,
+    item: Record,
+) -> Result<(), NoMemory>
+    requires number { number.0 ≡ length records.old.items + 1 }
+    requires unmade { made_fault master.old item.what ≡ None }
+    ensures entered { OnOk result (records.new.items ≡ records.old.items ++ item ∷ []) }
+    ensures made { OnOk result (master.new ≡ with_made master.old number.0 item.what) }
+    ensures unchanged { OnErr result (records.new.items ≡ records.old.items) }
+    ensures unmade { OnErr result (master.new ≡ master.old) }
+{
+    let made = heads::made_by(&item.what);
+    if heads::add_made(master, number, &item.what).is_err() {
+        return Err(NoMemory);
+    }
+    match records.push(item) {
+        Ok(()) => Ok(()),
+        Err(_) => {
+            heads::take_away(master, made);
+            Err(NoMemory)
+        }
     }
 }

@@ -2,12 +2,15 @@
 ghost use Rattle.std.specs.Prelude.{◌≡◌, ◌+◌, ◌<◌, ◌≤◌, ◌^◌, ℕ, true, OnOk};
 ghost use Rattle.stock_nums.specs.LineSums.{number_of};
 ghost use Rattle.stock_nums.specs.declared.cause.Target.{Target};
+ghost use Rattle.stock_model.specs.Cancelling.{units_gone};
 ghost use Rattle.stock_model.specs.LineViews.{seen};
 ghost use Rattle.stock_model.specs.Returns.{units_named};
 ghost use Rattle.stock_model.specs.VoucherLines.{VoucherLine, lines_of};
-ghost use Rattle.voucher_kinds.specs.ReturnedUnits.{line_has_room, has_room_at, units_of_line, units_named_at};
+ghost use Rattle.voucher_kinds.specs.ReturnedUnits.{KeepsRoom, HasRoom, line_has_room, has_room_at, units_of_line, units_named_at};
 
 use stock_model::line_views::{line_at, line_count};
+use stock_model::masters::record_at;
+use stock_model::records::Record;
 use stock_model::seen::{LineItem, LineView};
 use stock_model::vouchers::What;
 use stock_nums::line_sums::LineSums;
@@ -16,6 +19,7 @@ use stock_nums::memory::NoMemory;
 /// Makes room for the units that the lines of the voucher return. It changes no number.
 pub(crate) fn make_room(sums: &mut LineSums, what: &What) -> Result<(), NoMemory>
     ensures same { (target : Target) → number_of sums.new target ≡ number_of sums.old target }
+    ensures kept { KeepsRoom sums.old sums.new }
     ensures room { OnOk result ((index : ℕ) → has_room_at sums.new (lines_of what.now) index ≡ true) }
 {
     for index in 0..line_count(what) {
@@ -27,7 +31,7 @@ pub(crate) fn make_room(sums: &mut LineSums, what: &What) -> Result<(), NoMemory
 // Makes room for what the line at this index returns, if there is one.
 fn make_room_at(sums: &mut LineSums, what: &What, index: usize) -> Result<(), NoMemory>
     ensures same { (target : Target) → number_of sums.new target ≡ number_of sums.old target }
-    ensures kept { (other : ℕ) → has_room_at sums.old (lines_of what.now) other ≡ true → has_room_at sums.new (lines_of what.now) other ≡ true }
+    ensures kept { KeepsRoom sums.old sums.new }
     ensures room { OnOk result (has_room_at sums.new (lines_of what.now) index ≡ true) }
 {
     match line_at(what, index) {
@@ -38,7 +42,7 @@ fn make_room_at(sums: &mut LineSums, what: &What, index: usize) -> Result<(), No
 
 fn make_room_for(sums: &mut LineSums, line: &LineView<'_>) -> Result<(), NoMemory>
     ensures same { (target : Target) → number_of sums.new target ≡ number_of sums.old target }
-    ensures kept { (other : VoucherLine) → line_has_room sums.old other ≡ true → line_has_room sums.new other ≡ true }
+    ensures kept { KeepsRoom sums.old sums.new }
     ensures room { OnOk result (line_has_room sums.new (seen line.now) ≡ true) }
 {
     match line.item {
@@ -51,7 +55,8 @@ fn make_room_for(sums: &mut LineSums, line: &LineView<'_>) -> Result<(), NoMemor
 pub(crate) fn add_units(sums: &mut LineSums, what: &What)
     requires room { (index : ℕ) → has_room_at sums.old (lines_of what.now) index ≡ true }
     requires fits { (target : Target) → number_of sums.old target + units_named (lines_of what.now) target < 2 ^ 64 }
-    ensures { (target : Target) → number_of sums.new target ≡ number_of sums.old target + units_named (lines_of what.now) target }
+    ensures added { (target : Target) → number_of sums.new target ≡ number_of sums.old target + units_named (lines_of what.now) target }
+    ensures kept { KeepsRoom sums.old sums.new }
 {
     for index in 0..line_count(what) {
         add_units_at(sums, what, index);
@@ -63,7 +68,7 @@ fn add_units_at(sums: &mut LineSums, what: &What, index: usize)
     requires room { has_room_at sums.old (lines_of what.now) index ≡ true }
     requires fits { (target : Target) → number_of sums.old target + units_named_at (lines_of what.now) index target < 2 ^ 64 }
     ensures added { (target : Target) → number_of sums.new target ≡ number_of sums.old target + units_named_at (lines_of what.now) index target }
-    ensures kept { (other : ℕ) → has_room_at sums.old (lines_of what.now) other ≡ true → has_room_at sums.new (lines_of what.now) other ≡ true }
+    ensures kept { KeepsRoom sums.old sums.new }
 {
     if let Some(line) = line_at(what, index) {
         add_units_of(sums, &line);
@@ -74,7 +79,7 @@ fn add_units_of(sums: &mut LineSums, line: &LineView<'_>)
     requires room { line_has_room sums.old (seen line.now) ≡ true }
     requires fits { (target : Target) → number_of sums.old target + units_of_line target (seen line.now) < 2 ^ 64 }
     ensures added { (target : Target) → number_of sums.new target ≡ number_of sums.old target + units_of_line target (seen line.now) }
-    ensures kept { (other : VoucherLine) → line_has_room sums.old other ≡ true → line_has_room sums.new other ≡ true }
+    ensures kept { KeepsRoom sums.old sums.new }
 {
     if let LineItem::OfTarget(named) = line.item {
         sums.add(named.target, u128::from(line.qty.0));
@@ -85,7 +90,8 @@ fn add_units_of(sums: &mut LineSums, line: &LineView<'_>)
 /// memory.
 pub(crate) fn take_units(sums: &mut LineSums, what: &What)
     requires { (target : Target) → units_named (lines_of what.now) target ≤ number_of sums.old target }
-    ensures { (target : Target) → number_of sums.new target + units_named (lines_of what.now) target ≡ number_of sums.old target }
+    ensures kept { KeepsRoom sums.old sums.new }
+    ensures taken { (target : Target) → number_of sums.new target + units_named (lines_of what.now) target ≡ number_of sums.old target }
 {
     for index in 0..line_count(what) {
         take_units_at(sums, what, index);
@@ -95,7 +101,8 @@ pub(crate) fn take_units(sums: &mut LineSums, what: &What)
 // Takes what the line at this index returns, if there is one.
 fn take_units_at(sums: &mut LineSums, what: &What, index: usize)
     requires { (target : Target) → units_named_at (lines_of what.now) index target ≤ number_of sums.old target }
-    ensures { (target : Target) → number_of sums.new target + units_named_at (lines_of what.now) index target ≡ number_of sums.old target }
+    ensures kept { KeepsRoom sums.old sums.new }
+    ensures taken { (target : Target) → number_of sums.new target + units_named_at (lines_of what.now) index target ≡ number_of sums.old target }
 {
     if let Some(line) = line_at(what, index) {
         take_units_of(sums, &line);
@@ -104,9 +111,38 @@ fn take_units_at(sums: &mut LineSums, what: &What, index: usize)
 
 fn take_units_of(sums: &mut LineSums, line: &LineView<'_>)
     requires { (target : Target) → units_of_line target (seen line.now) ≤ number_of sums.old target }
-    ensures { (target : Target) → number_of sums.new target + units_of_line target (seen line.now) ≡ number_of sums.old target }
+    ensures kept { KeepsRoom sums.old sums.new }
+    ensures taken { (target : Target) → number_of sums.new target + units_of_line target (seen line.now) ≡ number_of sums.old target }
 {
     if let LineItem::OfTarget(named) = line.item {
         sums.subtract(named.target, u128::from(line.qty.0));
+    }
+}
+
+/// Takes the units that a return had which the voucher takes back, and which were counted, out of the numbers. It takes no
+/// memory.
+pub(crate) fn take_cancelled(sums: &mut LineSums, records: &[Record], what: &What)
+    requires { (target : Target) → units_gone records.now what.now target ≤ number_of sums.old target }
+    ensures kept { KeepsRoom sums.old sums.new }
+    ensures taken { (target : Target) → number_of sums.new target + units_gone records.now what.now target ≡ number_of sums.old target }
+{
+    if let What::Cancel { target } = what {
+        if let Some(record) = record_at(records, *target) {
+            take_units(sums, &record.what);
+        }
+    }
+}
+
+/// Counts the units again that a return has which the voucher took back. It takes no memory.
+pub(crate) fn put_cancelled(sums: &mut LineSums, records: &[Record], what: &What)
+    requires room { HasRoom records.now sums.old }
+    requires fits { (target : Target) → number_of sums.old target + units_gone records.now what.now target < 2 ^ 64 }
+    ensures kept { KeepsRoom sums.old sums.new }
+    ensures added { (target : Target) → number_of sums.new target ≡ number_of sums.old target + units_gone records.now what.now target }
+{
+    if let What::Cancel { target } = what {
+        if let Some(record) = record_at(records, *target) {
+            add_units(sums, &record.what);
+        }
     }
 }

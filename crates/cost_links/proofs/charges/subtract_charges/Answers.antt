@@ -25,4 +25,4 @@ loop-charge-preserved c = λ line.
     let charge : Charge = get_or charges i none in
     charge-off charges i charge line (number_of c.args.sums.now line) (number_of c.loop-charge.sums line) (number_of c.subtract.new.self line) c.loop-charge-test.true
     (get_or_default charges i none charge c.loop-charge-test.true) (c.requires.within line) (c.loop-charge.invariant line)
-    (c.subtract.ensures line ∙ ap (λ (n : ℕ). number_of c.loop-charge.sums line - cond (is_same_target charge.line line) n 0) c.amount.ensures.number)
+    (c.subtract.ensures.taken line ∙ ap (λ (n : ℕ). number_of c.loop-charge.sums line - cond (is_same_target charge.line line) n 0) c.amount.ensures.number)

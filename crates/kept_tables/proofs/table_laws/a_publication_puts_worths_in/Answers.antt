@@ -17,4 +17,4 @@ pub returns-clause-within : goal.returns-clause-within
 returns-clause-within c = CoversRecords-accepted
 
 pub returns-clause-published : goal.returns-clause-published
-returns-clause-published c history n changed legal more within are = tables_of-published history n changed more are
+returns-clause-published c history n changed spots legal more within are = tables_of-published history n changed spots more are

@@ -1,7 +1,7 @@
--- The nearest place of the rest, and of the end so far, is that of all.
-use Rattle.std.proofs.Common.{◌≡◌, None, drop}
+-- The nearest place of the rest, and of the place so far, is that of all.
+use Rattle.std.proofs.Common.{◌≡◌, drop}
 use Rattle.quantity_check.specs.Stretches.{nearest_after}
 use Rattle.quantity_check.proofs.changes.nearest_after.Given as goal
 
 abbrev pub invariant-loop-entry : goal.invariant-loop-entry
-invariant-loop-entry l = nearest_after l.end (drop l.entry-index l.entries) l.key l.place ≡ nearest_after None l.entries l.key l.place
+invariant-loop-entry l = nearest_after l.nearest (drop l.entry-index l.entries) l.key l.place ≡ nearest_after l.fn.end l.entries l.key l.place

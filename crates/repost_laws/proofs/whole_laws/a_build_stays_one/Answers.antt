@@ -1,11 +1,8 @@
-use Rattle.repost_laws.proofs.WholeSteps.{IsBuildOf-start, IsBuildOf-fetch, IsBuildOf-change, IsBuildOf-turn, IsBuildOf-published}
+use Rattle.repost_laws.proofs.WholeSteps.{IsBuildOf-start, IsBuildOf-change, IsBuildOf-turn, IsBuildOf-published}
 use Rattle.repost_laws.proofs.whole_laws.a_build_stays_one.Goals as goal
 
 pub returns-clause-start : goal.returns-clause-start
 returns-clause-start c = IsBuildOf-start
-
-pub returns-clause-fetch : goal.returns-clause-fetch
-returns-clause-fetch c = IsBuildOf-fetch
 
 pub returns-clause-change : goal.returns-clause-change
 returns-clause-change c = IsBuildOf-change

@@ -6,7 +6,7 @@ use Rattle.quantity_check.specs.OwnPlaces.{StandApart, HaveOwnPlaces}
 use Rattle.repost_frontier.specs.declared.slot.Slot.{Slot}
 use Rattle.repost_index.specs.Indexed.{AreIndexed}
 use Rattle.repost_spread.specs.Movements.{entries_of}
-use Rattle.repost_spread.specs.Removing.{slots_but_all, line_but, line_but_all}
+use Rattle.repost_spread.specs.Removing.{slots_but_all, line_but_all}
 use Rattle.repost_spread.proofs.LeftOnes.{Holds, held-after}
 use Rattle.repost_spread.proofs.Puts.{rest-is}
 use Rattle.repost_spread.proofs.movements.take_all.Goals as goal

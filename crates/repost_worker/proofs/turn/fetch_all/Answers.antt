@@ -6,9 +6,9 @@ use Rattle.stock_model.specs.PostingOrder.{posting_line}
 use Rattle.stock_model.specs.declared.records.Record.{Record}
 use Rattle.stock_laws.proofs.Legality.{AreLegal-history}
 use Rattle.repost_fetch.specs.Fetched.{IsFetchedOf}
-use Rattle.repost_laws.specs.Touched.{is_touched, is_charged_by}
 use Rattle.repost_build.specs.Builds.{IsOf}
 use Rattle.repost_build.specs.Readings.{suspects_in, target_of}
+use Rattle.repost_worker.specs.Turns.{is_touched_since}
 use Rattle.repost_worker.proofs.turn.fetch_all.Goals as goal
 
 pub extend-requires : goal.extend-requires
@@ -35,11 +35,11 @@ returns-clause-fetched g c =
       target = c.in_ok-extend.ensures.of.target ∙ ap length (sym c.requires.1.0);
       touched = λ e held.
           subst (λ (rs : List Record). suspects_in new e.place
-          ≡ (suspects_in old e.place || is_touched (target_of old) (is_charged_by (drop (target_of old) rs)) (posting_line rs) e))
+          ≡ (suspects_in old e.place || is_touched_since rs (target_of old) e))
           (sym c.requires.1.0)
           (c.in_ok-extend.ensures.touched e (subst (λ (rs : List Record). Contains (posting_line rs) e) c.requires.1.0 held));
-      found = c.in_ok-extend.ensures.found;
-      valued = c.in_ok-extend.ensures.valued;
+      found = λ e held. c.in_ok-extend.ensures.found e (subst (λ (rs : List Record). Contains (posting_line rs) e) c.requires.1.0 held);
+      valued = λ e held. c.in_ok-extend.ensures.valued e (subst (λ (rs : List Record). Contains (posting_line rs) e) c.requires.1.0 held);
       base = c.in_ok-extend.ensures.base;
       fetches = c.in_ok-extend.ensures.fetches;
       turns = c.in_ok-extend.ensures.turns;

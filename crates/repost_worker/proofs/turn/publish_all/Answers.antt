@@ -1,11 +1,15 @@
 -- What the build valued is what the book has to change.
-use Rattle.std.proofs.Common.{List, length, take, sym, ap, ◌∙◌, subst}
+use Rattle.std.proofs.Common.{ℕ, List, length, take, sym, ap, ◌∙◌, subst}
+use Rattle.stock_nums.specs.declared.entry.Row.{Row}
+use Rattle.stock_nums.specs.declared.place.Spot.{Spot}
+use Rattle.stock_model.specs.History.{covered}
 use Rattle.stock_model.specs.PostingOrder.{posting_line}
 use Rattle.stock_model.specs.declared.deeds.Deed.{Deed}
 use Rattle.stock_model.specs.declared.records.Record.{Record}
+use Rattle.repost_fetch.specs.Changes.{AreChanges}
 use Rattle.repost_laws.specs.Builds.{IsClean}
 use Rattle.repost_build.specs.Builds.{IsOf}
-use Rattle.repost_build.specs.Readings.{suspects_in, target_of}
+use Rattle.repost_build.specs.Readings.{suspects_in, base_of, target_of}
 use Rattle.repost_worker.specs.Turns.{IsWorkOf}
 use Rattle.repost_worker.proofs.Works.{turns-none, work-published}
 use Rattle.repost_worker.proofs.turn.publish_all.Goals as goal
@@ -16,6 +20,19 @@ published-requires g c =
       subst (λ (rs : List Record). IsOf (take (target_of build) rs) build) c.requires.1.0 c.requires.1.1.0.of,
       subst (λ (rs : List Record). IsClean (posting_line (take (target_of build) rs)) (suspects_in build)) c.requires.1.0 c.requires.1.1.1.0,
     )
+
+pub publish-requires-clause-changed : goal.publish-requires-clause-changed
+publish-requires-clause-changed g c =
+    let build = c.args.build.now in
+    let history = c.args.book.now.history in
+    let rows = c.as_slice.result.now in
+    let spots = c.gone.result.now in
+    subst (λ (rs : List Record). AreChanges (take c.target-target.result.0 rs) (covered history) rows spots) (sym c.requires.1.0)
+    (subst (λ (n : ℕ). AreChanges (take n g.all) (covered history) rows spots) (sym c.target-target.ensures)
+    (subst (λ (b : ℕ). AreChanges (take (target_of build) g.all) b rows spots) c.requires.1.1.0.base
+    (subst (λ (changed : List Row). AreChanges (take (target_of build) g.all) (base_of build) changed spots) (sym c.as_slice.ensures)
+    (subst (λ (gone : List Spot). AreChanges (take (target_of build) g.all) (base_of build) c.in_ok-changed.changed gone) (sym c.gone.ensures)
+    c.in_ok-changed.ensures.changes))))
 
 pub returns-clause-published : goal.returns-clause-published
 returns-clause-published g c =

@@ -9,11 +9,13 @@ take_units_at-requires c target =
     let lines = lines_of c.args.what.now in
     let i = c.loop-index.index in
     let within : i < length lines = omega (arith, c.line_count-index-end.ensures) in
-    omega (arith, c.loop-index.invariant target, units_named-drop lines i target within, c.requires target)
+    omega (arith, c.loop-index.invariant.0 target, units_named-drop lines i target within, c.requires target)
 
 pub loop-index-preserved : goal.loop-index-preserved
-loop-index-preserved c target =
+loop-index-preserved c =
     let lines = lines_of c.args.what.now in
     let i = c.loop-index.index in
-    let within : i < length lines = omega (arith, c.line_count-index-end.ensures) in
-    omega (arith, c.loop-index.invariant target, units_named-drop lines i target within, c.take_units_at.ensures target)
+    let within : i < length lines = omega (arith, c.line_count-index-end.ensures) in (
+      λ target. omega (arith, c.loop-index.invariant.0 target, units_named-drop lines i target within, c.take_units_at.ensures.taken target),
+      λ other room. c.take_units_at.ensures.kept other (c.loop-index.invariant.1 other room),
+    )

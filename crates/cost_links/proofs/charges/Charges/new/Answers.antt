@@ -1,18 +1,17 @@
 -- What is charged fits, and what was added is what the vouchers in force charge.
-use Rattle.std.proofs.Common.{sym, ap, ◌∙◌, arith}
-use Rattle.stock_model.proofs.Growth.{all_charged-all}
+use Rattle.std.proofs.Common.{ap, ◌∙◌, arith}
 use Rattle.cost_links.specs.Charged.{charge_pairs, charged_to}
 use Rattle.cost_links.proofs.LinkSteps.{added-le}
 use Rattle.cost_links.proofs.charges.Charges.new.Goals as goal
 
 pub add_charges-requires-clause-fits : goal.add_charges-requires-clause-fits
 add_charges-requires-clause-fits c = λ line.
-    let all = ap (λ cs. charged_to line (charge_pairs cs)) c.as_slice-2.ensures ∙ ap (charged_to line) (c.in_ok-charges.ensures ∙ sym (all_charged-all c.args.records.now)) in
+    let all = ap (λ cs. charged_to line (charge_pairs cs)) c.as_slice-2.ensures ∙ ap (charged_to line) c.in_ok-charges.ensures in
     omega (arith, all, added-le c.args.records.now line, c.requires, c.reserve_lines.ensures.same line, c.new-by_line.ensures line)
 
 pub invariant_of-result : goal.invariant_of-result
 invariant_of-result c = record {
   stands = λ line.
-      let all = ap (λ cs. charged_to line (charge_pairs cs)) c.as_slice-2.ensures ∙ ap (charged_to line) (c.in_ok-charges.ensures ∙ sym (all_charged-all c.args.records.now)) in
+      let all = ap (λ cs. charged_to line (charge_pairs cs)) c.as_slice-2.ensures ∙ ap (charged_to line) c.in_ok-charges.ensures in
       omega (arith, all, c.add_charges.ensures line, c.reserve_lines.ensures.same line, c.new-by_line.ensures line);
 }

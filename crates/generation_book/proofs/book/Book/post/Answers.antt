@@ -12,8 +12,6 @@ use Rattle.std.proofs.lemmas.List.{take-append-le}
 use Rattle.stock_model.specs.History.{records, accepted, IsLegal}
 use Rattle.stock_model.specs.Masters.{heads}
 use Rattle.stock_model.specs.Entries.{entries}
-use Rattle.stock_model.specs.PostingOrder.{posting_line}
-use Rattle.stock_model.proofs.Growth.{length-posting_line}
 use Rattle.stock_laws.proofs.Histories.{records-append}
 use Rattle.stock_laws.proofs.Legality.{NoFault-from}
 use Rattle.kept_tables.specs.Kept.{IsKept}
@@ -21,12 +19,14 @@ use Rattle.kept_tables.specs.TablesOf.{tables_of}
 use Rattle.kept_tables.proofs.KeptRecords.{Follows-next}
 use Rattle.generation_book.specs.State.{BookState}
 use Rattle.generation_book.specs.Book.{deeds}
+use Rattle.generation_book.specs.Effects.{gone_with}
 use Rattle.generation_book.specs.Handed.{IsHanded}
 use Rattle.generation_book.specs.Refusals.{IsRefusalOf, HasTriedFor, HasAskedFor}
 use Rattle.generation_book.specs.declared.events.Event.{Event}
 use Rattle.generation_book.specs.declared.events.Event.TheVariants.{Kept}
-use Rattle.generation_book.proofs.Books.{records-deeds, history-records, IsBook-kept, deeds-kept, legal-kept, put_all-entries, entries-own_places, entries-enough, at_once-none, popped}
+use Rattle.generation_book.proofs.Books.{records-deeds, history-records, IsBook-kept, deeds-kept, legal-kept, at_once-none, popped}
 use Rattle.generation_book.proofs.ClosedBooks.{closed-kept}
+use Rattle.generation_book.proofs.Effects.{IsEffect, effect-line, effect-apart, effect-few, effect-enough}
 use Rattle.generation_book.proofs.KeptBooks.{kept-appended, kept-unappended}
 use Rattle.generation_book.proofs.OwnFaults.{refused-for, refused-uncalled, refused-by, tried-uncalled, tried-by, asked-uncalled, asked-by}
 use Rattle.generation_book.proofs.book.Book.post.Goals as goal
@@ -124,40 +124,55 @@ returns-in-Err-append-clause-asked g c =
     subst (λ (f : PostFault). HasAskedFor f c.args.self.now.calls c.one_more-self-inside.result) (sym c.refusal_of.ensures)
     (asked-by c.in-Err-append.fault c.args.self.now.calls c.one_more-self-inside.result (c.one_more-self-inside.ensures ∙ ap raised before))
 
-pub add-requires-clause-apart : goal.add-requires-clause-apart
-add-requires-clause-apart g c =
+pub change-requires-clause-apart : goal.change-requires-clause-apart
+change-requires-clause-apart g c =
     let told : deeds c.self.inside.events.items c.self.inside.journal ≡ c.args.self.now.history = ap (λ (b : BookState). b.history) c.self.view_is in
     let held = history-records _ _ _ _ _ c.args.self.now.history c.self.invariant.0 told in
-    let none : fault c.self.inside.journal c.args.item ≡ None = subst (λ (records : List Record). fault records c.args.item ≡ None) held c.in-Ok.ensures.sound in
-    let new : c.as_slice-2.result.now ≡ entries c.self.inside.journal c.args.item = c.as_slice-2.ensures ∙ c.in-Ok.ensures.entries ∙ ap (λ (records : List Record). entries records c.args.item) held in
-    let line : c.reserve-2.new.self.entries ≡ posting_line c.self.inside.journal = c.reserve-2.ensures.unchanged ∙ c.self.invariant.0.posted in
-    entries-own_places c.self.inside.journal c.args.item c.reserve-2.new.self.entries c.as_slice-2.result.now line new
+    let effect : IsEffect c.self.inside.journal c.args.item c.reserve-2.new.self.entries c.as_slice-2.result.now c.as_slice-3.result.now =
+    record {
+      posted = c.reserve-2.ensures.unchanged ∙ c.self.invariant.0.posted;
+      come = c.as_slice-2.ensures ∙ c.in-Ok.ensures.adds ∙ ap (λ (records : List Record). entries records c.args.item) held;
+      go = c.as_slice-3.ensures ∙ c.in-Ok.ensures.gone ∙ ap (λ (records : List Record). gone_with records c.args.item) held;
+    } in
+    effect-apart _ _ _ _ _ effect
 
-pub add-requires-clause-few : goal.add-requires-clause-few
-add-requires-clause-few g c =
+pub change-requires-clause-few : goal.change-requires-clause-few
+change-requires-clause-few g c =
     let told : deeds c.self.inside.events.items c.self.inside.journal ≡ c.args.self.now.history = ap (λ (b : BookState). b.history) c.self.view_is in
     let held = history-records _ _ _ _ _ c.args.self.now.history c.self.invariant.0 told in
     let none : fault c.self.inside.journal c.args.item ≡ None = subst (λ (records : List Record). fault records c.args.item ≡ None) held c.in-Ok.ensures.sound in
-    let new : c.as_slice-2.result.now ≡ entries c.self.inside.journal c.args.item = c.as_slice-2.ensures ∙ c.in-Ok.ensures.entries ∙ ap (λ (records : List Record). entries records c.args.item) held in
-    let line : c.reserve-2.new.self.entries ≡ posting_line c.self.inside.journal = c.reserve-2.ensures.unchanged ∙ c.self.invariant.0.posted in
-    omega (arith, (NoFault-from c.self.inside.journal c.args.item none).few, ap length line, length-posting_line c.self.inside.journal, ap length new)
+    let effect : IsEffect c.self.inside.journal c.args.item c.reserve-2.new.self.entries c.as_slice-2.result.now c.as_slice-3.result.now =
+    record {
+      posted = c.reserve-2.ensures.unchanged ∙ c.self.invariant.0.posted;
+      come = c.as_slice-2.ensures ∙ c.in-Ok.ensures.adds ∙ ap (λ (records : List Record). entries records c.args.item) held;
+      go = c.as_slice-3.ensures ∙ c.in-Ok.ensures.gone ∙ ap (λ (records : List Record). gone_with records c.args.item) held;
+    } in
+    omega (arith, effect-few _ _ _ _ _ effect (NoFault-from c.self.inside.journal c.args.item none).few)
 
-pub add-requires-clause-enough : goal.add-requires-clause-enough
-add-requires-clause-enough g c =
+pub change-requires-clause-enough : goal.change-requires-clause-enough
+change-requires-clause-enough g c =
     let told : deeds c.self.inside.events.items c.self.inside.journal ≡ c.args.self.now.history = ap (λ (b : BookState). b.history) c.self.view_is in
     let held = history-records _ _ _ _ _ c.args.self.now.history c.self.invariant.0 told in
     let none : fault c.self.inside.journal c.args.item ≡ None = subst (λ (records : List Record). fault records c.args.item ≡ None) held c.in-Ok.ensures.sound in
-    let new : c.as_slice-2.result.now ≡ entries c.self.inside.journal c.args.item = c.as_slice-2.ensures ∙ c.in-Ok.ensures.entries ∙ ap (λ (records : List Record). entries records c.args.item) held in
-    let line : c.reserve-2.new.self.entries ≡ posting_line c.self.inside.journal = c.reserve-2.ensures.unchanged ∙ c.self.invariant.0.posted in
-    entries-enough c.self.inside.journal c.args.item c.reserve-2.new.self.entries c.as_slice-2.result.now line new none
+    let effect : IsEffect c.self.inside.journal c.args.item c.reserve-2.new.self.entries c.as_slice-2.result.now c.as_slice-3.result.now =
+    record {
+      posted = c.reserve-2.ensures.unchanged ∙ c.self.invariant.0.posted;
+      come = c.as_slice-2.ensures ∙ c.in-Ok.ensures.adds ∙ ap (λ (records : List Record). entries records c.args.item) held;
+      go = c.as_slice-3.ensures ∙ c.in-Ok.ensures.gone ∙ ap (λ (records : List Record). gone_with records c.args.item) held;
+    } in
+    effect-enough _ _ _ _ _ effect none
 
 pub invariant_of-self-2 : goal.invariant_of-self-2
 invariant_of-self-2 g c =
     let told : deeds c.self.inside.events.items c.self.inside.journal ≡ c.args.self.now.history = ap (λ (b : BookState). b.history) c.self.view_is in
     let held = history-records _ _ _ _ _ c.args.self.now.history c.self.invariant.0 told in
     let none : fault c.self.inside.journal c.args.item ≡ None = subst (λ (records : List Record). fault records c.args.item ≡ None) held c.in-Ok.ensures.sound in
-    let new : c.as_slice-2.result.now ≡ entries c.self.inside.journal c.args.item = c.as_slice-2.ensures ∙ c.in-Ok.ensures.entries ∙ ap (λ (records : List Record). entries records c.args.item) held in
-    let line : c.reserve-2.new.self.entries ≡ posting_line c.self.inside.journal = c.reserve-2.ensures.unchanged ∙ c.self.invariant.0.posted in
+    let effect : IsEffect c.self.inside.journal c.args.item c.reserve-2.new.self.entries c.as_slice-2.result.now c.as_slice-3.result.now =
+    record {
+      posted = c.reserve-2.ensures.unchanged ∙ c.self.invariant.0.posted;
+      come = c.as_slice-2.ensures ∙ c.in-Ok.ensures.adds ∙ ap (λ (records : List Record). entries records c.args.item) held;
+      go = c.as_slice-3.ensures ∙ c.in-Ok.ensures.gone ∙ ap (λ (records : List Record). gone_with records c.args.item) held;
+    } in
     let history = c.args.self.now.history in
     let kept = subst (λ (h : List Deed). IsKept (g.K.Keeper.tells c.self.inside.keeper) (g.K.Keeper.may_leave c.self.inside.keeper) h c.self.inside.tried.events) told c.self.invariant.1 in
     let legal = subst IsLegal told c.self.invariant.0.legal in
@@ -166,13 +181,13 @@ invariant_of-self-2 g c =
     let text = subst (IsHanded (g.K.Keeper.tells c.self.inside.keeper) (g.K.Keeper.may_leave c.self.inside.keeper) c.args.item) (sym c.as_slice.ensures) c.in-Ok-handed_text.ensures in
     let events = c.push_reserved.ensures.items ∙ ap (λ (es : List Event). es ++ Kept ∷ []) c.reserve.ensures.items in
     let journal = c.in-Ok-push.ensures.kept in
-    let all = c.add.ensures.added ∙ put_all-entries c.self.inside.journal c.args.item c.reserve-2.new.self.entries c.as_slice-2.result.now line new in
+    let all = c.change.ensures.changed ∙ effect-line _ _ _ _ _ effect in
     let now = kept-appended history c.self.inside.tried.events (g.K.Keeper.tells c.self.inside.keeper) (g.K.Keeper.may_leave c.self.inside.keeper)
     (g.K.Keeper.tells c.append.new.self) (g.K.Keeper.may_leave c.append.new.self) kept c.in-Ok-push.number c.args.item c.as_slice.result.now
     next legal text c.in_default-append.ensures.made c.in_default-append.ensures.durable in
     let longer = ap (λ (h : List Deed). h ++ deed.Kept c.args.item ∷ []) told in
     rw (events, journal, c.new-self-inside.ensures) (
-      IsBook-kept c.self.inside.events.items c.self.inside.journal c.self.inside.movements.entries c.self.inside.covered.0 c.self.inside.rows c.args.item c.add.new.self.entries c.self.invariant.0 none all,
+      IsBook-kept c.self.inside.events.items c.self.inside.journal c.self.inside.movements.entries c.self.inside.covered.0 c.self.inside.rows c.args.item c.change.new.self.entries c.self.invariant.0 none all,
       subst (λ (h : List Deed). IsKept (g.K.Keeper.tells c.append.new.self) (g.K.Keeper.may_leave c.append.new.self) h [])
           (sym (deeds-kept c.self.inside.events.items c.self.inside.journal c.args.item c.self.invariant.0.counted ∙ longer)) now,
       omega (arith, c.self.invariant.2, length-append c.self.inside.events.items (Kept ∷ [])),

@@ -9,7 +9,7 @@ use Rattle.repost_fetch.specs.Changes.{is_valued}
 use Rattle.repost_frontier.proofs.Published.{run-within}
 use Rattle.repost_laws.specs.Builds.{IsClean}
 use Rattle.repost_laws.specs.Valuations.{found_rows}
-use Rattle.repost_laws.proofs.WholeSteps.{rows-clean, rows-others}
+use Rattle.repost_laws.proofs.WholeSteps.{rows-clean, rows-changed}
 use Rattle.repost_build.specs.Builds.{IsOf}
 use Rattle.repost_build.specs.Readings.{slots_in, found_in, suspects_in, valued_in, base_of, fetches_of, turns_of}
 use Rattle.repost_build.specs.Rows.{valued_rows}
@@ -49,5 +49,6 @@ returns-clause-changes g c =
     record {
       valued = valued_in build;
       rows = returns-clause-rows g c;
-      others = rows-others g.journal (base_of build) (found_in build) (suspects_in build) (valued_in build) (fetches_of build) (turns_of build) c.requires.0.built c.requires.1;
+      others = rows-changed g.journal (base_of build) (found_in build) (suspects_in build) (valued_in build) (fetches_of build) (turns_of build) c.requires.0.built c.requires.1;
+      gone = c.requires.0.gone;
     }

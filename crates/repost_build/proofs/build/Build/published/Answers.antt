@@ -1,6 +1,10 @@
 -- All that was valued is forgotten, and nothing else changes.
-use Rattle.std.proofs.Common.{◌≡◌, ℕ, List, length, sym, ap, ◌∙◌, subst, arith}
+use Rattle.std.proofs.Common.{◌≡◌, ℕ, List, [], length, sym, ap, ◌∙◌, subst, arith}
+use Rattle.std.specs.List.Sorted.{IsPermutation}
 use Rattle.std.proofs.Math.Path.{fun_ext}
+use Rattle.std.proofs.lemmas.List.Sorted.{IsPermutation-refl}
+use Rattle.stock_nums.specs.declared.place.Spot.{Spot}
+use Rattle.repost_fetch.specs.Changes.{gone_spots}
 use Rattle.repost_frontier.specs.Readings.{found_of, suspects_of, revalued_of}
 use Rattle.repost_frontier.specs.declared.slot.Slot.{Slot}
 use Rattle.repost_frontier.proofs.SlotOrder.{entries-published}
@@ -10,7 +14,8 @@ use Rattle.repost_laws.specs.Valuations.{Found}
 use Rattle.repost_laws.specs.WholeBuilds.{IsBuildOf, none_valued}
 use Rattle.repost_laws.proofs.WholeSteps.{IsBuildOf-published}
 use Rattle.repost_spread.specs.Movements.{entries_of, slots_of}
-use Rattle.repost_build.specs.Readings.{slots_in, found_in, suspects_in, valued_in, base_of, fetches_of, turns_of}
+use Rattle.repost_build.specs.Readings.{slots_in, found_in, suspects_in, valued_in, base_of, target_of, fetches_of, turns_of}
+use Rattle.repost_build.proofs.GoneSpots.{no-spots}
 use Rattle.repost_build.proofs.build.Build.published.Goals as goal
 
 pub returns-clause-found : goal.returns-clause-found
@@ -41,6 +46,8 @@ returns-clause-of g c =
       charged = λ line. c.forget_revalued.ensures.charged line ∙ of.charged line;
       target = of.target;
       fetched = omega arith;
+      gone = subst (λ (spots : List Spot). IsPermutation spots (gone_spots (target_of old) g.journal)) (sym c.clear.ensures.items)
+          (subst (IsPermutation []) (sym (no-spots g.journal (target_of old) of.target)) (IsPermutation-refl []));
       built = subst (λ (n : ℕ). IsBuildOf g.journal n (found_of slots) (suspects_of slots) (revalued_of slots) 0 0) (sym of.target)
           (subst (λ (f : Found). IsBuildOf g.journal (length g.journal) f (suspects_of slots) (revalued_of slots) 0 0) (sym found)
           (subst (λ (s : Suspects). IsBuildOf g.journal (length g.journal) (found_in old) s (revalued_of slots) 0 0) (sym suspects)

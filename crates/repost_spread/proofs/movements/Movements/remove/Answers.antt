@@ -1,5 +1,5 @@
 -- What is left is found.
-use Rattle.std.proofs.Common.{List, filter, fold, sym, subst}
+use Rattle.std.proofs.Common.{List, filter, sym, subst}
 use Rattle.std.specs.List.Sorted.{IsPermutation}
 use Rattle.stock_nums.specs.declared.entry.Entry.{Entry}
 use Rattle.stock_model.specs.Returns.{returns_of}

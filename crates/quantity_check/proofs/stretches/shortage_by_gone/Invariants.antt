@@ -1,0 +1,8 @@
+-- The earliest shortage of the other stretches, and of what was found so far, is that of all.
+use Rattle.std.proofs.Common.{◌≡◌, None, drop}
+use Rattle.quantity_check.specs.Stretches.{shortage_after, earliest}
+use Rattle.quantity_check.proofs.stretches.shortage_by_gone.Given as goal
+
+abbrev pub invariant-loop-entry : goal.invariant-loop-entry
+invariant-loop-entry l =
+    earliest l.first (shortage_after l.line.entries l.adds l.gone) (drop l.entry-index l.gone) ≡ earliest None (shortage_after l.line.entries l.adds l.gone) l.gone
