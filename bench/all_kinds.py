@@ -1,6 +1,6 @@
 """Makes the inputs of the runs with vouchers of all kinds: one in random order, and one for how settlements grow.
 
-Returns and landed charges name lines of vouchers that were accepted, mostly; the judge says which were.
+Returns, landed charges and cancels name vouchers that were accepted, mostly; the judge says which were.
 """
 import datetime
 import json
@@ -10,8 +10,8 @@ import plain_replay
 
 MOVEMENTS = 3_900
 SETTLES = 10
-# A freeze comes after one in so many vouchers.
-FREEZES = 300
+# A cancel comes after one in so many vouchers, and a freeze.
+CANCELS, FREEZES = 5, 300
 STORES = ["MAIN", "SHOP", "VAN"]
 ITEMS = {"BOLT": "fifo", "NUT": "average", "OIL": "average", "TAPE": "fifo"}
 # By how much each kind is more frequent than the rarest.
@@ -28,6 +28,7 @@ class Maker:
         self.ledger = plain_replay.Ledger() if ledger is None else ledger
         self.lines = []
         self.targets = {kind: [] for kind in TARGETING}  # the records whose lines a voucher of this kind may name
+        self.in_force = []  # the vouchers that may be taken back
         for number, code in enumerate(STORES):
             self.post({"do": "store", "code": code, "account": 100 + number})
         for code, method in ITEMS.items():
@@ -38,10 +39,21 @@ class Maker:
         line = json.dumps(it, separators=(",", ":"))
         self.lines.append(line)
         reply = self.ledger.answer(line.encode())
-        for kind, numbers in self.targets.items():
-            if reply["status"] == "accepted" and plain_replay.is_target_kind(it, kind):
-                numbers.append(reply["record"])
+        if reply["status"] == "accepted":
+            self.note(it, reply["record"])
         return reply
+
+    def note(self, it, record):
+        """Notes what later vouchers may name, and what they may not any more."""
+        if it["do"] in KINDS:
+            self.in_force.append(record)
+        for kind, numbers in self.targets.items():
+            if plain_replay.is_target_kind(it, kind):
+                numbers.append(record)
+        if it["do"] == "cancel":
+            for numbers in (self.in_force, *self.targets.values()):
+                if it["record"] in numbers:
+                    numbers.remove(it["record"])
 
     def movements(self):
         return len(self.ledger.movements)
@@ -85,20 +97,32 @@ class Maker:
         use = {"use": chance.choice(["sold", "sold", "used"])} if kind == "issue" else {}
         return self.post({"do": kind, "at": chance.choice(self.moments), **use, "lines": lines})
 
+    def cancel(self):
+        """Takes a voucher back, mostly one in force; one in nine is any record."""
+        chance = self.chance
+        if not self.in_force or chance.randrange(9) == 0:
+            return self.post({"do": "cancel", "record": chance.randint(1, len(self.ledger.accepted) + 1)})
+        return self.post({"do": "cancel", "record": chance.choice(self.in_force)})
 
     def freeze(self):
         """Closes the past up to one of the first moments, so that most vouchers are still accepted, or an earlier one."""
         first = sorted(self.moments)[:len(self.moments) // 10]
         return self.post({"do": "freeze", "until": self.chance.choice(first)})
 
+    def correct(self):
+        """Takes a voucher back now and then, and closes the past now and then."""
+        if self.chance.randrange(CANCELS) == 0:
+            self.cancel()
+        if self.chance.randrange(FREEZES) == 0:
+            self.freeze()
+
 
 def in_random_order():
-    """Returns the lines of the run in random order, with settles, reports and freezes spread among them."""
+    """Returns the lines of the run in random order, with settles, reports, cancels and freezes spread among them."""
     maker, asked = Maker(seed=31, moments=150), 0
     while maker.movements() < MOVEMENTS:
         maker.posting()
-        if maker.chance.randrange(FREEZES) == 0:
-            maker.freeze()
+        maker.correct()
         if maker.movements() * SETTLES >= (asked + 1) * MOVEMENTS:
             asked += 1
             maker.lines += [json.dumps(it, separators=(",", ":")) for it in (

@@ -1,9 +1,9 @@
 """Answers the lines of standard input as plain_replay does, with a worker that makes turns, slowly, and with nothing of the program
 in it.
 
-It is the judge of turns: what new records touch, what a turn values, to which movements a value spreads, and when a worker fetches
-and publishes, are stated here once more. Reports show what the worker published, and not a replay. Each turn goes through all
-movements.
+It is the judge of turns: what comes and goes with new records, what that touches, what a turn values, to which movements a value
+spreads, and when a worker fetches and publishes, are stated here once more. Reports show what the worker published, and not a
+replay. Each turn goes through all movements.
 """
 import itertools
 import sys
@@ -27,24 +27,24 @@ def charged_lines(records):
     return {target_of(target) for it in records if it["do"] == "landed" for target in it["targets"]}
 
 
-def touched(movements, old, charged):
-    """Returns which of the movements in posting order the records after the first old ones touch.
+def touched(movements, new, gone, charged):
+    """Returns which of the movements in posting order are touched where the new ones among them come and the gone ones go.
 
-    They touch their own movements, and those of the lines that they charge. At the moving average they touch the next of the item in
-    the warehouse; first in, first out all that leave it later; and of returns all later ones of the same line.
+    The new ones are, and those of the lines whose charges come or go. At the moving average one that comes or goes touches the next
+    of the item in the warehouse; first in, first out all that leave it later; and of returns all later ones of the same line.
     """
-    is_last_new, keys, returned, found = {}, set(), set(), set()
+    is_last_changed, keys, returned, found = {}, set(), set(), set()
     for it in movements:
-        is_new, key = it.record > old, it.key()
-        follows = is_last_new.get(key, False) if it.method == "average" else it.side == LEAVES and key in keys
-        if is_new or it.own_line() in charged or follows or it.target in returned:
+        is_changed, key = it in new or it in gone, it.key()
+        follows = is_last_changed.get(key, False) if it.method == "average" else it.side == LEAVES and key in keys
+        if it in new or it.own_line() in charged or follows or it.target in returned:
             found.add(it)
-        is_last_new[key] = is_new
-        if is_new:
+        is_last_changed[key] = is_changed
+        if is_changed:
             keys.add(key)
-        if is_new and it.target is not None:
+        if is_changed and it.target is not None:
             returned.add(it.target)
-    return found
+    return found - gone
 
 
 def next_of_key(it, later):
@@ -90,10 +90,14 @@ class Build:
         self.charges = {}
 
     def extend(self, ledger):
-        """Takes in all records of the ledger that it does not have."""
-        charged = charged_lines(ledger.accepted[self.target:])
-        self.movements = sorted(ledger.movements)
-        self.suspects |= touched(self.movements, self.target, charged)
+        """Takes in all records of the ledger that it does not have, of which some may take back others that it has."""
+        now = set(ledger.movements)
+        new, gone = now.difference(self.movements), set(self.movements) - now
+        cancelled = [record for record, by in ledger.cancelled.items() if record <= self.target < by]
+        charged = charged_lines([*ledger.accepted[self.target:], *(ledger.accepted[record - 1] for record in cancelled)])
+        self.suspects = (self.suspects | touched(sorted(now | gone), new, gone, charged)) - gone
+        self.found = {it: found for it, found in self.found.items() if it in now}
+        self.movements = sorted(now)
         self.target = len(ledger.accepted)
         self.charges = ledger.charges(self.target)
 

@@ -1,8 +1,8 @@
 """Answers the lines of standard input as the rules of the ledger say, slowly, and with nothing of the program in it.
 
 It is the judge of bench/run: the rules are stated here once more, in plain words of their own. Nothing is kept from one
-answer to the next but the masters, the accepted vouchers and movements, and how many records are covered. Each post sorts
-and goes through all movements, and each report values them from nothing.
+answer to the next but the masters, the accepted vouchers and movements, which vouchers were taken back, and how many records
+are covered. Each post sorts and goes through all movements, and each report values them from nothing.
 """
 import collections
 import csv
@@ -71,6 +71,7 @@ FORMS = {
     "supplier-return": RETURN,
     "landed": {"charge": whole(0, 10**12), "basis": text("qty", "amount"), "targets": lines_of(TARGET)},
     "freeze": {"until": is_moment},
+    "cancel": {"record": whole(1, 2**32 - 1)},
     "settle": {},
     "work": {"turns": whole(1, 10**6)},
 }
@@ -316,6 +317,8 @@ def posted(it, value, share, kind, account):
 
 # The ledger.
 
+# What moves goods or charges for them, and may be taken back.
+VOUCHERS = {"receipt", "issue", "transfer", "customer-return", "supplier-return", "landed"}
 # What is said of a line that publishes.
 PUBLISHED = {"settle": "settled", "work": "worked"}
 
@@ -333,6 +336,11 @@ def target_of(line):
     return line["record"], line["line"]
 
 
+def named_by(it):
+    """Returns the records of which a voucher names lines."""
+    return [line["record"] for line in it.get("targets", it.get("lines", [])) if "record" in line]
+
+
 def is_target_kind(it, kind):
     """Whether a voucher is such that a return or a charge of this kind may name its lines."""
     return it["do"] == "issue" and it["use"] == "sold" if kind == "customer-return" else it["do"] == "receipt"
@@ -344,8 +352,9 @@ class Ledger:
         self.methods = {}  # by the item's number
         self.accounts = {}  # by the warehouse's number
         self.accepted = []  # what was accepted, as it was posted
+        self.cancelled = {}  # the record that took a record back, by the number of that one
         self.covered = 0
-        self.movements = []
+        self.ever, self.movements = [], []  # all that vouchers made, and those of vouchers in force
 
     def answer(self, line):
         """Returns the reply to a line that is not blank."""
@@ -374,6 +383,11 @@ class Ledger:
         lines = self.accepted[record - 1]["lines"]
         return lines[line - 1] if line <= len(lines) else None
 
+    def is_in_force(self, record, first=None):
+        """Whether no record takes this one back; or none of the first so many, of which it is one."""
+        by = self.cancelled.get(record)
+        return by is None or first is not None and by > first
+
     def left_of(self, target):
         """Returns how many units of a line were not returned."""
         record, line = target
@@ -400,7 +414,7 @@ class Ledger:
         named = it.get("targets", it.get("lines"))
         targets = [target_of(line) for line in named]
         for fault, test in (
-            ("unknown-target", lambda line: self.line_at(target_of(line), it["do"]) is None),
+            ("unknown-target", lambda line: self.line_at(target_of(line), it["do"]) is None or not self.is_in_force(line["record"])),
             ("link-later", lambda line: "at" in it and self.accepted[line["record"] - 1]["at"] > it["at"]),
         ):
             number = first_of(named, test)
@@ -416,20 +430,35 @@ class Ledger:
             return None
         return refused("over-return", asked=named[number - 1]["qty"], left=self.left_of(targets[number - 1]), line=number)
 
+    def cancel_fault(self, it):
+        """Returns the refusal of what takes back no voucher in force, or one that others name; or None."""
+        if it["do"] != "cancel":
+            return None
+        record = it["record"]
+        if record > len(self.accepted) or self.accepted[record - 1]["do"] not in VOUCHERS or not self.is_in_force(record):
+            return refused("not-live", record=record)
+        by = next((number for number, other in enumerate(self.accepted, 1) if record in named_by(other) and self.is_in_force(number)), None)
+        return None if by is None else refused("linked", by=by)
+
+    def moments_changed(self, it):
+        """Returns the moments of the movements whose value the voucher changes first: its own, of what it charges, or of what it takes back."""
+        if it["do"] == "cancel":
+            return self.moments_changed(self.accepted[it["record"] - 1])
+        return [it["at"]] if "at" in it else [self.accepted[target["record"] - 1]["at"] for target in it.get("targets", [])]
+
     def frozen_fault(self, it):
         """Returns the refusal of what changes the past up to the latest of all freezes; or None."""
         until = max((one["until"] for one in self.accepted if one["do"] == "freeze"), default="")
-        moments = [it["at"]] if "at" in it else [self.accepted[target["record"] - 1]["at"] for target in it.get("targets", [])]
-        return refused("frozen", until=until) if any(at <= until for at in moments) else None
+        return refused("frozen", until=until) if any(at <= until for at in self.moments_changed(it)) else None
 
     def weights(self, it):
         return [self.line_at(target_of(target), "landed")[it["basis"]] for target in it["targets"]]
 
     def charges(self, covered):
-        """Returns what the vouchers among the first so many charge to each line of a receipt."""
+        """Returns what the vouchers in force among the first so many charge to each line of a receipt."""
         charges = collections.Counter()
-        for it in self.accepted[:covered]:
-            if it["do"] == "landed":
+        for number, it in enumerate(self.accepted[:covered], 1):
+            if it["do"] == "landed" and self.is_in_force(number, covered):
                 before, weights = 0, self.weights(it)
                 for target, weight in zip(it["targets"], weights):
                     charges[target_of(target)] += part(it["charge"], before, weight, sum(weights))
@@ -441,7 +470,7 @@ class Ledger:
         masters = self.masters_of(it)
         if masters is not None:
             return refused("code-taken") if it["code"] in masters else None
-        return self.line_fault(it) or self.target_fault(it) or self.frozen_fault(it)
+        return self.line_fault(it) or self.target_fault(it) or self.cancel_fault(it) or self.frozen_fault(it)
 
     def post(self, it):
         fault = self.voucher_fault(it)
@@ -450,11 +479,14 @@ class Ledger:
         new = [movement for number, line in enumerate(it.get("lines", []), 1) for movement in self.movements_of(it, number, line)]
         if len(self.accepted) >= MOST_RECORDS or len(self.movements) + len(new) > MOST_MOVEMENTS:
             return refused("full", records=len(self.accepted), entries=len(self.movements))
-        found = self.shortage_with(new)
+        gone = [movement for movement in self.movements if movement.record == it["record"]] if it["do"] == "cancel" else []
+        found = self.shortage_with(new, gone)
         if found is not None:
             return self.short(*found)
-        self.hold(new)
+        self.hold(new, gone)
         self.accepted.append(it)
+        if it["do"] == "cancel":
+            self.cancelled[it["record"]] = len(self.accepted)
         masters = self.masters_of(it)
         if masters is not None:
             masters[it["code"]] = len(self.accepted)
@@ -464,11 +496,12 @@ class Ledger:
             self.accounts[len(self.accepted)] = it["account"]
         return {"record": len(self.accepted), "status": "accepted"}
 
-    def shortage_with(self, new):
-        return first_shortage(self.movements + new)
+    def shortage_with(self, new, gone):
+        return first_shortage([it for it in self.movements if it not in gone] + new)
 
-    def hold(self, new):
-        self.movements += new
+    def hold(self, new, gone):
+        self.ever += new
+        self.movements = [it for it in self.movements if it not in gone] + new
 
     def movements_of(self, it, number, line):
         """Returns the movements that the line with this number makes of the next record."""
@@ -506,7 +539,7 @@ class Ledger:
         return {"covered": self.covered, "report": it["of"], **written, "status": "ok"}
 
     def covered_rows(self, charges):
-        return valued([movement for movement in self.movements if movement.record <= self.covered], charges)
+        return valued([it for it in self.ever if it.record <= self.covered and self.is_in_force(it.record, self.covered)], charges)
 
     def sheet(self, asked, rows, charges):
         if asked["of"] == "accounts":

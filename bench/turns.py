@@ -1,6 +1,7 @@
 """Compares a worker's turns with the plain build, and measures how their time grows with the vouchers.
 
-The lists have vouchers of all kinds in random order, many of them late or at one moment, and so many turns after each few hundred.
+The lists have vouchers of all kinds in random order, many of them late or at one moment, of which some are taken back later, and so
+many turns after each few hundred.
 Every reply to the shorter list, with turns in portions, settlements, and reports that wait for a record, has to be that of
 plain_build, byte for byte. The longer list is timed, and its beginning: there every reply to a voucher has to be the judge's.
 """
@@ -30,6 +31,8 @@ FIRST, LAST = "2025-12-31T09:00:00", "2026-12-31T09:00:00"
 # After so many vouchers each: turns that end right before a publication; such turns while further vouchers come; a settlement, and
 # an item alone.
 PUBLISH_EVERY, BUSY_EVERY, SETTLE_EVERY = 310, 430, 900
+# The past is closed only after so many, since the turns that end right before a publication come of vouchers before all others.
+OPEN_UNTIL = 2_000
 
 
 class Maker(all_kinds.Maker):
@@ -128,7 +131,7 @@ def add_between(maker, number):
         ask(maker)
     if chance.randrange(15) == 0:
         maker.post({"do": "work", "turns": chance.choice(PORTIONS)})
-    if number % PUBLISH_EVERY == 0:
+    if number % PUBLISH_EVERY == 0 and number <= OPEN_UNTIL:
         add_publication(maker)
     if number % BUSY_EVERY == 0:
         add_busy_publication(maker)
@@ -144,6 +147,10 @@ def compared_list():
     maker = Maker(33, plain_build.WorkedLedger())
     for number in range(1, COMPARED + 1):
         maker.posting()
+        if number > OPEN_UNTIL:
+            maker.correct()
+        elif maker.chance.randrange(all_kinds.CANCELS) == 0:
+            maker.cancel()
         add_between(maker, number)
     maker.post({"do": "settle"})
     for report in maker.reports():
@@ -213,18 +220,27 @@ class QuickLedger(plain_replay.Ledger):
             changes.insert(bisect.bisect(self.sorted[key], it), it.qty if it.side == plain_replay.ENTERS else -it.qty)
         return changes
 
-    def shortage_with(self, new):
+    def shortage_with(self, new, gone):
+        if gone:
+            keys = {it.key() for it in gone}
+            return plain_replay.first_shortage([it for key in keys for it in self.sorted[key] if it not in gone])
         keys = {it.key(): [other for other in new if other.key() == it.key()] for it in new}
         if all(min(itertools.accumulate(self.changes_with(key, its))) >= 0 for key, its in keys.items()):
             return None
         return plain_replay.first_shortage([*new, *(it for key in keys for it in self.sorted[key])])
 
-    def hold(self, new):
-        super().hold(new)
+    def hold(self, new, gone):
+        self.ever += new
+        self.movements += new
         for it in new:
             self.changes[it.key()] = self.changes_with(it.key(), [it])
             bisect.insort(self.sorted[it.key()], it)
             self.returned[it.target] += it.qty
+        for it in gone:
+            self.movements.remove(it)
+            at = bisect.bisect_left(self.sorted[it.key()], it)
+            del self.sorted[it.key()][at], self.changes[it.key()][at]
+            self.returned[it.target] -= it.qty
 
 
 def timed_list():
@@ -233,6 +249,7 @@ def timed_list():
     maker, counts = Maker(34, QuickLedger()), {}
     for number in range(1, LENGTHS[-1] + 1):
         maker.posting()
+        maker.correct()
         if number % EVERY == 0:
             maker.add(WORK)
             maker.add({"do": "report", "of": "voucher", "record": maker.chance.randint(1, len(maker.ledger.accepted))})
