@@ -11,7 +11,7 @@ import plain_replay
 MOVEMENTS = 3_900
 SETTLES = 10
 # A cancel comes after one in so many vouchers, and a freeze.
-CANCELS, FREEZES = 5, 300
+CANCELS, FREEZES = 8, 150
 STORES = ["MAIN", "SHOP", "VAN"]
 ITEMS = {"BOLT": "fifo", "NUT": "average", "OIL": "average", "TAPE": "fifo"}
 # By how much each kind is more frequent than the rarest.
