@@ -44,7 +44,7 @@ chosen (word ∷ words) text kind each is = at (bytes_eq text word.0) is (chosen
     at false same later = later same
 
 each-desk_kind : EachKind desk_kinds
-each-desk_kind = (tt, (tt, (tt, (tt, (tt, (tt, (tt, (tt, (tt, (tt, tt))))))))))
+each-desk_kind = (tt, (tt, (tt, (tt, (tt, (tt, (tt, (tt, (tt, (tt, (tt, tt)))))))))))
 
 word-kind : (text : Option (List ℕ)) (kind : Kind) → Ok kind ≡ found_or_bad field.Do 0 (option_and_then (choose desk_kinds) text)
     → IsDeskKind kind

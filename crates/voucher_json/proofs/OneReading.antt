@@ -22,7 +22,7 @@ use Rattle.stock_model.specs.declared.vouchers.What.TheVariants.{Receipt, Transf
 use Rattle.voucher_json.specs.Walks.{GoesOn, Then, Ends, Yields, found_or_bad, IsPresent, Field, IsOptional, Optional, Elements}
 use Rattle.voucher_json.specs.FieldNames.{field_text}
 use Rattle.voucher_json.specs.Fields.{IsObject, IsText, choose, IsWord, items_count, has_other, number_outcome, IsNumber, IsMomentText, IsMoment, list_outcome, IsList, NoOther}
-use Rattle.voucher_json.specs.Records.{record_kinds, methods, purposes, bases, IsItem, IsStore, receipt_line, issue_line, transfer_line, return_line, target_line, IsVoucher, IsIssue, IsLanded, IsFreeze, IsWhat}
+use Rattle.voucher_json.specs.Records.{record_kinds, methods, purposes, bases, IsItem, IsStore, receipt_line, issue_line, transfer_line, return_line, target_line, IsVoucher, IsIssue, IsLanded, IsFreeze, IsCancel, IsWhat}
 use Rattle.voucher_json.specs.Requests.{kinds, sheets, formats, IsByKey, IsOfAccounts, IsOfVoucher, IsScope, fields_of, IsReport, IsWork, IsOfKind, IsRequest, IsReadAs}
 use Rattle.voucher_json.specs.StoredRecords.{record_fields, IsRecord, IsRecordReadAs}
 use Rattle.voucher_json.specs.Tables.{IsMoney, Cell, a_text, a_number, an_amount, IsCell, Values, LineTable, names_of, Cells, IsLine}
@@ -246,6 +246,11 @@ one_freeze shared value =
     both _ _ (one_field IsMoment one_moment_in field.Until 0 value) (λ until.
     both _ _ (no_other (shared ++ field.Until ∷ []) 0 value) (λ none. ends _))
 
+one_cancel : (shared : List FieldName) (value : Data) → IsDecided (IsCancel shared value)
+one_cancel shared value =
+    both _ _ (one_field (IsNumber 1 4_294_967_295) (one_number 1 4_294_967_295) field.Record 0 value) (λ number.
+    both _ _ (no_other (shared ++ field.Record ∷ []) 0 value) (λ none. ends _))
+
 -- a sheet by items and warehouses
 one_by_key : (sheet : Sheet) (value : Data) → IsDecided (IsByKey sheet value)
 one_by_key sheet value =
@@ -287,6 +292,7 @@ one_what shared record_of.CustomerReturn value = one_voucher return_line return_
 one_what shared record_of.SupplierReturn value = one_voucher return_line return_line-facts SupplierReturn shared value
 one_what shared record_of.Landed value = one_landed shared value
 one_what shared record_of.Freeze value = one_freeze shared value
+one_what shared record_of.Cancel value = one_cancel shared value
 
 one_work : (value : Data) → IsDecided (IsWork value)
 one_work value =

@@ -24,7 +24,7 @@ use Rattle.stock_model.specs.declared.vouchers.Basis.TheVariants as part_by
 use Rattle.stock_model.specs.declared.vouchers.Purpose.{Purpose}
 use Rattle.stock_model.specs.declared.vouchers.Purpose.TheVariants.{Sold, Used}
 use Rattle.stock_model.specs.declared.vouchers.What.{What}
-use Rattle.stock_model.specs.declared.vouchers.What.TheVariants.{Item, Store, Receipt, Issue, Transfer, CustomerReturn, SupplierReturn, Landed, Freeze}
+use Rattle.stock_model.specs.declared.vouchers.What.TheVariants.{Item, Store, Receipt, Issue, Transfer, CustomerReturn, SupplierReturn, Landed, Freeze, Cancel}
 use Rattle.voucher_json.specs.Walks.{IsPresent, Field, Elements}
 use Rattle.voucher_json.specs.Fields.{IsObject, IsWord, IsNumber, IsMoment, IsList, NoOther, items_count, number_outcome}
 use Rattle.voucher_json.specs.Records.{record_kinds, methods, purposes, bases, receipt_line, issue_line, transfer_line, return_line, target_line, IsVoucher, IsWhat}
@@ -49,6 +49,7 @@ kind (CustomerReturn at lines) = kind_of.CustomerReturn
 kind (SupplierReturn at lines) = kind_of.SupplierReturn
 kind (Landed charge basis targets) = kind_of.Landed
 kind (Freeze until) = kind_of.Freeze
+kind (Cancel target) = kind_of.Cancel
 
 number-read : (least most : ℕ) (name : FieldName) (line : ℕ) (n : ℕ) → least ≤ n → n ≤ most → Ok n ≡ number_outcome least most name line (Some (unsigned n))
 number-read least most name line n above below = grind (arith, nat_tests)
@@ -131,6 +132,7 @@ head-read desk most (CustomerReturn at lines) = (refl, refl, number-read 0 16 fi
 head-read desk most (SupplierReturn at lines) = (refl, refl, number-read 0 16 field.Desk 0 desk (omega arith) most)
 head-read desk most (Landed charge basis targets) = (refl, refl, number-read 0 16 field.Desk 0 desk (omega arith) most)
 head-read desk most (Freeze until) = (refl, refl, number-read 0 16 field.Desk 0 desk (omega arith) most)
+head-read desk most (Cancel target) = (refl, refl, number-read 0 16 field.Desk 0 desk (omega arith) most)
 
 what-read : (desk : ℕ) (what : What) → IsTrue (is_within_limits what) → IsWhat record_fields (kind what) (what_data desk what) (Ok what)
 what-read desk (Item code method) limits = comes _ _ code _ refl (comes _ _ method _ (method-read field.Method method) (comes _ _ tt _ refl refl))
@@ -152,6 +154,10 @@ what-read desk (Landed charge basis targets) limits =
     (comes _ _ basis _ (basis-read field.Basis basis)
     (comes _ _ targets _ (list-read target_line is_target target_line-facts field.Targets targets rest.0 rest.1) (comes _ _ tt _ refl refl)))
 what-read desk (Freeze until) limits = comes _ _ until _ (moment-read field.Until until) (comes _ _ tt _ refl refl)
+what-read desk (Cancel target) limits =
+    let least : 1 ≤ target.0 = grind (arith, nat_tests) in
+    let most : target.0 ≤ 4_294_967_295 = grind (arith, nat_tests) in
+    comes _ _ target.0 _ (number-read 1 4_294_967_295 field.Record 0 target.0 least most) (comes _ _ tt _ refl refl)
 
 -- the walk of a record's value comes to the record
 pub record-read : (r : Record) → IsRecord (record_data r) (Ok r)

@@ -28,7 +28,7 @@ use Rattle.stock_model.specs.declared.vouchers.Basis.TheVariants as part_by
 use Rattle.stock_model.specs.declared.vouchers.Purpose.{Purpose}
 use Rattle.stock_model.specs.declared.vouchers.Purpose.TheVariants.{Sold, Used}
 use Rattle.stock_model.specs.declared.vouchers.What.{What}
-use Rattle.stock_model.specs.declared.vouchers.What.TheVariants.{Item, Store, Receipt, Issue, Transfer, CustomerReturn, SupplierReturn, Landed, Freeze}
+use Rattle.stock_model.specs.declared.vouchers.What.TheVariants.{Item, Store, Receipt, Issue, Transfer, CustomerReturn, SupplierReturn, Landed, Freeze, Cancel}
 use Rattle.voucher_json.specs.FieldNames.{field_text}
 use Rattle.voucher_json.specs.Records.{receipt_line, issue_line, transfer_line, return_line, target_line}
 use Rattle.voucher_json.specs.RecordTexts.{method_word, purpose_word, basis_word, dated_data, what_data, record_data, record_text, codes_of}
@@ -166,6 +166,9 @@ module _ (P : List ℕ → Type 0) (ascii : (text : List ℕ) → are_ascii text
       )
   what-storable desk most (Freeze until) limits each =
       (refl, (refl, whole desk (omega arith), (refl, ascii (codes "freeze") refl, (refl, moment until, tt))))
+  what-storable desk most (Cancel target) limits each =
+      let below : target.0 ≤ 4_294_967_295 = grind (arith, nat_tests) in
+      (refl, (refl, whole desk (omega arith), (refl, ascii (codes "cancel") refl, (refl, whole target.0 (omega arith), tt))))
 
   -- so may a record
   pub record-storable : (r : Record) → All P (codes_of r.what) → IsStorable P (record_data r)
@@ -189,6 +192,7 @@ what-depth desk (CustomerReturn at lines) = dated-depth return_line return_line-
 what-depth desk (SupplierReturn at lines) = dated-depth return_line return_line-facts desk (codes "supplier-return") at lines
 what-depth desk (Landed charge basis targets) = omega (arith, lines-depth target_line is_target target_line-facts targets)
 what-depth desk (Freeze until) = omega arith
+what-depth desk (Cancel target) = omega arith
 
 -- a text of which nothing is asked
 abbrev AnyText : List ℕ → Type 0

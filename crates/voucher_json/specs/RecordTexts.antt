@@ -14,7 +14,7 @@ use Rattle.stock_model.specs.declared.vouchers.Basis.TheVariants as part_by
 use Rattle.stock_model.specs.declared.vouchers.Purpose.{Purpose}
 use Rattle.stock_model.specs.declared.vouchers.Purpose.TheVariants.{Sold, Used}
 use Rattle.stock_model.specs.declared.vouchers.What.{What}
-use Rattle.stock_model.specs.declared.vouchers.What.TheVariants.{Item, Store, Receipt, Issue, Transfer, CustomerReturn, SupplierReturn, Landed, Freeze}
+use Rattle.stock_model.specs.declared.vouchers.What.TheVariants.{Item, Store, Receipt, Issue, Transfer, CustomerReturn, SupplierReturn, Landed, Freeze, Cancel}
 use Rattle.voucher_json.specs.Records.{receipt_line, issue_line, transfer_line, return_line, target_line}
 use Rattle.voucher_json.specs.Tables.{LineTable, line_data, line_codes}
 
@@ -79,6 +79,11 @@ what_data desk (Freeze until) =
     (member (codes "desk") (number (unsigned desk))
     (member (codes "do") (string (codes "freeze"))
     (member (codes "until") (string (moment_text until)) no_members)))
+what_data desk (Cancel target) =
+    object
+    (member (codes "desk") (number (unsigned desk))
+    (member (codes "do") (string (codes "cancel"))
+    (member (codes "record") (number (unsigned target.0)) no_members)))
 
 -- the JSON value of a record
 abbrev pub record_data : Record → Data
@@ -99,3 +104,4 @@ codes_of (CustomerReturn at lines) = flat_map (line_codes return_line) lines
 codes_of (SupplierReturn at lines) = flat_map (line_codes return_line) lines
 codes_of (Landed charge basis targets) = flat_map (line_codes target_line) targets
 codes_of (Freeze until) = []
+codes_of (Cancel target) = []

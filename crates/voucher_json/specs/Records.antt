@@ -19,7 +19,7 @@ use Rattle.stock_model.specs.declared.vouchers.ReceiptLine.{ReceiptLine}
 use Rattle.stock_model.specs.declared.vouchers.ReturnLine.{ReturnLine}
 use Rattle.stock_model.specs.declared.vouchers.TransferLine.{TransferLine}
 use Rattle.stock_model.specs.declared.vouchers.What.{What}
-use Rattle.stock_model.specs.declared.vouchers.What.TheVariants.{Item, Store, Receipt, Issue, Transfer, CustomerReturn, SupplierReturn, Landed, Freeze}
+use Rattle.stock_model.specs.declared.vouchers.What.TheVariants.{Item, Store, Receipt, Issue, Transfer, CustomerReturn, SupplierReturn, Landed, Freeze, Cancel}
 use Rattle.voucher_json.specs.Walks.{Then, Ends, Field}
 use Rattle.voucher_json.specs.Fields.{IsText, IsWord, IsNumber, IsMoment, IsList, NoOther}
 use Rattle.voucher_json.specs.Tables.{IsMoney, a_text, a_number, an_amount, LineTable, IsLine}
@@ -38,6 +38,7 @@ record_kinds =
     ∷ (codes "supplier-return", kind_of.SupplierReturn)
     ∷ (codes "landed", kind_of.Landed)
     ∷ (codes "freeze", kind_of.Freeze)
+    ∷ (codes "cancel", kind_of.Cancel)
     ∷ []
 
 -- the words of `method`
@@ -140,6 +141,13 @@ IsFreeze shared value =
     Then (NoOther (shared ++ field.Until ∷ []) 0 value) (λ none.
     Ends (Freeze until)))
 
+-- the voucher whose number is `record`, from 1 to 2^32 - 1, is taken back
+abbrev pub IsCancel : List FieldName → Data → Result What ReadFault → Type 0
+IsCancel shared value =
+    Then (Field (IsNumber 1 4_294_967_295) field.Record 0 value) (λ number.
+    Then (NoOther (shared ++ field.Record ∷ []) 0 value) (λ none.
+    Ends (Cancel (record { 0 = number }))))
+
 -- the fields of each kind
 abbrev pub IsWhat : List FieldName → RecordKind → Data → Result What ReadFault → Type 0
 IsWhat shared kind_of.Item = IsItem shared
@@ -151,3 +159,4 @@ IsWhat shared kind_of.CustomerReturn = IsVoucher return_line CustomerReturn shar
 IsWhat shared kind_of.SupplierReturn = IsVoucher return_line SupplierReturn shared
 IsWhat shared kind_of.Landed = IsLanded shared
 IsWhat shared kind_of.Freeze = IsFreeze shared
+IsWhat shared kind_of.Cancel = IsCancel shared

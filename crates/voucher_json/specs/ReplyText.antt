@@ -30,6 +30,15 @@ record_fault_data fault = fault_data fault (codes "refused")
 abbrev pub line_fault_data : List ℕ → ℕ → Data
 line_fault_data fault line = object_of (text (codes "fault") fault ∷ count (codes "line") line ∷ status (codes "refused") ∷ [])
 
+-- the record with this number is no voucher in force
+abbrev pub not_live_data : ℕ → Data
+not_live_data target =
+    object_of (text (codes "fault") (codes "not-live") ∷ count (codes "record") target ∷ status (codes "refused") ∷ [])
+
+-- the record with this number names a line of what is to be cancelled
+abbrev pub linked_data : ℕ → Data
+linked_data by = object_of (count (codes "by") by ∷ text (codes "fault") (codes "linked") ∷ status (codes "refused") ∷ [])
+
 -- more was asked to be returned than is left of the target of a line
 abbrev pub over_return_data : ℕ → ℕ → ℕ → Data
 over_return_data line asked left =
@@ -63,6 +72,8 @@ refusal_data heads (fault_of.UnknownItem line) = line_fault_data (codes "unknown
 refusal_data heads (fault_of.UnknownStore line) = line_fault_data (codes "unknown-store") line
 refusal_data heads (fault_of.SameStore line) = line_fault_data (codes "same-store") line
 refusal_data heads (fault_of.UnknownTarget line) = line_fault_data (codes "unknown-target") line
+refusal_data heads (fault_of.NotLive target) = not_live_data target.0
+refusal_data heads (fault_of.Linked by) = linked_data by.0
 refusal_data heads (fault_of.LinkLater line) = line_fault_data (codes "link-later") line
 refusal_data heads (fault_of.RepeatedTarget line) = line_fault_data (codes "repeated-target") line
 refusal_data heads (fault_of.OverReturn line asked left) = over_return_data line asked.0 left.0
@@ -128,6 +139,8 @@ IsTold (fault_of.UnknownItem line) = Unit {0}
 IsTold (fault_of.UnknownStore line) = Unit {0}
 IsTold (fault_of.SameStore line) = Unit {0}
 IsTold (fault_of.UnknownTarget line) = Unit {0}
+IsTold (fault_of.NotLive target) = Unit {0}
+IsTold (fault_of.Linked by) = Unit {0}
 IsTold (fault_of.LinkLater line) = Unit {0}
 IsTold (fault_of.RepeatedTarget line) = Unit {0}
 IsTold (fault_of.OverReturn line asked left) = Unit {0}

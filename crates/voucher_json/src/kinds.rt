@@ -20,6 +20,7 @@ pub enum RecordKind {
     SupplierReturn,
     Landed,
     Freeze,
+    Cancel,
 }
 
 /// What a request does.
@@ -89,6 +90,8 @@ pub fn record_kind_named(word: &str) -> Option<RecordKind>
         Some(RecordKind::Landed)
     } else if word == "freeze" {
         Some(RecordKind::Freeze)
+    } else if word == "cancel" {
+        Some(RecordKind::Cancel)
     } else {
         None
     }

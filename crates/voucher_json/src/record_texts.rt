@@ -17,7 +17,7 @@ use stock_nums::code::Code;
 use stock_nums::lines::Lines;
 use stock_nums::memory::NoMemory;
 use stock_nums::moment::Moment;
-use stock_nums::numbers::{AccountNo, Minor};
+use stock_nums::numbers::{AccountNo, Minor, RecordNo};
 
 /// The stored text of a record: JSON with no space, the keys in byte order, and no line feed. The key `desk`
 /// says the desk, from 0 to 16.
@@ -67,6 +67,7 @@ fn record_value(alloc: Global, item: &Record) -> Result<Value, AllocError>
             targets,
         } => landed_value(alloc, desk, *charge, *basis, targets),
         What::Freeze { until } => freeze_value(alloc, desk, *until),
+        What::Cancel { target } => cancel_value(alloc, desk, *target),
     }
 }
 
@@ -148,6 +149,13 @@ fn freeze_value(alloc: Global, desk: u32, until: Moment) -> Result<Value, AllocE
 {
     let until = moment_string(alloc, until)?;
     json!(in alloc; {"desk": desk, "do": "freeze", "until": until})
+}
+
+/// The JSON value of a cancel.
+fn cancel_value(alloc: Global, desk: u32, target: RecordNo) -> Result<Value, AllocError>
+    ensures { IfOk result (λ value. view value ≡ what_data desk (What.Cancel target)) }
+{
+    json!(in alloc; {"desk": desk, "do": "cancel", "record": target.0})
 }
 
 /// The word of `method` for a cost formula.

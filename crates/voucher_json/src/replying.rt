@@ -3,7 +3,7 @@ ghost use Rattle.std.specs.Prelude.{◌≡◌, false, IfOk};
 ghost use Rattle.serde_json.specs.Written.{has_float, compact_text};
 ghost use Rattle.serde_json.specs.View.{view};
 ghost use Rattle.stock_model.specs.Masters.{code_of};
-ghost use Rattle.voucher_json.specs.ReplyText.{over_return_data, frozen_data, full_data, short_data, refusal_data, pending_data, missing_data, reply_text, IsTold, IsPrinted};
+ghost use Rattle.voucher_json.specs.ReplyText.{not_live_data, linked_data, over_return_data, frozen_data, full_data, short_data, refusal_data, pending_data, missing_data, reply_text, IsTold, IsPrinted};
 
 use crate::moment_strings::moment_string;
 use crate::plain_texts::{bad_text, line_fault_text, numbered, record_fault_text};
@@ -85,6 +85,8 @@ fn refusal_text(alloc: Global, fault: PostFault, heads: &[Head]) -> Result<Vec<u
         PostFault::UnknownStore { line } => line_fault_text(alloc, "unknown-store", line),
         PostFault::SameStore { line } => line_fault_text(alloc, "same-store", line),
         PostFault::UnknownTarget { line } => line_fault_text(alloc, "unknown-target", line),
+        PostFault::NotLive { target } => value_text(alloc, not_live_value(alloc, target)?),
+        PostFault::Linked { by } => value_text(alloc, linked_value(alloc, by)?),
         PostFault::LinkLater { line } => line_fault_text(alloc, "link-later", line),
         PostFault::RepeatedTarget { line } => line_fault_text(alloc, "repeated-target", line),
         PostFault::OverReturn { line, asked, left } => {
@@ -103,6 +105,20 @@ fn refusal_text(alloc: Global, fault: PostFault, heads: &[Head]) -> Result<Vec<u
         } => short_text(alloc, heads, place, item, store, lacking),
         PostFault::KeeperFailed | PostFault::NoMemory => unreachable!(),
     }
+}
+
+/// The JSON value of the refusal of a cancel of what is no voucher in force.
+fn not_live_value(alloc: Global, target: RecordNo) -> Result<Value, AllocError>
+    ensures { IfOk result (λ value. view value ≡ not_live_data target.0) }
+{
+    json!(in alloc; {"fault": "not-live", "record": target.0, "status": "refused"})
+}
+
+/// The JSON value of the refusal of a cancel of a voucher of which another one names a line.
+fn linked_value(alloc: Global, by: RecordNo) -> Result<Value, AllocError>
+    ensures { IfOk result (λ value. view value ≡ linked_data by.0) }
+{
+    json!(in alloc; {"by": by.0, "fault": "linked", "status": "refused"})
 }
 
 /// The JSON value of the refusal of a return of more than is left.

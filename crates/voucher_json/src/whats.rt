@@ -3,7 +3,7 @@ ghost use Rattle.std.specs.Prelude.{◌≤◌, length, IsTrue, IfOk};
 ghost use Rattle.serde_json.specs.View.{view};
 ghost use Rattle.stock_model.specs.Limits.{is_within_limits};
 ghost use Rattle.voucher_json.specs.Walks.{OrNoMemory};
-ghost use Rattle.voucher_json.specs.Records.{IsItem, IsStore, IsDated, IsIssue, IsLanded, IsFreeze, IsWhat};
+ghost use Rattle.voucher_json.specs.Records.{IsItem, IsStore, IsDated, IsIssue, IsLanded, IsFreeze, IsCancel, IsWhat};
 
 use crate::fields::{
     amount_field, basis_field, code_field, method_field, moment_field, number_field, purpose_field,
@@ -18,7 +18,7 @@ use stock_model::vouchers::What;
 use stock_nums::limits::{MAX_LINES, MAX_SAID_ACCOUNT};
 use stock_nums::lines::Lines;
 use stock_nums::moment::Moment;
-use stock_nums::numbers::AccountNo;
+use stock_nums::numbers::{AccountNo, RecordNo};
 
 /// What a record of this kind says by an object, which has the shared fields beside those of the kind.
 pub fn read_what(
@@ -52,6 +52,7 @@ pub fn read_what(
         }
         RecordKind::Landed => read_landed(alloc, object, shared),
         RecordKind::Freeze => read_freeze(object, shared),
+        RecordKind::Cancel => read_cancel(object, shared),
     }
 }
 
@@ -133,4 +134,16 @@ fn read_freeze(object: &Value, shared: &[FieldName]) -> Result<What, ReadFault>
     let until = moment_field(object, FieldName::Until)?;
     no_other(object, shared, &[FieldName::Until], 0)?;
     Ok(What::Freeze { until })
+}
+
+/// The cancel that an object says.
+fn read_cancel(object: &Value, shared: &[FieldName]) -> Result<What, ReadFault>
+    ensures outcome { OrNoMemory (IsCancel shared.now (view object.now)) result }
+    ensures limits { IfOk result (λ what. IsTrue (is_within_limits what)) }
+{
+    let number = number_field(object, FieldName::Record, 0, 1, 4_294_967_295)?;
+    no_other(object, shared, &[FieldName::Record], 0)?;
+    Ok(What::Cancel {
+        target: RecordNo(number as u32),
+    })
 }

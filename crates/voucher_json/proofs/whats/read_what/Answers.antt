@@ -18,6 +18,9 @@ returns-in-Landed-clause-outcome c = rw c.in-Landed.is c.read_landed.ensures.out
 pub returns-in-Freeze-clause-outcome : goal.returns-in-Freeze-clause-outcome
 returns-in-Freeze-clause-outcome c = rw c.in-Freeze.is c.read_freeze.ensures.outcome
 
+pub returns-in-Cancel-clause-outcome : goal.returns-in-Cancel-clause-outcome
+returns-in-Cancel-clause-outcome c = rw c.in-Cancel.is c.read_cancel.ensures.outcome
+
 pub returns-in_err-at-in-Receipt-clause-outcome : goal.returns-in_err-at-in-Receipt-clause-outcome
 returns-in_err-at-in-Receipt-clause-outcome c =
     let p = err_from_is_err_and c.from_residual.result c.from_residual.ensures.1 in
