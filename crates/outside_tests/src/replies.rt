@@ -116,6 +116,14 @@ fn prints_refusals(rt: HostRuntime) {
     assert!(rt; is_refused(alloc, PostFault::NoBasis, text));
     let text = r#"{"fault":"unknown-item","line":1,"status":"refused"}"#;
     assert!(rt; is_refused(alloc, PostFault::UnknownItem { line: 1 }, text));
+    let not_live = PostFault::NotLive {
+        target: RecordNo(9),
+    };
+    let text = r#"{"fault":"not-live","record":9,"status":"refused"}"#;
+    assert!(rt; is_refused(alloc, not_live, text));
+    let linked = PostFault::Linked { by: RecordNo(6) };
+    let text = r#"{"by":6,"fault":"linked","status":"refused"}"#;
+    assert!(rt; is_refused(alloc, linked, text));
     let over = PostFault::OverReturn {
         line: 1,
         asked: Qty(1),

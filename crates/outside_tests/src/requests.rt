@@ -84,6 +84,10 @@ const KINDS: &[(&str, &str)] = &[
         r#"{"do":"freeze","until":"2026-01-03T00:00:00"}"#,
         r#"{"desk":0,"do":"freeze","until":"2026-01-03T00:00:00"}"#,
     ),
+    (
+        r#"{"do":"cancel","record":7}"#,
+        r#"{"desk":0,"do":"cancel","record":7}"#,
+    ),
 ];
 
 #[test]
@@ -108,7 +112,8 @@ fn has_fields(what: &What, place: usize) -> bool {
         4 => is_transfer(what),
         5 => is_customer_return(what),
         6 => is_supplier_return(what),
-        _ => is_landed(what),
+        7 => is_landed(what),
+        _ => is_cancel(what),
     }
 }
 
@@ -214,6 +219,13 @@ fn is_landed(what: &What) -> bool {
     }
 }
 
+fn is_cancel(what: &What) -> bool {
+    match what {
+        What::Cancel { target } => *target == RecordNo(7),
+        _ => false,
+    }
+}
+
 /// Whether a text is read into the fields of this place.
 fn is_read_into(alloc: Global, text: &str, place: usize) -> bool {
     match posted(alloc, text) {
@@ -249,6 +261,7 @@ const PLACES: &[(&str, usize)] = &[
         r#"{"do":"landed","charge":11,"basis":"qty","targets":[{"record":9,"line":100}]}"#,
         7,
     ),
+    (r#"{"do":"cancel","record":7}"#, 8),
 ];
 
 #[test]
@@ -392,6 +405,17 @@ const FAULTS: &[(&str, Told)] = &[
         ("bad", "method", 0),
     ),
     (r#"{"do":"item","method":"lifo"}"#, ("bad", "code", 0)),
+    (r#"{"do":"cancel","x":1}"#, ("bad", "record", 0)),
+    (r#"{"do":"cancel","record":"7"}"#, ("bad", "record", 0)),
+    (r#"{"do":"cancel","record":0}"#, ("limit", "record", 0)),
+    (
+        r#"{"do":"cancel","record":4294967296}"#,
+        ("limit", "record", 0),
+    ),
+    (
+        r#"{"do":"cancel","record":7,"line":1}"#,
+        ("bad", "other", 0),
+    ),
     (
         r#"{"do":"store","code":"W","account":1000000001}"#,
         ("limit", "account", 0),

@@ -50,6 +50,8 @@ const WRITTEN: &[&str] = &[
     r#"{"basis":"qty","charge":100,"desk":0,"do":"landed","targets":[{"line":1,"record":5}]}"#,
     r#"{"basis":"amount","charge":1000000000000,"desk":0,"do":"landed","targets":[{"line":1,"record":5},{"line":2,"record":5}]}"#,
     r#"{"desk":0,"do":"freeze","until":"2026-01-03T00:00:00"}"#,
+    r#"{"desk":0,"do":"cancel","record":7}"#,
+    r#"{"desk":16,"do":"cancel","record":4294967295}"#,
 ];
 
 #[test]
@@ -72,6 +74,10 @@ const FAULTS: &[(&str, Told)] = &[
     (r#"{"desk":17,"do":"item"}"#, ("limit", "desk", 0)),
     (r#"{"desk":-1,"do":"item"}"#, ("limit", "desk", 0)),
     (r#"{"desk":0,"do":"item"}"#, ("bad", "code", 0)),
+    (
+        r#"{"desk":0,"do":"cancel","record":0}"#,
+        ("limit", "record", 0),
+    ),
     (
         r#"{"code":"A","desk":0,"do":"item","method":"fifo","x":1}"#,
         ("bad", "other", 0),
