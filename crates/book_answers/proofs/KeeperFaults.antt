@@ -8,7 +8,7 @@ use Rattle.stock_nums.specs.declared.memory.NoMemory as memory
 use Rattle.stock_model.specs.PostReplies.{refusal}
 use Rattle.stock_model.specs.declared.answers.Answer.{Answer}
 use Rattle.stock_model.specs.declared.faults.PostFault.{PostFault}
-use Rattle.stock_model.specs.declared.faults.PostFault.TheVariants.{CodeTaken, CodeShape, AccountRange, UnknownItem, UnknownStore, SameStore, UnknownTarget, LinkLater, RepeatedTarget, OverReturn, NoBasis, Frozen, Full, Short, KeeperFailed, NoMemory}
+use Rattle.stock_model.specs.declared.faults.PostFault.TheVariants.{CodeTaken, CodeShape, AccountRange, UnknownItem, UnknownStore, SameStore, UnknownTarget, NotLive, Linked, LinkLater, RepeatedTarget, OverReturn, NoBasis, Frozen, Full, Short, KeeperFailed, NoMemory}
 use Rattle.stock_model.specs.declared.records.Record.{Record}
 use Rattle.generation_book.specs.Refusals.{IsAfterRefusal}
 use Rattle.session_laws.specs.Exchanges.{store_failures}
@@ -23,6 +23,8 @@ never_falls-refused (UnknownItem n) old new after = omega (arith, ap (λ k. k.fa
 never_falls-refused (UnknownStore n) old new after = omega (arith, ap (λ k. k.faults) after)
 never_falls-refused (SameStore n) old new after = omega (arith, ap (λ k. k.faults) after)
 never_falls-refused (UnknownTarget n) old new after = omega (arith, ap (λ k. k.faults) after)
+never_falls-refused (NotLive target) old new after = omega (arith, ap (λ k. k.faults) after)
+never_falls-refused (Linked by) old new after = omega (arith, ap (λ k. k.faults) after)
 never_falls-refused (LinkLater n) old new after = omega (arith, ap (λ k. k.faults) after)
 never_falls-refused (RepeatedTarget n) old new after = omega (arith, ap (λ k. k.faults) after)
 never_falls-refused (OverReturn n asked left) old new after = omega (arith, ap (λ k. k.faults) after)
@@ -49,6 +51,8 @@ CountsFailure-refusal journal (UnknownItem n) old new after = counts (refusal jo
 CountsFailure-refusal journal (UnknownStore n) old new after = counts (refusal journal (UnknownStore n)) (UnknownStore n) old new after refl
 CountsFailure-refusal journal (SameStore n) old new after = counts (refusal journal (SameStore n)) (SameStore n) old new after refl
 CountsFailure-refusal journal (UnknownTarget n) old new after = counts (refusal journal (UnknownTarget n)) (UnknownTarget n) old new after refl
+CountsFailure-refusal journal (NotLive target) old new after = counts (refusal journal (NotLive target)) (NotLive target) old new after refl
+CountsFailure-refusal journal (Linked by) old new after = counts (refusal journal (Linked by)) (Linked by) old new after refl
 CountsFailure-refusal journal (LinkLater n) old new after = counts (refusal journal (LinkLater n)) (LinkLater n) old new after refl
 CountsFailure-refusal journal (RepeatedTarget n) old new after = counts (refusal journal (RepeatedTarget n)) (RepeatedTarget n) old new after refl
 CountsFailure-refusal journal (OverReturn n asked left) old new after = counts (refusal journal (OverReturn n asked left)) (OverReturn n asked left) old new after refl

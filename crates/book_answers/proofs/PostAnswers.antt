@@ -7,7 +7,7 @@ use Rattle.stock_model.specs.declared.answers.Answer.TheVariants.{Told}
 use Rattle.stock_model.specs.declared.deeds.Deed.{Deed}
 use Rattle.stock_model.specs.declared.deeds.Deed.TheVariants.{Kept}
 use Rattle.stock_model.specs.declared.faults.PostFault.{PostFault}
-use Rattle.stock_model.specs.declared.faults.PostFault.TheVariants.{CodeTaken, CodeShape, AccountRange, UnknownItem, UnknownStore, SameStore, UnknownTarget, LinkLater, RepeatedTarget, OverReturn, NoBasis, Frozen, Full, Short, KeeperFailed, NoMemory}
+use Rattle.stock_model.specs.declared.faults.PostFault.TheVariants.{CodeTaken, CodeShape, AccountRange, UnknownItem, UnknownStore, SameStore, UnknownTarget, NotLive, Linked, LinkLater, RepeatedTarget, OverReturn, NoBasis, Frozen, Full, Short, KeeperFailed, NoMemory}
 use Rattle.stock_model.specs.declared.records.Record.{Record}
 use Rattle.stock_model.specs.declared.replies.Reply.TheVariants.{Accepted}
 use Rattle.stock_model.specs.Faults.{fault}
@@ -41,6 +41,8 @@ IsPostAnswer-told old new item (UnknownItem n) is same told = IsPostAnswer-refus
 IsPostAnswer-told old new item (UnknownStore n) is same told = IsPostAnswer-refused old new item (UnknownStore n) is same
 IsPostAnswer-told old new item (SameStore n) is same told = IsPostAnswer-refused old new item (SameStore n) is same
 IsPostAnswer-told old new item (UnknownTarget n) is same told = IsPostAnswer-refused old new item (UnknownTarget n) is same
+IsPostAnswer-told old new item (NotLive target) is same told = IsPostAnswer-refused old new item (NotLive target) is same
+IsPostAnswer-told old new item (Linked by) is same told = IsPostAnswer-refused old new item (Linked by) is same
 IsPostAnswer-told old new item (LinkLater n) is same told = IsPostAnswer-refused old new item (LinkLater n) is same
 IsPostAnswer-told old new item (RepeatedTarget n) is same told = IsPostAnswer-refused old new item (RepeatedTarget n) is same
 IsPostAnswer-told old new item (OverReturn n asked left) is same told = IsPostAnswer-refused old new item (OverReturn n asked left) is same

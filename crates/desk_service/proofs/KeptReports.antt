@@ -10,7 +10,7 @@ use Rattle.stock_model.specs.declared.answers.Answer.{Answer}
 use Rattle.stock_model.specs.declared.deeds.Deed.{Deed}
 use Rattle.stock_model.specs.declared.deeds.Deed.TheVariants.{Kept, Published}
 use Rattle.stock_model.specs.declared.faults.PostFault.{PostFault}
-use Rattle.stock_model.specs.declared.faults.PostFault.TheVariants.{CodeTaken, CodeShape, AccountRange, UnknownItem, UnknownStore, SameStore, UnknownTarget, LinkLater, RepeatedTarget, OverReturn, NoBasis, Frozen, Full, Short, KeeperFailed, NoMemory}
+use Rattle.stock_model.specs.declared.faults.PostFault.TheVariants.{CodeTaken, CodeShape, AccountRange, UnknownItem, UnknownStore, SameStore, UnknownTarget, NotLive, Linked, LinkLater, RepeatedTarget, OverReturn, NoBasis, Frozen, Full, Short, KeeperFailed, NoMemory}
 use Rattle.stock_model.specs.declared.queries.Need.{Need}
 use Rattle.stock_model.specs.declared.queries.Need.TheVariants as need
 use Rattle.stock_model.specs.declared.queries.Query.{Query}
@@ -44,6 +44,8 @@ refusal-keeps journal (UnknownItem line) = tt
 refusal-keeps journal (UnknownStore line) = tt
 refusal-keeps journal (SameStore line) = tt
 refusal-keeps journal (UnknownTarget line) = tt
+refusal-keeps journal (NotLive target) = tt
+refusal-keeps journal (Linked by) = tt
 refusal-keeps journal (LinkLater line) = tt
 refusal-keeps journal (RepeatedTarget line) = tt
 refusal-keeps journal (OverReturn line asked left) = tt

@@ -9,7 +9,7 @@ use Rattle.stock_model.specs.declared.answers.Answer.TheVariants.{Told}
 use Rattle.stock_model.specs.declared.deeds.Deed.{Deed}
 use Rattle.stock_model.specs.declared.deeds.Deed.TheVariants.{Kept}
 use Rattle.stock_model.specs.declared.faults.PostFault.{PostFault}
-use Rattle.stock_model.specs.declared.faults.PostFault.TheVariants.{CodeTaken, CodeShape, AccountRange, UnknownItem, UnknownStore, SameStore, UnknownTarget, LinkLater, RepeatedTarget, OverReturn, NoBasis, Frozen, Full, Short, KeeperFailed, NoMemory}
+use Rattle.stock_model.specs.declared.faults.PostFault.TheVariants.{CodeTaken, CodeShape, AccountRange, UnknownItem, UnknownStore, SameStore, UnknownTarget, NotLive, Linked, LinkLater, RepeatedTarget, OverReturn, NoBasis, Frozen, Full, Short, KeeperFailed, NoMemory}
 use Rattle.stock_model.specs.declared.queries.Need.{Need}
 use Rattle.stock_model.specs.declared.queries.Need.TheVariants as need
 use Rattle.stock_model.specs.declared.queries.Query.{Query}
@@ -50,6 +50,8 @@ refusal-accepts_none journal (UnknownItem line) n same = cc
 refusal-accepts_none journal (UnknownStore line) n same = cc
 refusal-accepts_none journal (SameStore line) n same = cc
 refusal-accepts_none journal (UnknownTarget line) n same = cc
+refusal-accepts_none journal (NotLive target) n same = cc
+refusal-accepts_none journal (Linked by) n same = cc
 refusal-accepts_none journal (LinkLater line) n same = cc
 refusal-accepts_none journal (RepeatedTarget line) n same = cc
 refusal-accepts_none journal (OverReturn line asked left) n same = cc

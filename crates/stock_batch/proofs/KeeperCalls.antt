@@ -6,7 +6,7 @@ use Rattle.stock_model.specs.declared.answers.Answer.{Answer}
 use Rattle.stock_model.specs.declared.answers.Answer.TheVariants.{Told}
 use Rattle.stock_model.specs.declared.deeds.Deed.TheVariants.{Kept}
 use Rattle.stock_model.specs.declared.faults.PostFault.{PostFault}
-use Rattle.stock_model.specs.declared.faults.PostFault.TheVariants.{CodeTaken, CodeShape, AccountRange, UnknownItem, UnknownStore, SameStore, UnknownTarget, LinkLater, RepeatedTarget, OverReturn, NoBasis, Frozen, Full, Short, KeeperFailed, NoMemory}
+use Rattle.stock_model.specs.declared.faults.PostFault.TheVariants.{CodeTaken, CodeShape, AccountRange, UnknownItem, UnknownStore, SameStore, UnknownTarget, NotLive, Linked, LinkLater, RepeatedTarget, OverReturn, NoBasis, Frozen, Full, Short, KeeperFailed, NoMemory}
 use Rattle.stock_model.specs.declared.records.Record.{Record}
 use Rattle.stock_model.specs.declared.replies.Reply.{Reply}
 use Rattle.stock_model.specs.declared.replies.Reply.TheVariants.{Accepted, Worked, Settled, StoreFailed}
@@ -47,6 +47,8 @@ last-refused journal (UnknownItem n) old new after told = after
 last-refused journal (UnknownStore n) old new after told = after
 last-refused journal (SameStore n) old new after told = after
 last-refused journal (UnknownTarget n) old new after told = after
+last-refused journal (NotLive target) old new after told = after
+last-refused journal (Linked by) old new after told = after
 last-refused journal (LinkLater n) old new after told = after
 last-refused journal (RepeatedTarget n) old new after told = after
 last-refused journal (OverReturn n asked left) old new after told = after
@@ -81,6 +83,8 @@ wanting-refused (UnknownItem n) old new after = inl after
 wanting-refused (UnknownStore n) old new after = inl after
 wanting-refused (SameStore n) old new after = inl after
 wanting-refused (UnknownTarget n) old new after = inl after
+wanting-refused (NotLive target) old new after = inl after
+wanting-refused (Linked by) old new after = inl after
 wanting-refused (LinkLater n) old new after = inl after
 wanting-refused (RepeatedTarget n) old new after = inl after
 wanting-refused (OverReturn n asked left) old new after = inl after
