@@ -41,12 +41,12 @@ of_line journal e here =
     (Each-put_all (λ f. IsIn f (all_entries journal)) [] (all_entries journal) tt (Each-own (all_entries journal))) here
 
 -- a movement in force is of a record of the journal
-in_force : (journal : List Record) (e : Entry) → IsIn e (all_entries journal) → is_live_entry journal e ≡ true
+pub in_force : (journal : List Record) (e : Entry) → IsIn e (all_entries journal) → is_live_entry journal e ≡ true
 unfolding all_entries
 in_force journal e here = (IsIn-filtered (is_live_entry journal) e (entries_after [] journal) here).1
 
 -- with the record it is in force exactly where the record spares it
-taken_back-spared : (journal : List Record) (item : Record) (e : Entry) → IsIn e (all_entries journal) → is_taken_back journal item e ≡ not (is_spared item e)
+pub taken_back-spared : (journal : List Record) (item : Record) (e : Entry) → IsIn e (all_entries journal) → is_taken_back journal item e ≡ not (is_spared item e)
 taken_back-spared journal item e here =
     let number = e.place.voucher.0 in
     let known : IsBetween 0 (length journal) e =

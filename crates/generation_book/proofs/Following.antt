@@ -4,7 +4,7 @@ use Rattle.turn_lock.specs.declared.view.Start.{Start}
 use Rattle.stock_model.specs.declared.deeds.Deed.{Deed}
 use Rattle.stock_model.specs.declared.deeds.Deed.TheVariants.{Kept}
 use Rattle.stock_model.specs.declared.faults.PostFault.{PostFault}
-use Rattle.stock_model.specs.declared.faults.PostFault.TheVariants.{CodeTaken, CodeShape, AccountRange, UnknownItem, UnknownStore, SameStore, UnknownTarget, LinkLater, RepeatedTarget, OverReturn, NoBasis, Frozen, Full, Short, KeeperFailed, NoMemory}
+use Rattle.stock_model.specs.declared.faults.PostFault.TheVariants.{CodeTaken, CodeShape, AccountRange, UnknownItem, UnknownStore, SameStore, UnknownTarget, NotLive, Linked, LinkLater, RepeatedTarget, OverReturn, NoBasis, Frozen, Full, Short, KeeperFailed, NoMemory}
 use Rattle.stock_model.specs.declared.records.Record.{Record}
 use Rattle.stock_keeper.specs.Calls.{KeeperState, IsDone, HasCalled}
 use Rattle.stock_keeper.specs.declared.fault.KeepFault.TheVariants as keep
@@ -65,6 +65,8 @@ called-after (UnknownItem n) old new after = called-same old new after
 called-after (UnknownStore n) old new after = called-same old new after
 called-after (SameStore n) old new after = called-same old new after
 called-after (UnknownTarget n) old new after = called-same old new after
+called-after (NotLive target) old new after = called-same old new after
+called-after (Linked by) old new after = called-same old new after
 called-after (LinkLater n) old new after = called-same old new after
 called-after (RepeatedTarget n) old new after = called-same old new after
 called-after (OverReturn n asked left) old new after = called-same old new after

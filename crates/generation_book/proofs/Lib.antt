@@ -1,5 +1,6 @@
 pub mod Books
 pub mod Effects
+pub mod GoneWith
 pub mod Filters
 pub mod ChangedRows
 pub mod OwnFaults

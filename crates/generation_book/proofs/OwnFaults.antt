@@ -6,12 +6,13 @@ use Rattle.stock_nums.specs.Accounts.{is_store_account}
 use Rattle.stock_nums.specs.Codes.{is_code}
 use Rattle.stock_nums.specs.declared.moment.Moment.{Moment}
 use Rattle.stock_io.specs.Counts.{raised}
-use Rattle.stock_model.specs.Faults.{fault, fault_but_short, full, short, short_of, voucher_fault, master_fault, lines_fault, targets_fault, changes_closed, frozen_by, frozen_fault, first_fault, code_taken, code_shape, account_range, unknown_item, unknown_store, same_store, unknown_target, link_later, repeated_target, over_return, no_basis, over_return_at}
+use Rattle.stock_model.specs.Cancelling.{is_voucher_in_force, first_link}
+use Rattle.stock_model.specs.Faults.{fault, fault_but_short, full, short, short_of, voucher_fault, master_fault, lines_fault, targets_fault, changes_closed, frozen_by, frozen_fault, first_fault, code_taken, code_shape, account_range, unknown_item, unknown_store, same_store, unknown_target, not_live, linked, linked_by, link_later, repeated_target, over_return, no_basis, over_return_at}
 use Rattle.stock_model.specs.Freezing.{frozen}
 use Rattle.stock_model.specs.Masters.{item_with, store_with}
 use Rattle.stock_model.specs.declared.deeds.Deed.{Deed}
 use Rattle.stock_model.specs.declared.faults.PostFault.{PostFault}
-use Rattle.stock_model.specs.declared.faults.PostFault.TheVariants.{CodeTaken, CodeShape, AccountRange, UnknownItem, UnknownStore, SameStore, UnknownTarget, LinkLater, RepeatedTarget, OverReturn, NoBasis, Frozen, Full, Short, KeeperFailed, NoMemory}
+use Rattle.stock_model.specs.declared.faults.PostFault.TheVariants.{CodeTaken, CodeShape, AccountRange, UnknownItem, UnknownStore, SameStore, UnknownTarget, NotLive, Linked, LinkLater, RepeatedTarget, OverReturn, NoBasis, Frozen, Full, Short, KeeperFailed, NoMemory}
 use Rattle.stock_model.specs.VoucherLines.{lines_of}
 use Rattle.stock_model.specs.declared.records.Record.{Record}
 use Rattle.stock_model.specs.declared.vouchers.What.{What}
@@ -87,6 +88,30 @@ own-account (Landed charge basis targets) = tt
 own-account (Freeze until) = tt
 own-account (Cancel cancelled) = tt
 
+own-not_live : (journal : List Record) (what : What) → IfSome (not_live journal what) IsOwn
+own-not_live journal (Item code method) = tt
+own-not_live journal (Store code account) = tt
+own-not_live journal (Receipt at lines) = tt
+own-not_live journal (Issue at purpose lines) = tt
+own-not_live journal (Transfer at lines) = tt
+own-not_live journal (CustomerReturn at lines) = tt
+own-not_live journal (SupplierReturn at lines) = tt
+own-not_live journal (Landed charge basis targets) = tt
+own-not_live journal (Freeze until) = tt
+own-not_live journal (Cancel cancelled) = own-unless (is_voucher_in_force journal cancelled.0) (NotLive cancelled) tt
+
+own-linked : (journal : List Record) (what : What) → IfSome (linked journal what) IsOwn
+own-linked journal (Item code method) = tt
+own-linked journal (Store code account) = tt
+own-linked journal (Receipt at lines) = tt
+own-linked journal (Issue at purpose lines) = tt
+own-linked journal (Transfer at lines) = tt
+own-linked journal (CustomerReturn at lines) = tt
+own-linked journal (SupplierReturn at lines) = tt
+own-linked journal (Landed charge basis targets) = tt
+own-linked journal (Freeze until) = tt
+own-linked journal (Cancel cancelled) = own-map linked_by (λ found. tt) (first_link journal cancelled.0)
+
 own-frozen : (journal : List Record) (what : What) (until : Option Moment) → IfSome (option_and_then (frozen_by journal what) until) IsOwn
 own-frozen journal what None = tt
 own-frozen journal what (Some until) = own-if (changes_closed journal what until) (Frozen until) tt
@@ -101,13 +126,19 @@ own-voucher journal what =
     (own-map UnknownItem (λ n. tt) _, (own-map UnknownStore (λ n. tt) _, (own-map SameStore (λ n. tt) _, tt))) in
     let targets =
     own-first
-    (unknown_target journal what ∷ link_later journal what ∷ repeated_target what ∷ over_return journal what ∷ no_basis journal what ∷ []) (
+    (unknown_target journal what ∷ not_live journal what ∷ linked journal what ∷ link_later journal what ∷ repeated_target what ∷ over_return journal what ∷ no_basis journal what ∷ []) (
       own-map UnknownTarget (λ n. tt) _,
       (
-        own-map LinkLater (λ n. tt) _,
+        own-not_live journal what,
         (
-          own-map RepeatedTarget (λ n. tt) _,
-          (own-map (over_return_at journal (lines_of what)) (λ n. tt) _, (own-if _ NoBasis tt, tt)),
+          own-linked journal what,
+          (
+            own-map LinkLater (λ n. tt) _,
+            (
+              own-map RepeatedTarget (λ n. tt) _,
+              (own-map (over_return_at journal (lines_of what)) (λ n. tt) _, (own-if _ NoBasis tt, tt)),
+            ),
+          ),
         ),
       ),
     ) in
@@ -129,6 +160,8 @@ by_fault journal item (UnknownItem n) own is = is
 by_fault journal item (UnknownStore n) own is = is
 by_fault journal item (SameStore n) own is = is
 by_fault journal item (UnknownTarget n) own is = is
+by_fault journal item (NotLive target) own is = is
+by_fault journal item (Linked by) own is = is
 by_fault journal item (LinkLater n) own is = is
 by_fault journal item (RepeatedTarget n) own is = is
 by_fault journal item (OverReturn n asked left) own is = is
@@ -147,6 +180,8 @@ uncalled (UnknownItem n) keeper own = refl
 uncalled (UnknownStore n) keeper own = refl
 uncalled (SameStore n) keeper own = refl
 uncalled (UnknownTarget n) keeper own = refl
+uncalled (NotLive target) keeper own = refl
+uncalled (Linked by) keeper own = refl
 uncalled (LinkLater n) keeper own = refl
 uncalled (RepeatedTarget n) keeper own = refl
 uncalled (OverReturn n asked left) keeper own = refl
@@ -184,6 +219,8 @@ untried (UnknownItem n) event tried own = refl
 untried (UnknownStore n) event tried own = refl
 untried (SameStore n) event tried own = refl
 untried (UnknownTarget n) event tried own = refl
+untried (NotLive target) event tried own = refl
+untried (Linked by) event tried own = refl
 untried (LinkLater n) event tried own = refl
 untried (RepeatedTarget n) event tried own = refl
 untried (OverReturn n asked left) event tried own = refl
@@ -218,6 +255,8 @@ unasked (UnknownItem n) calls own = refl
 unasked (UnknownStore n) calls own = refl
 unasked (SameStore n) calls own = refl
 unasked (UnknownTarget n) calls own = refl
+unasked (NotLive target) calls own = refl
+unasked (Linked by) calls own = refl
 unasked (LinkLater n) calls own = refl
 unasked (RepeatedTarget n) calls own = refl
 unasked (OverReturn n asked left) calls own = refl

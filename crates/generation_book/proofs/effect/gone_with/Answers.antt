@@ -1,23 +1,39 @@
--- As yet no record takes another back.
-use Rattle.std.proofs.Common.{◌≡◌, ℕ, Bool, false, not, cond, List, [], ◌∷◌, ◌++◌, drop, filter, refl, sym, ap, ◌∙◌}
-use Rattle.std.specs.List.{list_any}
-use Rattle.stock_nums.specs.declared.entry.Entry.{Entry}
-use Rattle.stock_model.specs.declared.records.Record.{Record}
-use Rattle.stock_model.specs.Entries.{cancels, takes_back, all_entries}
-use Rattle.generation_book.specs.Effects.{is_taken_back}
+-- A cancel takes back the one record that it names, and no other record takes any back.
+use Rattle.std.proofs.Common.{◌≡◌, ℕ, false, refl, sym, ap, ◌∙◌}
+use Rattle.std.specs.Prelude.{nat_eq}
+use Rattle.std.proofs.lemmas.Result.{IfOk-weaker}
+use Rattle.stock_nums.specs.declared.numbers.RecordNo.{RecordNo}
+use Rattle.stock_model.specs.declared.vouchers.What.{What}
+use Rattle.stock_model.specs.declared.vouchers.What.TheVariants.{Item, Store, Receipt, Issue, Transfer, CustomerReturn, SupplierReturn, Landed, Freeze, Cancel}
+use Rattle.stock_model.specs.Entries.{cancels}
+use Rattle.generation_book.proofs.GoneWith.{gone_with-none, gone_with-one}
 use Rattle.generation_book.proofs.effect.gone_with.Goals as goal
 
-none-takes_back : (n : ℕ) (records : List Record) → list_any (takes_back n) records ≡ false
+takes-named : (what : What) (target : RecordNo) → what ≡ Cancel target → (k : ℕ) → cancels k what ≡ nat_eq target.0 k
 unfolding cancels
-none-takes_back n [] = refl
-none-takes_back n (r ∷ rs) = none-takes_back n rs
+takes-named what target is k = ap (cancels k) is
 
--- so none goes
-none-gone : (journal : List Record) (item : Record) (es : List Entry) → filter (is_taken_back journal item) es ≡ []
-none-gone journal item [] = refl
-none-gone journal item (e ∷ es) =
-    let rest = filter (is_taken_back journal item) es in
-    ap (λ (b : Bool). cond (not (not b)) (e ∷ rest) rest) (none-takes_back e.place.voucher.0 (drop e.place.voucher.0 (journal ++ item ∷ []))) ∙ none-gone journal item es
+takes-none : (what : What) → ((target : RecordNo) → what ≡ Cancel target → ⊥) → (k : ℕ) → cancels k what ≡ false
+unfolding cancels
+takes-none (Item code method) other k = refl
+takes-none (Store code account) other k = refl
+takes-none (Receipt at lines) other k = refl
+takes-none (Issue at purpose lines) other k = refl
+takes-none (Transfer at lines) other k = refl
+takes-none (CustomerReturn at lines) other k = refl
+takes-none (SupplierReturn at lines) other k = refl
+takes-none (Landed charge basis targets) other k = refl
+takes-none (Freeze until) other k = refl
+takes-none (Cancel target) other k = absurd (other target refl)
 
-pub returns : goal.returns
-returns c = c.new.ensures ∙ sym (none-gone c.args._journal.now c.args._item.now (all_entries c.args._journal.now))
+pub returns-in-Cancel : goal.returns-in-Cancel
+returns-in-Cancel c =
+    let item = c.args.item.now in
+    let target = c.in-Cancel.target in
+    let one = gone_with-one c.args.journal.now item target.0 (takes-named item.what target c.in-Cancel.is) in
+    IfOk-weaker c.live_entries_of.result _ _ (λ es is. is ∙ sym one) c.live_entries_of.ensures
+
+pub returns-in_default : goal.returns-in_default
+returns-in_default c =
+    let item = c.args.item.now in
+    c.new.ensures ∙ sym (gone_with-none c.args.journal.now item (takes-none item.what c.in_default.not-Cancel))
