@@ -1,4 +1,6 @@
 //! A book from its records to what its reports are made from.
+ghost use Rattle.std.specs.Prelude.{◌≡◌, map, IfOk};
+ghost use Rattle.repost_fetch.specs.Changes.{spot_of_entry};
 
 use crate::records::{ITEM, RECEIPT, SALE, STORE, record};
 use generation_book::book::Book;
@@ -9,13 +11,18 @@ use stock_keeper::nowhere::Nowhere;
 use stock_model::queries::{Format, Need, Query, Selected, Sheet};
 use stock_model::read_faults::ReadFault;
 use stock_nums::code::Code;
-use stock_nums::entry::Row;
+use stock_nums::entry::{Entry, Row};
+use stock_nums::lines::Lines;
 use stock_nums::memory::NoMemory;
 use stock_nums::numbers::RecordNo;
+use stock_nums::place::Spot;
 
 // Five units of B into W1, 100 each, on the day before the other receipt.
 const LATE: &str =
     r#"{"do":"receipt","at":"2026-01-01T00:00:00","lines":[{"item":"B","store":"W1","qty":5,"amount":500}]}"#;
+
+// The sale is taken back.
+const CANCEL: &str = r#"{"do":"cancel","record":4}"#;
 
 // The number that the line's record gets; none where it is refused.
 fn post<K: Keeper>(
@@ -29,15 +36,39 @@ fn post<K: Keeper>(
     }
 }
 
-// Publishes all accepted records, where some are not covered, with each row as one that changed. As yet none goes.
+// Publishes all accepted records, where some are not covered, with each row as one that changed.
 fn publish_all(alloc: Global, book: &mut Book<Nowhere>) -> Result<RecordNo, KeepFault> {
     let accepted = book.accepted();
-    if book.covered().0 >= accepted.0 {
+    let covered = book.covered();
+    if covered.0 >= accepted.0 {
         return Ok(accepted);
     }
     let rows = book.replayed(alloc)?;
-    book.publish(alloc, accepted, rows.as_slice(), &[])?;
+    let fetched = book.fetch(alloc, covered)?;
+    let gone = spots(alloc, fetched.gone.as_slice())?;
+    book.publish(alloc, accepted, rows.as_slice(), gone.as_slice())?;
     Ok(accepted)
+}
+
+// Where the movements stand among those of their records.
+fn spots(alloc: Global, entries: &[Entry]) -> Result<Lines<Spot>, NoMemory>
+    ensures { IfOk result (λ spots. spots ≡ map spot_of_entry entries.now) }
+{
+    let mut spots = Lines::new(alloc);
+    for entry in entries {
+        spots.push(spot_of(entry))?;
+    }
+    Ok(spots)
+}
+
+fn spot_of(entry: &Entry) -> Spot
+    ensures { result ≡ spot_of_entry entry.now }
+{
+    Spot {
+        voucher: entry.place.voucher,
+        line: entry.place.line,
+        side: entry.place.side,
+    }
 }
 
 // How many movements the records after the first ones bring, and how many records there are with them.
@@ -158,12 +189,39 @@ fn is_in_next_report(alloc: Global, book: &mut Book<Nowhere>) -> bool {
     report_twice(alloc, book) == Some(reports)
 }
 
+// The record of each movement, and its value, where a sale was taken back.
+fn told_without_sale(rows: &[Row]) -> Option<[(u32, i64); 2]> {
+    match rows {
+        [a, b] => Some([a, b].map(|row| (row.entry.place.voucher.0, row.worth.value.0))),
+        _ => None,
+    }
+}
+
+// What a report is made from once all six records are published.
+fn report_without_sale<K: Keeper>(
+    alloc: Global,
+    book: &Book<K>,
+) -> Option<(Sizes, Option<[(u32, i64); 2]>)> {
+    let chosen = selected(alloc, book, 6)?;
+    Some((sizes(&chosen), told_without_sale(chosen.rows.as_slice())))
+}
+
+// Whether the sale is taken back, but not once more, and the next report is made without it.
+fn is_taken_back(alloc: Global, book: &mut Book<Nowhere>) -> bool {
+    let report = ((RecordNo(6), 2, 2), Some([(5, 500), (3, 1000)]));
+    post(alloc, book, CANCEL) == Ok(Some(6))
+        && post(alloc, book, CANCEL) == Ok(None)
+        && publish_all(alloc, book) == Ok(RecordNo(6))
+        && report_without_sale(alloc, book) == Some(report)
+}
+
 // What is seen of a new book.
 #[derive(Clone, Copy)]
 enum Scene {
     HasLate,
     Waits,
     Reports,
+    TakesBack,
 }
 
 // Whether it is so. Here alone a book is owned: a function that drops one takes long to prove.
@@ -174,6 +232,7 @@ fn is_seen(alloc: Global, scene: Scene) -> bool {
         Scene::HasLate => has_late,
         Scene::Waits => has_late && waits(alloc, &book),
         Scene::Reports => has_late && is_in_next_report(alloc, &mut book),
+        Scene::TakesBack => has_late && is_taken_back(alloc, &mut book),
     }
 }
 
@@ -190,4 +249,9 @@ fn a_late_receipt_waits(rt: HostRuntime) {
 #[test]
 fn a_receipt_of_the_day_before_is_in_the_next_report(rt: HostRuntime) {
     assert!(rt; is_seen(rt.alloc(), Scene::Reports));
+}
+
+#[test]
+fn a_sale_that_is_taken_back_is_in_no_further_report(rt: HostRuntime) {
+    assert!(rt; is_seen(rt.alloc(), Scene::TakesBack));
 }

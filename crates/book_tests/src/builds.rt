@@ -23,7 +23,7 @@ const FIRST: [&str; 9] = [
 ];
 
 /// Lines of every kind, late ones among them and some at the same moments. Which of them a book refuses depends on those before.
-const LINES: [&str; 42] = [
+const LINES: [&str; 52] = [
     r#"{"do":"item","code":"C","method":"fifo"}"#,
     r#"{"do":"store","code":"W4","account":300}"#,
     r#"{"do":"receipt","at":"2026-01-01T08:00:00","lines":[{"item":"A","store":"W1","qty":3,"amount":1000}]}"#,
@@ -66,6 +66,16 @@ const LINES: [&str; 42] = [
     r#"{"do":"landed","charge":1000,"basis":"amount","targets":[{"record":10,"line":1}]}"#,
     r#"{"do":"landed","charge":50,"basis":"qty","targets":[{"record":13,"line":1},{"record":6,"line":1}]}"#,
     r#"{"do":"landed","charge":7,"basis":"amount","targets":[{"record":15,"line":1}]}"#,
+    r#"{"do":"cancel","record":6}"#,
+    r#"{"do":"cancel","record":7}"#,
+    r#"{"do":"cancel","record":8}"#,
+    r#"{"do":"cancel","record":9}"#,
+    r#"{"do":"cancel","record":10}"#,
+    r#"{"do":"cancel","record":11}"#,
+    r#"{"do":"cancel","record":13}"#,
+    r#"{"do":"cancel","record":14}"#,
+    r#"{"do":"cancel","record":16}"#,
+    r#"{"do":"cancel","record":19}"#,
 ];
 
 /// What was counted of the runs so far.
@@ -75,6 +85,8 @@ struct Counts {
     movements: u64,
     turns: u64,
     published: u64,
+    /// Movements that the records of the last run ever made.
+    made: u64,
     /// Turns after the last line of the last run, and how many are enough.
     last: u64,
     bound: u64,
@@ -87,6 +99,7 @@ const NOTHING: Counts = Counts {
     movements: 0,
     turns: 0,
     published: 0,
+    made: 0,
     last: 0,
     bound: 0,
     wrong: 0,
@@ -124,11 +137,24 @@ fn post<K: Keeper, P: Keeper>(
     counts: &mut Counts,
     line: &str,
 ) {
+    let before = plain.accepted();
     let one = answer_of_revalued(alloc, revalued, line);
     let other = answer(alloc, plain, line);
     let are_alike = one.is_some() && one == other;
     counts.wrong = counted(counts.wrong, !are_alike);
+    counts.made = counts.made.saturating_add(made(alloc, plain, before));
     counts.last = 0;
+}
+
+/// How many movements the records after the first ones make; 0 where memory is wanting.
+fn made<K: Keeper>(alloc: Global, book: &Book<K>, after: RecordNo) -> u64 {
+    if after > book.accepted() {
+        return 0;
+    }
+    match book.fetch(alloc, after) {
+        Ok(fetched) => fetched.entries.len() as u64,
+        Err(_) => 0,
+    }
 }
 
 /// Posts a copy of the record with this number, where there is one. Says whether it is accepted.
@@ -171,14 +197,6 @@ fn are_rows_of<K: Keeper, P: Keeper>(alloc: Global, book: &Book<K>, plain: &Book
     }
 }
 
-/// How many movements the book has; 0 where memory is wanting.
-fn movements<K: Keeper>(alloc: Global, book: &Book<K>) -> u64 {
-    match book.replayed(alloc) {
-        Ok(replay) => replay.len() as u64,
-        Err(_) => 0,
-    }
-}
-
 /// Makes a turn, and says whether it published.
 fn publishes<K: Keeper>(alloc: Global, book: &mut RevaluedBook<K>) -> bool {
     let before = book.book().covered();
@@ -216,12 +234,11 @@ fn finish<K: Keeper, P: Keeper>(
     plain: &Book<P>,
     counts: &mut Counts,
 ) {
-    let movements = movements(alloc, plain);
     counts.accepted = counts
         .accepted
         .saturating_add(u64::from(plain.accepted().0));
-    counts.movements = counts.movements.saturating_add(movements);
-    counts.bound = movements.saturating_mul(2).saturating_add(4);
+    counts.movements = counts.movements.saturating_add(counts.made);
+    counts.bound = counts.made.saturating_mul(2).saturating_add(4);
     turns(alloc, revalued, counts, counts.bound);
     let book = revalued.book();
     let is_done = are_rows_of(alloc, book, plain) && !is_behind(book);
@@ -256,7 +273,7 @@ fn go_on<K: Keeper, P: Keeper>(
     let mut number = seed;
     for _ in 0..25 {
         number = next(number);
-        let line = LINES[(number >> 16) as usize % 42];
+        let line = LINES[(number >> 16) as usize % 52];
         post(alloc, revalued, plain, counts, line);
         number = next(number);
         turns(alloc, revalued, counts, u64::from(number >> 16) % 6);
@@ -267,6 +284,7 @@ fn go_on<K: Keeper, P: Keeper>(
 fn run(alloc: Global, seed: u32, counts: &mut Counts) {
     let mut revalued = RevaluedBook::start(alloc);
     let mut plain = Book::start(alloc);
+    counts.made = 0;
     begin(alloc, &mut revalued, &mut plain, counts);
     go_on(alloc, &mut revalued, &mut plain, counts, seed);
     finish(alloc, &mut revalued, &plain, counts);
