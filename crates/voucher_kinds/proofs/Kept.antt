@@ -1,6 +1,6 @@
 -- The items and warehouses of a journal with one more record, and with one less.
-use Rattle.std.proofs.Common.{◌≡◌, ℕ, ◌+◌, ◌-◌, zero, suc, ◌<◌, ◌≤◌, ◌⊎◌, Bool, true, false, cond, inl, inr, List, [], ◌∷◌, ◌++◌, length, take, Option, None, Some, refl, sym, ap, ◌∙◌, subst, arith, append_assoc}
-use Rattle.std.specs.Prelude.{is_some}
+use Rattle.std.proofs.Common.{◌≡◌, ℕ, ◌+◌, ◌-◌, zero, suc, ◌<◌, ◌≤◌, Bool, true, false, cond, inl, inr, List, [], ◌∷◌, ◌++◌, length, take, Option, None, Some, refl, sym, ap, ◌∙◌, subst, arith, append_assoc}
+use Rattle.std.specs.Prelude.{is_some, IfSome}
 use Rattle.std.specs.Option.{option_to_list, option_or, option_map_or}
 use Rattle.std.specs.List.{filter_map, enumerate_from}
 use Rattle.std.proofs.lemmas.List.{length-append, append-nil}
@@ -16,9 +16,9 @@ use Rattle.stock_model.specs.declared.vouchers.What.TheVariants.{Item, Store, Re
 use Rattle.stock_nums.specs.declared.limits.TheConstants.{MAX_RECORDS}
 use Rattle.stock_nums.specs.LineSums.{number_of}
 use Rattle.stock_nums.specs.declared.cause.Target.{Target}
-use Rattle.stock_nums.specs.declared.entry.Entry.{Entry}
 use Rattle.stock_nums.specs.declared.line_sums.LineSums.{LineSums}
 use Rattle.stock_nums.specs.declared.moment.Moment.{Moment}
+use Rattle.stock_nums.specs.declared.numbers.RecordNo.{RecordNo}
 use Rattle.stock_model.specs.Cancelling.{record_units, units_gone}
 use Rattle.stock_model.specs.Entries.{is_live, all_entries}
 use Rattle.stock_nums.specs.Accounts.{is_store_account}
@@ -34,9 +34,9 @@ use Rattle.stock_model.proofs.NoFaults.{NoFaults, NoFaults-from}
 use Rattle.stock_laws.proofs.LiveTargets.{record_at-snoc}
 use Rattle.stock_laws.proofs.ReturnedUnits.{in-force, held-live, record_at-append, returned-snoc, units_gone-le, returned-within, units_at-le, AreSound-snoc}
 use Rattle.voucher_kinds.specs.Heads.{made_by, made_fault, with_made, without_last}
-use Rattle.voucher_kinds.specs.Journals.{master_of, IsJournal, noted, noted_with, HasNote}
+use Rattle.voucher_kinds.specs.Journals.{master_of, IsJournal, AreTakers, is_later, taker, noted_with, HasNote}
 use Rattle.voucher_kinds.specs.ReturnedUnits.{KeepsRoom, HasRoom, has_room_at}
-use Rattle.voucher_kinds.proofs.Live.{within, length-noted_with, live-push, live-pop}
+use Rattle.voucher_kinds.proofs.Noted.{within, takers-push, takers-pop}
 use Rattle.voucher_kinds.proofs.UnitsNamed.{room_at-kept}
 
 -- one more element has the next number
@@ -128,10 +128,10 @@ sound_after-front journal (r ∷ records) last sound =
     ((sound.0, rest.0), subst (λ (held : List Record). voucher_fault held last.what ≡ None) (append_assoc journal (r ∷ []) records) rest.1)
 
 -- the empty journal
-pub IsJournal-start : (records : List Record) (master : MasterState) (units : LineSums) (live : List Bool) → records ≡ [] → master ≡ record { items = []; stores = [] }
-    → ((target : Target) → number_of units target ≡ 0) → live ≡ [] → IsJournal records master units live None
+pub IsJournal-start : (records : List Record) (master : MasterState) (units : LineSums) (takers : List (Option RecordNo)) → records ≡ [] → master ≡ record { items = []; stores = [] }
+    → ((target : Target) → number_of units target ≡ 0) → takers ≡ [] → IsJournal records master units takers None
 unfolding frozen all_entries
-IsJournal-start records master units live none empty nothing unnoted =
+IsJournal-start records master units takers none empty nothing unnoted =
     let start : IsJournal [] (record { items = []; stores = [] }) units [] None =
     record {
       few = omega arith;
@@ -139,33 +139,37 @@ IsJournal-start records master units live none empty nothing unnoted =
       sound = tt;
       counted = λ target. nothing target;
       room = λ n item held. no-record n item held;
-      notes = refl;
-      live_is = λ n. unnoted_is n;
+      takers_are = record { notes = refl; in_force = λ n k first. unnoted-live n k; within = λ n. unnoted-within n };
       closed_is = refl;
     } in
-    subst (λ (journal : List Record). IsJournal journal master units live None) (sym none)
-    (subst (λ (m : MasterState). IsJournal [] m units live None) (sym empty) (subst (λ (notes : List Bool). IsJournal [] (record { items = []; stores = [] }) units notes None) (sym unnoted) start))
+    subst (λ (journal : List Record). IsJournal journal master units takers None) (sym none)
+    (subst (λ (m : MasterState). IsJournal [] m units takers None) (sym empty) (subst (λ (notes : List (Option RecordNo)). IsJournal [] (record { items = []; stores = [] }) units notes None) (sym unnoted) start))
   where
     no-record : (n : ℕ) (item : Record) → record_at [] n ≡ Some item → (index : ℕ) → has_room_at units (lines_of item.what) index ≡ true
     no-record zero item held = cc
     no-record (suc n) item held = cc
 
-    unnoted_is : (n : ℕ) → noted [] n ≡ is_live [] n
-    unnoted_is zero = refl
-    unnoted_is (suc n) = refl
+    unnoted-live : (n k : ℕ) → is_live (take k []) n ≡ is_later k (taker [] n)
+    unnoted-live zero zero = refl
+    unnoted-live zero (suc k) = refl
+    unnoted-live (suc n) zero = refl
+    unnoted-live (suc n) (suc k) = refl
+
+    unnoted-within : (n : ℕ) → IfSome (taker [] n) (λ by. by.0 ≤ 0)
+    unnoted-within zero = tt
+    unnoted-within (suc n) = tt
 
 -- a journal that was kept anew and says the same
-pub IsJournal-same : (journal new : List Record) (master new_master : MasterState) (units new_units : LineSums) (live new_live : List Bool) (closed : Option Moment) → IsJournal journal master units live closed
-    → new ≡ journal → new_master ≡ master → ((target : Target) → number_of new_units target ≡ number_of units target) → KeepsRoom units new_units → new_live ≡ live → IsJournal new new_master new_units new_live closed
-IsJournal-same journal new master new_master units new_units live new_live closed is stays master_stays units_stay keeps live_stays = record {
+pub IsJournal-same : (journal new : List Record) (master new_master : MasterState) (units new_units : LineSums) (takers new_takers : List (Option RecordNo)) (closed : Option Moment) → IsJournal journal master units takers closed
+    → new ≡ journal → new_master ≡ master → ((target : Target) → number_of new_units target ≡ number_of units target) → KeepsRoom units new_units → new_takers ≡ takers → IsJournal new new_master new_units new_takers closed
+IsJournal-same journal new master new_master units new_units takers new_takers closed is stays master_stays units_stay keeps takers_stay = record {
   few = rw stays is.few;
   master_is = rw (stays, master_stays) is.master_is;
   sound = rw stays is.sound;
   counted = λ target. units_stay target ∙ is.counted target ∙ ap (λ (all : List Record). returned (all_entries all) target) (sym stays);
   room = λ n item held index.
       room_at-kept units new_units (lines_of item.what) index keeps (is.room n item (ap (λ (all : List Record). record_at all n) (sym stays) ∙ held) index);
-  notes = ap (λ (notes : List Bool). length notes) live_stays ∙ is.notes ∙ ap (λ (all : List Record). length all) (sym stays);
-  live_is = λ n. ap (λ (notes : List Bool). noted notes n) live_stays ∙ is.live_is n ∙ ap (λ (all : List Record). is_live all n) (sym stays);
+  takers_are = subst (λ (all : List Record). AreTakers all new_takers) (sym stays) (subst (AreTakers journal) (sym takers_stay) is.takers_are);
   closed_is = is.closed_is ∙ ap frozen (sym stays);
 }
 
@@ -185,17 +189,17 @@ gone-append journal more (Cancel cancelled) target none =
     ap (λ (o : Option Record). option_map_or (record_units target) o 0) (record_at-append journal more cancelled.0 found.0.0 found.0.1 ∙ sym found.0.1)
 
 -- there is a note of what is taken back
-pub HasNote-held : (journal : List Record) (live : List Bool) (what : What) → NoFaults journal what → length journal ≤ length live → HasNote live what
-HasNote-held journal live (Item code method) none count = tt
-HasNote-held journal live (Store code account) none count = tt
-HasNote-held journal live (Receipt at lines) none count = tt
-HasNote-held journal live (Issue at purpose lines) none count = tt
-HasNote-held journal live (Transfer at lines) none count = tt
-HasNote-held journal live (CustomerReturn at lines) none count = tt
-HasNote-held journal live (SupplierReturn at lines) none count = tt
-HasNote-held journal live (Landed charge basis targets) none count = tt
-HasNote-held journal live (Freeze until) none count = tt
-HasNote-held journal live (Cancel cancelled) none count =
+pub HasNote-held : (journal : List Record) (takers : List (Option RecordNo)) (what : What) → NoFaults journal what → length journal ≤ length takers → HasNote takers what
+HasNote-held journal takers (Item code method) none count = tt
+HasNote-held journal takers (Store code account) none count = tt
+HasNote-held journal takers (Receipt at lines) none count = tt
+HasNote-held journal takers (Issue at purpose lines) none count = tt
+HasNote-held journal takers (Transfer at lines) none count = tt
+HasNote-held journal takers (CustomerReturn at lines) none count = tt
+HasNote-held journal takers (SupplierReturn at lines) none count = tt
+HasNote-held journal takers (Landed charge basis targets) none count = tt
+HasNote-held journal takers (Freeze until) none count = tt
+HasNote-held journal takers (Cancel cancelled) none count =
     let found = held-live journal cancelled.0 (in-force journal cancelled none.live) in
     let held = within journal cancelled.0 found.0.0 found.0.1 in
     (held.0, omega (arith, held.1, count))
@@ -212,13 +216,13 @@ pub HasRoom-kept : (journal : List Record) (units new_units : LineSums) → Keep
 HasRoom-kept journal units new_units keeps room n item held index = room_at-kept units new_units (lines_of item.what) index keeps (room n item held index)
 
 -- a journal with one more record
-pub IsJournal-push : (journal new : List Record) (master with_it : MasterState) (units with_units : LineSums) (live with_live : List Bool) (closed with_closed : Option Moment) (item : Record) (n : ℕ)
-    → IsJournal journal master units live closed → length journal < MAX_RECORDS → n ≡ length journal + 1 → new ≡ journal ++ item ∷ [] → with_it ≡ with_made master n item.what
+pub IsJournal-push : (journal new : List Record) (master with_it : MasterState) (units with_units : LineSums) (takers with_takers : List (Option RecordNo)) (closed with_closed : Option Moment) (item : Record) (by : RecordNo)
+    → IsJournal journal master units takers closed → length journal < MAX_RECORDS → by.0 ≡ length journal + 1 → new ≡ journal ++ item ∷ [] → with_it ≡ with_made master by.0 item.what
     → voucher_fault journal item.what ≡ None
     → ((target : Target) → number_of with_units target + units_gone journal item.what target ≡ number_of units target + units_named (lines_of item.what) target)
-    → HasRoom (journal ++ item ∷ []) with_units → with_live ≡ noted_with (live ++ true ∷ []) item.what false
-    → with_closed ≡ later_if_any closed (closed_by item.what) → IsJournal new with_it with_units with_live with_closed
-IsJournal-push journal new master with_it units with_units live with_live closed with_closed item n is room number grows adds none more rooms notes closes =
+    → HasRoom (journal ++ item ∷ []) with_units → with_takers ≡ noted_with (takers ++ None ∷ []) item.what (Some by)
+    → with_closed ≡ later_if_any closed (closed_by item.what) → IsJournal new with_it with_units with_takers with_closed
+IsJournal-push journal new master with_it units with_units takers with_takers closed with_closed item by is room number grows adds none more rooms notes closes =
     let own = NoFaults-from journal item.what none in record {
       few = rw (grows, length-append journal (item ∷ [])) (omega (arith, room));
       master_is = rw (grows, adds, number, is.master_is) (sym (master_of-push journal item));
@@ -227,19 +231,18 @@ IsJournal-push journal new master with_it units with_units live with_live closed
           let same = ap (λ (all : List Record). returned (all_entries all) target) grows in
           omega (arith, more target, is.counted target, returned-snoc journal item target is.sound none, same);
       room = subst (λ (all : List Record). HasRoom all with_units) (sym grows) rooms;
-      notes = omega (arith, ap (λ (all : List Bool). length all) notes, length-noted_with (live ++ true ∷ []) item.what false, length-append live (true ∷ []), is.notes, ap (λ (all : List Record). length all) grows, length-append journal (item ∷ []));
-      live_is = λ k.
-          ap (λ (all : List Bool). noted all k) notes ∙ live-push journal item live item.what refl own is.notes is.live_is k
-          ∙ ap (λ (all : List Record). is_live all k) (sym grows);
+      takers_are =
+          subst (λ (all : List Record). AreTakers all with_takers) (sym grows)
+          (subst (AreTakers (journal ++ item ∷ [])) (sym notes) (takers-push journal item takers by own number is.takers_are));
       closed_is =
           closes ∙ ap (λ (before : Option Moment). later_if_any before (closed_by item.what)) is.closed_is ∙ sym (frozen-snoc journal item)
           ∙ ap frozen (sym grows);
     }
 
 -- what its last record returns is counted, beside those of the records before it that it does not take back
-last-counted : (front : List Record) (last : Record) (master : MasterState) (units : LineSums) (live : List Bool) (closed : Option Moment) (target : Target) → IsJournal (front ++ last ∷ []) master units live closed
+last-counted : (front : List Record) (last : Record) (master : MasterState) (units : LineSums) (takers : List (Option RecordNo)) (closed : Option Moment) (target : Target) → IsJournal (front ++ last ∷ []) master units takers closed
     → number_of units target + units_gone front last.what target ≡ returned (all_entries front) target + units_named (lines_of last.what) target
-last-counted front last master units live closed target is =
+last-counted front last master units takers closed target is =
     let parts = sound_after-front [] front last is.sound in
     omega (arith, is.counted target, returned-snoc front last target parts.0 parts.1)
 
@@ -258,44 +261,39 @@ units-fit-front journal item target sound none =
     )
 
 -- with those that it took back the units fit, and its own are among them
-pub last-fits : (journal front : List Record) (last : Record) (master : MasterState) (units : LineSums) (live : List Bool) (closed : Option Moment) (target : Target) → journal ≡ front ++ last ∷ []
-    → IsJournal journal master units live closed
+pub last-fits : (journal front : List Record) (last : Record) (master : MasterState) (units : LineSums) (takers : List (Option RecordNo)) (closed : Option Moment) (target : Target) → journal ≡ front ++ last ∷ []
+    → IsJournal journal master units takers closed
     → (number_of units target + units_gone journal last.what target ≤ 2_000_000_000) × (units_named (lines_of last.what) target ≤ number_of units target + units_gone journal last.what target)
-last-fits journal front last master units live closed target ends is_journal =
-    let is = subst (λ (records : List Record). IsJournal records master units live closed) ends is_journal in
+last-fits journal front last master units takers closed target ends is_journal =
+    let is = subst (λ (records : List Record). IsJournal records master units takers closed) ends is_journal in
     let parts = sound_after-front [] front last is.sound in
     let gone = gone-append front (last ∷ []) last.what target (NoFaults-from front last.what parts.1) in
     let same = ap (λ (records : List Record). units_gone records last.what target) ends in
-    let counted = last-counted front last master units live closed target is in
+    let counted = last-counted front last master units takers closed target is in
     let fits = units-fit-front front last target parts.0 parts.1 in
     (omega (arith, counted, gone, same, fits), omega (arith, counted, gone, same))
 
 -- a journal closes the past up to the later of what the records before its last one close, and of what that one closes
-pub last-closes : (journal front : List Record) (last : Record) (master : MasterState) (units : LineSums) (live : List Bool) (closed : Option Moment) → journal ≡ front ++ last ∷ []
-    → IsJournal journal master units live closed → closed ≡ later_if_any (frozen front) (closed_by last.what)
-last-closes journal front last master units live closed ends is = is.closed_is ∙ ap frozen ends ∙ frozen-snoc front last
+pub last-closes : (journal front : List Record) (last : Record) (master : MasterState) (units : LineSums) (takers : List (Option RecordNo)) (closed : Option Moment) → journal ≡ front ++ last ∷ []
+    → IsJournal journal master units takers closed → closed ≡ later_if_any (frozen front) (closed_by last.what)
+last-closes journal front last master units takers closed ends is = is.closed_is ∙ ap frozen ends ∙ frozen-snoc front last
 
 -- there is a note of what it took back
-pub last-noted : (journal front : List Record) (last : Record) (master : MasterState) (units : LineSums) (live : List Bool) (closed : Option Moment) → journal ≡ front ++ last ∷ []
-    → IsJournal journal master units live closed → HasNote live last.what
-last-noted journal front last master units live closed ends is =
+pub last-noted : (journal front : List Record) (last : Record) (master : MasterState) (units : LineSums) (takers : List (Option RecordNo)) (closed : Option Moment) → journal ≡ front ++ last ∷ []
+    → IsJournal journal master units takers closed → HasNote takers last.what
+last-noted journal front last master units takers closed ends is =
     let parts = sound_after-front [] front last (subst AreSound ends is.sound) in
-    HasNote-held front live last.what (NoFaults-from front last.what parts.1)
-    (omega (arith, is.notes, ap (λ (records : List Record). length records) ends, length-append front (last ∷ [])))
-
-length-take-le : {X : Type 0} (n : ℕ) (xs : List X) → n ≤ length xs → length (take n xs) ≡ n
-length-take-le zero xs within = refl
-length-take-le (suc n) [] within = absurd (omega (arith, within))
-length-take-le (suc n) (x ∷ xs) within = ap suc (length-take-le n xs (omega (arith, within)))
+    HasNote-held front takers last.what (NoFaults-from front last.what parts.1)
+    (omega (arith, is.takers_are.notes, ap (λ (records : List Record). length records) ends, length-append front (last ∷ [])))
 
 -- a journal without its last record
-pub IsJournal-pop : (journal front : List Record) (last : Record) (master without_it : MasterState) (units less_units : LineSums) (live less_live : List Bool) (closed less_closed : Option Moment)
-    → journal ≡ front ++ last ∷ [] → IsJournal journal master units live closed → without_it ≡ without_last master (made_by last.what)
+pub IsJournal-pop : (journal front : List Record) (last : Record) (master without_it : MasterState) (units less_units : LineSums) (takers less_takers : List (Option RecordNo)) (closed less_closed : Option Moment)
+    → journal ≡ front ++ last ∷ [] → IsJournal journal master units takers closed → without_it ≡ without_last master (made_by last.what)
     → ((target : Target) → number_of less_units target + units_named (lines_of last.what) target ≡ number_of units target + units_gone journal last.what target)
-    → KeepsRoom units less_units → less_live ≡ take (length front) (noted_with live last.what true) → less_closed ≡ frozen front
-    → IsJournal front without_it less_units less_live less_closed
-IsJournal-pop journal front last master without_it units less_units live less_live closed less_closed ends journal_is takes less keeps notes less_is =
-    let is : IsJournal (front ++ last ∷ []) master units live closed = subst (λ (records : List Record). IsJournal records master units live closed) ends journal_is in
+    → KeepsRoom units less_units → less_takers ≡ take (length front) (noted_with takers last.what None) → less_closed ≡ frozen front
+    → IsJournal front without_it less_units less_takers less_closed
+IsJournal-pop journal front last master without_it units less_units takers less_takers closed less_closed ends journal_is takes less keeps notes less_is =
+    let is : IsJournal (front ++ last ∷ []) master units takers closed = subst (λ (records : List Record). IsJournal records master units takers closed) ends journal_is in
     let parts = sound_after-front [] front last is.sound in
     let own = NoFaults-from front last.what parts.1 in
     let longer = length-append front (last ∷ []) in record {
@@ -308,27 +306,26 @@ IsJournal-pop journal front last master without_it units less_units live less_li
           omega (
             arith,
             less target,
-            last-counted front last master units live closed target is,
+            last-counted front last master units takers closed target is,
             gone-append front (last ∷ []) last.what target own,
             ap (λ (records : List Record). units_gone records last.what target) ends,
           );
       room = λ n item held index. room_at-kept units less_units (lines_of item.what) index keeps (is.room n item (record_at-append front (last ∷ []) n item held) index);
-      notes = ap (λ (all : List Bool). length all) notes ∙ length-take-le (length front) (noted_with live last.what true) (omega (arith, length-noted_with live last.what true, is.notes, longer));
-      live_is = λ k. ap (λ (all : List Bool). noted all k) notes ∙ live-pop front last live last.what refl own (omega (arith, is.notes, longer)) is.live_is k;
+      takers_are = subst (AreTakers front) (sym notes) (takers-pop front last takers own is.takers_are);
       closed_is = less_is;
     }
 
 -- the units that a journal returns of a line fit
-pub returned-fits : (journal : List Record) (master : MasterState) (units : LineSums) (live : List Bool) (closed : Option Moment) (target : Target) → IsJournal journal master units live closed
+pub returned-fits : (journal : List Record) (master : MasterState) (units : LineSums) (takers : List (Option RecordNo)) (closed : Option Moment) (target : Target) → IsJournal journal master units takers closed
     → number_of units target ≤ 1_000_000_000
-returned-fits journal master units live closed target is =
+returned-fits journal master units takers closed target is =
     omega (arith, is.counted target, returned-within journal target is.sound, units_at-le journal target)
 
 -- and so do they with those of a record that has no fault; those that it takes back are among them
-pub units-fit : (journal : List Record) (master : MasterState) (units : LineSums) (live : List Bool) (closed : Option Moment) (item : Record) (target : Target) → IsJournal journal master units live closed
+pub units-fit : (journal : List Record) (master : MasterState) (units : LineSums) (takers : List (Option RecordNo)) (closed : Option Moment) (item : Record) (target : Target) → IsJournal journal master units takers closed
     → voucher_fault journal item.what ≡ None
     → (number_of units target + units_named (lines_of item.what) target ≤ 2_000_000_000) × (units_gone (journal ++ item ∷ []) item.what target ≤ number_of units target)
-units-fit journal master units live closed item target is none =
+units-fit journal master units takers closed item target is none =
     let fits = units-fit-front journal item target is.sound none in
     let gone = gone-append journal (item ∷ []) item.what target (NoFaults-from journal item.what none) in
     (omega (arith, is.counted target, fits), omega (arith, is.counted target, gone, units_gone-le journal item target is.sound none))

@@ -1,14 +1,15 @@
 //! The accepted records, and what a voucher's codes stand for.
 
-ghost use Rattle.std.specs.Prelude.{◌≡◌, ◌⊎◌, ◌+◌, ◌-◌, ◌<◌, ◌≤◌, [], ◌∷◌, ◌++◌, length, take, IfOk, OnOk, OnErr, IfErr, Some, None};
+ghost use Rattle.std.specs.Prelude.{◌≡◌, ◌⊎◌, ◌+◌, ◌-◌, ◌<◌, ◌≤◌, ℕ, [], ◌∷◌, ◌++◌, length, take, IfOk, OnOk, OnErr, IfErr, IfSome, Some, None};
 ghost use Rattle.std.specs.Option.{option_copied};
 ghost use Rattle.stock_model.specs.Faults.{voucher_fault};
-ghost use Rattle.stock_model.specs.Entries.{entries, entries_of};
+ghost use Rattle.stock_model.specs.Entries.{entries, entries_of, is_live};
 ghost use Rattle.stock_model.specs.Freezing.{frozen};
 ghost use Rattle.stock_model.specs.Masters.{record_at};
 ghost use Rattle.voucher_kinds.specs.Heads.{made_fault, with_made};
+ghost use Rattle.voucher_kinds.specs.Journals.{is_later};
 
-use crate::{heads, live_records, returned_units};
+use crate::{heads, returned_units, takers};
 use item_master::master::Master;
 use std::alloc::Global;
 use std::marker::Model;
@@ -27,14 +28,14 @@ use stock_nums::moment::Moment;
 use stock_nums::numbers::{AccountNo, ItemNo, Qty, RecordNo, StoreNo};
 
 /// The accepted records in the order of their numbers, their items and warehouses, the units that they return, which of
-/// them are in force, and up to which moment they close the past, which are found without going over the records.
+/// them takes each one back, and up to which moment they close the past, which are found without going over the records.
 /// Contracts see it as the list of the records.
 #[derive(Drop)]
 pub struct Journal {
     records: Vec<Record>,
     master: Master,
     returned_units: LineSums,
-    live: Vec<bool>,
+    takers: Vec<Option<RecordNo>>,
     frozen: Option<Moment>,
 }
 
@@ -47,7 +48,7 @@ impl Model for Journal {
 
     ghost view = { λ journal. journal.records.items };
 
-    ghost invariant = { λ journal. IsJournal journal.records.items journal.master journal.returned_units journal.live.items journal.frozen };
+    ghost invariant = { λ journal. IsJournal journal.records.items journal.master journal.returned_units journal.takers.items journal.frozen };
 }
 
 impl Names for Journal {
@@ -72,7 +73,7 @@ impl Names for Journal {
 
 impl Returns for Journal {
     fn is_live(&self, number: RecordNo) -> bool {
-        live_records::noted(self.live.as_slice(), number)
+        takers::taker(self.takers.as_slice(), number).is_none()
     }
 
     fn returned(&self, target: Target) -> Qty {
@@ -93,7 +94,7 @@ impl Journal {
             records: Vec::new(alloc),
             master: Master::new(alloc),
             returned_units: LineSums::new(alloc),
-            live: Vec::new(alloc),
+            takers: Vec::new(alloc),
             frozen: None,
         }
     }
@@ -141,18 +142,18 @@ impl Journal {
         let number = self.next();
         let frozen = freezing::frozen_with(self.frozen, &item.what);
         returned_units::make_room(&mut self.returned_units, &item.what)?;
-        if self.live.push(true).is_err() {
+        if self.takers.push(None).is_err() {
             return Err(NoMemory);
         }
         if enter(&mut self.records, &mut self.master, number, item).is_err() {
-            self.live.truncate(number.0 as usize - 1);
+            self.takers.truncate(number.0 as usize - 1);
             return Err(NoMemory);
         }
         let records = self.records.as_slice();
         let last = &records[number.0 as usize - 1];
         returned_units::add_units(&mut self.returned_units, &last.what);
         returned_units::take_cancelled(&mut self.returned_units, records, &last.what);
-        live_records::note(self.live.as_mut_slice(), &last.what, false);
+        takers::note(self.takers.as_mut_slice(), &last.what, Some(number));
         self.frozen = frozen;
         Ok(number)
     }
@@ -167,8 +168,8 @@ impl Journal {
         let last = &records[index];
         returned_units::put_cancelled(&mut self.returned_units, records, &last.what);
         returned_units::take_units(&mut self.returned_units, &last.what);
-        live_records::note(self.live.as_mut_slice(), &last.what, true);
-        self.live.truncate(index);
+        takers::note(self.takers.as_mut_slice(), &last.what, None);
+        self.takers.truncate(index);
         heads::take_away(&mut self.master, heads::made_by(&last.what));
         self.frozen = freezing::frozen_without(self.frozen, &records[..index], &last.what);
         self.records.truncate(index);
@@ -189,6 +190,14 @@ impl Journal {
             return None;
         }
         self.records.as_slice().get(number.0 as usize - 1)
+    }
+
+    /// The record that takes back the one with this number. None exactly where none does. It looks at no record.
+    pub fn taken_back_by(&self, number: RecordNo) -> Option<RecordNo>
+        ensures in_force { (n : ℕ) → n ≤ length self.now → is_live (take n self.now) number.0 ≡ is_later n result }
+        ensures within { IfSome result (λ by. by.0 ≤ length self.now) }
+    {
+        takers::taker(self.takers.as_slice(), number)
     }
 
     /// Up to which moment, this one included, the records close the past. None exactly where none of them closes any.

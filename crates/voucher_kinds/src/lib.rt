@@ -7,6 +7,6 @@ pub use stock_model::vouchers::{ReceiptLine, What};
 
 mod heads;
 pub mod journal;
-mod live_records;
 mod returned_units;
 mod sending;
+mod takers;

@@ -1,5 +1,5 @@
 -- Where the records have no room, what was made in the master is taken away again.
-use Rattle.std.proofs.Common.{◌≡◌, Ok, Err, OnErr, sym, ap, ◌∙◌, subst, rules}
+use Rattle.std.proofs.Common.{◌≡◌, ap, ◌∙◌, rules}
 use Rattle.item_master.specs.State.{MasterState}
 use Rattle.voucher_kinds.specs.Heads.{with_made, without_last}
 use Rattle.voucher_kinds.specs.declared.heads.Made.{Made}

@@ -1,5 +1,5 @@
 -- What was counted so far, and what the lines to come return, is all.
-use Rattle.std.proofs.Common.{◌≡◌, ℕ, ◌+◌, true, drop}
+use Rattle.std.proofs.Common.{◌≡◌, ◌+◌, drop}
 use Rattle.stock_nums.specs.LineSums.{number_of}
 use Rattle.stock_nums.specs.declared.cause.Target.{Target}
 use Rattle.stock_model.specs.Returns.{units_named}

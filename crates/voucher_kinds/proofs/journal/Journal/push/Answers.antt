@@ -1,7 +1,6 @@
 -- The master has the new record's item or warehouse too, what it returns is counted, and what it takes back is counted no more.
-use Rattle.std.proofs.Common.{◌≡◌, ℕ, ◌+◌, ◌-◌, ◌∷◌, [], ◌++◌, ◌≤◌, List, length, take, drop, None, true, false, refl, ap, sym, ◌∙◌, subst, rules, arith, length-append}
+use Rattle.std.proofs.Common.{◌≡◌, ℕ, ◌+◌, ◌-◌, ◌∷◌, [], ◌++◌, List, length, take, drop, None, Some, refl, ap, sym, ◌∙◌, subst, rules, arith, length-append}
 use Rattle.std.proofs.Math.Seq.{take-append_seam}
-use Rattle.stock_nums.specs.LineSums.{number_of}
 use Rattle.stock_model.specs.declared.records.Record.{Record}
 use Rattle.stock_model.specs.Cancelling.{units_gone}
 use Rattle.stock_model.specs.Faults.{voucher_fault}
@@ -13,13 +12,13 @@ use Rattle.voucher_kinds.specs.Journals.{HasNote, noted_with}
 use Rattle.voucher_kinds.specs.ReturnedUnits.{has_room_at}
 use Rattle.voucher_kinds.proofs.At.{last-pushed, whole-of}
 use Rattle.voucher_kinds.proofs.Kept.{made-none, IsJournal-same, IsJournal-push, gone-append, units-fit, HasNote-held, HasRoom-push, HasRoom-kept}
-use Rattle.voucher_kinds.proofs.Live.{length-noted_with}
+use Rattle.voucher_kinds.proofs.Noted.{length-noted_with}
 use Rattle.voucher_kinds.proofs.journal.Journal.push.Goals as goal
 
 pub invariant_of-self : goal.invariant_of-self
 invariant_of-self c =
     IsJournal-same c.self.inside.records.items c.self.inside.records.items c.self.inside.master c.self.inside.master c.self.inside.returned_units c.make_room.new.sums
-    c.self.inside.live.items c.self.inside.live.items c.self.inside.frozen c.self.invariant refl refl c.make_room.ensures.same c.make_room.ensures.kept refl
+    c.self.inside.takers.items c.self.inside.takers.items c.self.inside.frozen c.self.invariant refl refl c.make_room.ensures.same c.make_room.ensures.kept refl
 
 pub enter-requires-clause-unmade : goal.enter-requires-clause-unmade
 enter-requires-clause-unmade c =
@@ -41,7 +40,7 @@ add_units-requires-clause-fits c target =
     let last : c.index-records-number.result ≡ c.args.item =
     last-pushed c.self.inside.records.items c.as_slice-records.result.now c.next-number.result.0 c.args.item c.index-records-number.result (c.as_slice-records.ensures.value ∙ grows) number c.index-records-number.is in
     let none : voucher_fault c.self.inside.records.items c.args.item.what ≡ None = rw c.self.view_is c.requires.sound in
-    let fit = units-fit c.self.inside.records.items c.self.inside.master c.self.inside.returned_units c.self.inside.live.items c.self.inside.frozen c.args.item target c.self.invariant none in
+    let fit = units-fit c.self.inside.records.items c.self.inside.master c.self.inside.returned_units c.self.inside.takers.items c.self.inside.frozen c.args.item target c.self.invariant none in
     omega (arith, c.make_room.ensures.same target, fit.0, ap (λ (r : Record). units_named (lines_of r.what) target) last)
 
 pub take_cancelled-requires : goal.take_cancelled-requires
@@ -53,7 +52,7 @@ take_cancelled-requires c target =
     let last : c.index-records-number.result ≡ c.args.item =
     last-pushed records c.as_slice-records.result.now c.next-number.result.0 c.args.item c.index-records-number.result shown number c.index-records-number.is in
     let none : voucher_fault records c.args.item.what ≡ None = rw c.self.view_is c.requires.sound in
-    let fit = units-fit records c.self.inside.master c.self.inside.returned_units c.self.inside.live.items c.self.inside.frozen c.args.item target c.self.invariant none in
+    let fit = units-fit records c.self.inside.master c.self.inside.returned_units c.self.inside.takers.items c.self.inside.frozen c.args.item target c.self.invariant none in
     omega (
       arith,
       c.make_room.ensures.same target,
@@ -71,35 +70,35 @@ note-requires c =
     let last : c.index-records-number.result ≡ c.args.item =
     last-pushed records c.as_slice-records.result.now c.next-number.result.0 c.args.item c.index-records-number.result (c.as_slice-records.ensures.value ∙ grows) number c.index-records-number.is in
     let none : voucher_fault records c.args.item.what ≡ None = rw c.self.view_is c.requires.sound in
-    let noted : c.push.new.self.items ≡ c.self.inside.live.items ++ true ∷ [] = search rules in
+    let noted : c.push.new.self.items ≡ c.self.inside.takers.items ++ None ∷ [] = search rules in
     subst (λ (r : Record). HasNote c.as_mut_slice.result.now r.what) (sym last)
     (HasNote-held records c.as_mut_slice.result.now c.args.item.what (NoFaults-from records c.args.item.what none)
-    (omega (arith, ap (λ bs. length bs) (c.as_mut_slice.ensures.value ∙ noted), c.self.invariant.notes, length-append c.self.inside.live.items (true ∷ []))))
+    (omega (arith, ap (λ bs. length bs) (c.as_mut_slice.ensures.value ∙ noted), c.self.invariant.takers_are.notes, length-append c.self.inside.takers.items (None ∷ []))))
 
 pub invariant_of-self-then-is_err : goal.invariant_of-self-then-is_err
 invariant_of-self-then-is_err c =
-    let unnoted : c.push.new.self.items ≡ c.self.inside.live.items = search rules in
+    let unnoted : c.push.new.self.items ≡ c.self.inside.takers.items = search rules in
     IsJournal-same c.self.inside.records.items c.self.inside.records.items c.self.inside.master c.self.inside.master c.self.inside.returned_units c.make_room.new.sums
-    c.self.inside.live.items c.push.new.self.items c.self.inside.frozen c.self.invariant refl refl c.make_room.ensures.same c.make_room.ensures.kept unnoted
+    c.self.inside.takers.items c.push.new.self.items c.self.inside.frozen c.self.invariant refl refl c.make_room.ensures.same c.make_room.ensures.kept unnoted
 
 pub invariant_of-self-then-is_err-2 : goal.invariant_of-self-then-is_err-2
 invariant_of-self-then-is_err-2 c =
     let records = c.self.inside.records.items in
-    let live = c.self.inside.live.items in
+    let takers = c.self.inside.takers.items in
     let number : c.next-number.result.0 ≡ length records + 1 = c.next-number.ensures ∙ ap (λ records. length records + 1) (sym c.self.view_is) in
     let stays : c.enter.new.records.items ≡ records = search rules in
     let unmade : c.enter.new.master ≡ c.self.inside.master = search rules in
-    let noted : c.push.new.self.items ≡ live ++ true ∷ [] = search rules in
-    let count : c.next-number.result.0 - 1 ≡ length live = omega (arith, number, c.self.invariant.notes) in
-    let unnoted : c.truncate.new.self.items ≡ live =
-    c.truncate.ensures.items ∙ ap (take (c.next-number.result.0 - 1)) noted ∙ ap (λ (k : ℕ). take k (live ++ true ∷ [])) count ∙ take-append_seam live (true ∷ []) in
+    let noted : c.push.new.self.items ≡ takers ++ None ∷ [] = search rules in
+    let count : c.next-number.result.0 - 1 ≡ length takers = omega (arith, number, c.self.invariant.takers_are.notes) in
+    let unnoted : c.truncate.new.self.items ≡ takers =
+    c.truncate.ensures.items ∙ ap (take (c.next-number.result.0 - 1)) noted ∙ ap (λ (k : ℕ). take k (takers ++ None ∷ [])) count ∙ take-append_seam takers (None ∷ []) in
     IsJournal-same records c.enter.new.records.items c.self.inside.master c.enter.new.master c.self.inside.returned_units c.make_room.new.sums
-    live c.truncate.new.self.items c.self.inside.frozen c.self.invariant stays unmade c.make_room.ensures.same c.make_room.ensures.kept unnoted
+    takers c.truncate.new.self.items c.self.inside.frozen c.self.invariant stays unmade c.make_room.ensures.same c.make_room.ensures.kept unnoted
 
 pub invariant_of-self-2 : goal.invariant_of-self-2
 invariant_of-self-2 c =
     let records = c.self.inside.records.items in
-    let live = c.self.inside.live.items in
+    let takers = c.self.inside.takers.items in
     let item = c.args.item in
     let number : c.next-number.result.0 ≡ length records + 1 = c.next-number.ensures ∙ ap (λ records. length records + 1) (sym c.self.view_is) in
     let grows : c.enter.new.records.items ≡ records ++ item ∷ [] = search rules in
@@ -108,15 +107,15 @@ invariant_of-self-2 c =
     let last : c.index-records-number.result ≡ item =
     last-pushed records c.as_slice-records.result.now c.next-number.result.0 item c.index-records-number.result shown number c.index-records-number.is in
     let none : voucher_fault records item.what ≡ None = rw c.self.view_is c.requires.sound in
-    let noted : c.push.new.self.items ≡ live ++ true ∷ [] = search rules in
+    let noted : c.push.new.self.items ≡ takers ++ None ∷ [] = search rules in
     let length_is : c.push.new.self.len ≡ length c.push.new.self.items = search rules in
-    let said : c.note.new.live ≡ noted_with (live ++ true ∷ []) item.what false =
-    c.note.ensures ∙ ap (λ (r : Record). noted_with c.as_mut_slice.result.now r.what false) last
-    ∙ ap (λ bs. noted_with bs item.what false) (c.as_mut_slice.ensures.value ∙ noted) in
-    let long : length c.note.new.live ≡ length c.push.new.self.items =
-    ap (λ bs. length bs) said ∙ length-noted_with (live ++ true ∷ []) item.what false ∙ sym (ap (λ bs. length bs) noted) in
-    IsJournal-push records c.enter.new.records.items c.self.inside.master c.enter.new.master c.self.inside.returned_units c.take_cancelled.new.sums live
-    (take c.push.new.self.len (c.note.new.live ++ drop (length c.note.new.live) c.push.new.self.items)) c.self.inside.frozen c.frozen_with-frozen.result item c.next-number.result.0
+    let said : c.note.new.takers ≡ noted_with (takers ++ None ∷ []) item.what (Some c.next-number.result) =
+    c.note.ensures ∙ ap (λ (r : Record). noted_with c.as_mut_slice.result.now r.what (Some c.next-number.result)) last
+    ∙ ap (λ bs. noted_with bs item.what (Some c.next-number.result)) (c.as_mut_slice.ensures.value ∙ noted) in
+    let long : length c.note.new.takers ≡ length c.push.new.self.items =
+    ap (λ bs. length bs) said ∙ length-noted_with (takers ++ None ∷ []) item.what (Some c.next-number.result) ∙ sym (ap (λ bs. length bs) noted) in
+    IsJournal-push records c.enter.new.records.items c.self.inside.master c.enter.new.master c.self.inside.returned_units c.take_cancelled.new.sums takers
+    (take c.push.new.self.len (c.note.new.takers ++ drop (length c.note.new.takers) c.push.new.self.items)) c.self.inside.frozen c.frozen_with-frozen.result item c.next-number.result
     c.self.invariant (rw c.self.view_is c.requires.room) number grows adds none
     (λ target.
     omega (
@@ -132,5 +131,5 @@ invariant_of-self-2 c =
     (HasRoom-kept (records ++ item ∷ []) c.make_room.new.sums c.take_cancelled.new.sums
     (λ target room. c.take_cancelled.ensures.kept target (c.add_units.ensures.kept target room))
     (HasRoom-push records item c.make_room.new.sums (HasRoom-kept records c.self.inside.returned_units c.make_room.new.sums c.make_room.ensures.kept c.self.invariant.room) c.in_ok-make_room.ensures.room))
-    (whole-of c.push.new.self.len c.note.new.live c.push.new.self.items long length_is ∙ said)
+    (whole-of c.push.new.self.len c.note.new.takers c.push.new.self.items long length_is ∙ said)
     c.frozen_with-frozen.ensures
