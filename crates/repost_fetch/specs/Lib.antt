@@ -1,3 +1,2 @@
-pub mod TakenBack
 pub mod Fetched
 pub mod Changes

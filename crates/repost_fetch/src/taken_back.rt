@@ -1,7 +1,6 @@
 //! Which records later ones take back.
-ghost use Rattle.std.specs.Prelude.{◌≡◌, ◌&&◌, ◌<◌, ◌≤◌, not, length, take, ℕ, IfSome};
+ghost use Rattle.std.specs.Prelude.{◌≡◌, ◌&&◌, ◌<◌, ◌≤◌, not, length, take};
 ghost use Rattle.stock_model.specs.Entries.{is_live};
-ghost use Rattle.repost_fetch.specs.TakenBack.{is_later};
 
 use stock_nums::numbers::RecordNo;
 use voucher_kinds::journal::Journal;
@@ -13,7 +12,7 @@ pub fn is_in_force(journal: &Journal, first: RecordNo, number: RecordNo) -> bool
     requires one { 0 < number.0 }
     ensures { result ≡ is_live (take first.0 journal.now) number.0 }
 {
-    match taken_back_by(journal, number) {
+    match journal.taken_back_by(number) {
         Some(by) => by.0 > first.0,
         None => true,
     }
@@ -25,17 +24,8 @@ pub(crate) fn is_taken(journal: &Journal, first: RecordNo, number: RecordNo) -> 
     requires one { 0 < number.0 }
     ensures { result ≡ (is_live (take first.0 journal.now) number.0 && not (is_live journal.now number.0)) }
 {
-    match taken_back_by(journal, number) {
+    match journal.taken_back_by(number) {
         Some(by) => by.0 > first.0,
         None => false,
     }
-}
-
-// The first later record that takes this one back. None exactly where none does: as yet no kind of record takes one back.
-fn taken_back_by(journal: &Journal, number: RecordNo) -> Option<RecordNo>
-    requires one { 0 < number.0 }
-    ensures in_force { (n : ℕ) → n ≤ length journal.now → is_live (take n journal.now) number.0 ≡ is_later n result }
-    ensures within { IfSome result (λ by. by.0 ≤ length journal.now) }
-{
-    None
 }
