@@ -1,15 +1,9 @@
 -- What an extension makes suspect: new movements, and what they touch.
-use Rattle.std.proofs.Common.{◌≡◌, ℕ, Bool, true, false, ◌||◌, List, [], ◌∷◌, ◌++◌, None, Contains, ◌⊎◌, inl, inr, refl, sym, ap, ◌∙◌, subst, arith}
+use Rattle.std.proofs.Common.{◌≡◌, Bool, true, ◌||◌, List, [], ◌∷◌, ◌++◌, None, Contains, ◌⊎◌, inl, inr, refl, sym, ap, ◌∙◌, subst, arith}
 use Rattle.std.proofs.lemmas.Bool.{or_cases, or_left, or_right}
-use Rattle.std.proofs.lemmas.List.Elements.{Contains-append_right}
-use Rattle.stock_nums.specs.declared.cause.Target.{Target}
 use Rattle.stock_nums.specs.declared.entry.Entry.{Entry}
 use Rattle.stock_nums.specs.declared.place.Place.{Place}
 use Rattle.stock_model.specs.InOrder.{IsInPostingOrder}
-use Rattle.stock_model.specs.Entries.{all_entries, entries_after}
-use Rattle.stock_model.specs.PostingOrder.{posting_line}
-use Rattle.stock_model.specs.declared.records.Record.{Record}
-use Rattle.stock_model.specs.Values.{own_line}
 use Rattle.stock_model.proofs.Pairwise.{Contains-cases, Contains-first, Contains-later}
 use Rattle.quantity_check.specs.OwnPlaces.{HaveOwnPlaces}
 use Rattle.quantity_check.proofs.OwnPlaceLemmas.{entry_at-next, HaveOwnPlaces-next}
@@ -18,10 +12,6 @@ use Rattle.repost_frontier.specs.Slots.{slot_at, new_slot}
 use Rattle.repost_frontier.specs.declared.slot.Slot.{Slot}
 use Rattle.repost_frontier.proofs.SlotOrder.{entries-put_slot}
 use Rattle.repost_frontier.proofs.SlotReadings.{suspect-put, suspects-put, found-put, revalued-put}
-use Rattle.repost_laws.specs.Fetches.{AreNew}
-use Rattle.repost_laws.specs.Touched.{is_new, is_touched, follows_any}
-use Rattle.repost_laws.specs.Valuations.{earlier}
-use Rattle.repost_laws.proofs.MoreRecords.{all_entries-more, in_line}
 use Rattle.repost_laws.proofs.Turns.{place-cases}
 use Rattle.repost_spread.specs.Adding.{put_new, put_all_new}
 use Rattle.repost_spread.specs.Marks.{AreMarked}

@@ -1,5 +1,5 @@
 -- What is charged to lines with further records of a sound journal: what they charge more, less what those charge that they take back.
-use Rattle.std.proofs.Common.{◌≡◌, ℕ, ◌+◌, ◌<◌, ◌≤◌, ◌^◌, Bool, true, false, cond, ◌&&◌, ◌||◌, not, nat_lt, List, [], ◌∷◌, ◌++◌, length, take, refl, sym, ap, ◌∙◌, subst, arith, append_assoc, length-append}
+use Rattle.std.proofs.Common.{◌≡◌, ℕ, ◌+◌, ◌<◌, ◌≤◌, Bool, true, false, cond, ◌&&◌, ◌||◌, not, nat_lt, List, [], ◌∷◌, ◌++◌, length, take, refl, sym, ap, ◌∙◌, arith, append_assoc, length-append}
 use Rattle.std.specs.List.{flat_map, enumerate_from, list_any}
 use Rattle.std.proofs.lemmas.Bool.{false≢true}
 use Rattle.std.proofs.lemmas.Bool.Decides.{nat_tests}
@@ -16,7 +16,7 @@ use Rattle.stock_laws.proofs.LiveLines.{is_live-longer}
 use Rattle.cost_links.specs.Charged.{charged_to}
 use Rattle.cost_links.proofs.ChargeSums.{charged_to-append}
 use Rattle.repost_fetch.specs.Fetched.{is_taken, taken_charge, uncharged_after}
-use Rattle.repost_laws.specs.Changes.{goes_with, recharges, is_recharged}
+use Rattle.repost_laws.specs.Changes.{recharges, is_recharged}
 use Rattle.repost_laws.specs.Fetches.{charges_after, is_charged_in}
 use Rattle.repost_laws.specs.Touched.{charges_to, is_charged_by}
 use Rattle.repost_laws.proofs.MoreCharges.{charged-longer, is_charged_by-more}

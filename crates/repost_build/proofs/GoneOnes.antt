@@ -1,21 +1,20 @@
 -- The movements that go with further records of a journal.
-use Rattle.std.proofs.Common.{◌≡◌, ◌↔◌, ℕ, ◌+◌, ◌<◌, ◌≤◌, Bool, true, false, cond, ◌&&◌, ◌||◌, not, nat_lt, List, [], ◌∷◌, ◌++◌, length, get_or, filter, fold, Contains, inl, inr, refl, sym, ap, ◌∙◌, subst, arith, length-append}
+use Rattle.std.proofs.Common.{◌≡◌, ℕ, ◌+◌, ◌<◌, ◌≤◌, Bool, true, false, cond, ◌&&◌, ◌||◌, not, nat_lt, List, [], ◌∷◌, ◌++◌, length, get_or, filter, Contains, inl, inr, refl, sym, ap, ◌∙◌, subst, arith, length-append}
 use Rattle.std.specs.List.{list_any}
-use Rattle.std.specs.List.Sorted.{IsNonDecreasingBy}
 use Rattle.std.proofs.lemmas.Bool.{false≢true, or_cases, or_left, or_right}
 use Rattle.std.proofs.lemmas.Bool.Decides.{nat_tests}
 use Rattle.std.proofs.lemmas.List.Elements.{filter_agree}
 use Rattle.stock_nums.specs.declared.entry.Entry.{Entry}
 use Rattle.stock_nums.specs.declared.place.Place.{Place}
 use Rattle.stock_model.specs.Entries.{entries, entries_after, is_live, is_live_entry, all_entries}
-use Rattle.stock_model.specs.PostingOrder.{put_all, posting_line}
+use Rattle.stock_model.specs.PostingOrder.{posting_line}
 use Rattle.stock_model.specs.declared.records.Record.{Record}
-use Rattle.stock_model.proofs.Pairwise.{Each, Precedes, Pairwise, Across, Pairwise-append, Precedes-from_Each, Across-from_Each, AllPairs-from_Pairwise, Contains-cases, Contains-first, Contains-later}
+use Rattle.stock_model.proofs.Pairwise.{Each, Precedes, Pairwise, Pairwise-append, Precedes-from_Each, Across-from_Each, AllPairs-from_Pairwise, Contains-cases, Contains-first, Contains-later}
 use Rattle.stock_laws.proofs.CostedRows.{both}
 use Rattle.stock_laws.proofs.Distinct.{Differ, entries_after-Pairwise}
 use Rattle.stock_laws.proofs.LiveEntries.{IsOfNumber, IsBetween, movements-number, entries_after-between, Pairwise-filter}
 use Rattle.key_order.proofs.SamePlaces.{is_same_place-true, is_same_place-refl}
-use Rattle.posting_order.specs.Timelines.{is_at, without}
+use Rattle.posting_order.specs.Timelines.{is_at}
 use Rattle.quantity_check.specs.OwnPlaces.{StandApart, HaveOwnPlaces}
 use Rattle.repost_fetch.specs.Fetched.{is_taken, going}
 use Rattle.repost_laws.specs.Changes.{goes_with, coming, both_lines}

@@ -1,23 +1,23 @@
 -- The spots of the first records' movements that go: those that went before, and those that go with further records.
-use Rattle.std.proofs.Common.{◌≡◌, ℕ, ◌+◌, ◌<◌, ◌≤◌, Bool, true, false, cond, ◌&&◌, not, List, [], ◌∷◌, ◌++◌, length, take, drop, map, filter, refl, sym, ap, ◌∙◌, subst, arith, length-append, length-take, Contains}
+use Rattle.std.proofs.Common.{◌≡◌, ℕ, ◌<◌, ◌≤◌, Bool, true, false, cond, ◌&&◌, not, List, [], ◌∷◌, ◌++◌, length, take, drop, map, filter, refl, sym, ap, ◌∙◌, subst, arith, length-take}
 use Rattle.std.specs.List.Sorted.{IsPermutation}
 use Rattle.std.proofs.lemmas.Bool.{false≢true}
 use Rattle.std.proofs.lemmas.Bool.Decides.{nat_tests}
 use Rattle.std.proofs.lemmas.List.{append-nil, map-append, take-append-drop, take-append-le, take_all}
-use Rattle.std.proofs.lemmas.List.Elements.{filter-append, filter_agree}
-use Rattle.std.proofs.lemmas.List.Sorted.{IsPermutation-refl, IsPermutation-sym, IsPermutation-trans, IsPermutation-append, IsPermutation-map, IsPermutation-filter_both}
+use Rattle.std.proofs.lemmas.List.Elements.{filter-append}
+use Rattle.std.proofs.lemmas.List.Sorted.{IsPermutation-sym, IsPermutation-trans, IsPermutation-append, IsPermutation-map, IsPermutation-filter_both}
 use Rattle.stock_nums.specs.declared.entry.Entry.{Entry}
 use Rattle.stock_nums.specs.declared.place.Spot.{Spot}
 use Rattle.stock_model.specs.Entries.{entries_after, is_live, is_live_entry, all_entries}
-use Rattle.stock_model.specs.PostingOrder.{put_all, posting_line}
+use Rattle.stock_model.specs.PostingOrder.{posting_line}
 use Rattle.stock_model.specs.declared.records.Record.{Record}
 use Rattle.stock_model.proofs.Growth.{entries_after-append}
-use Rattle.stock_model.proofs.Pairwise.{Each, Each-weaker}
+use Rattle.stock_model.proofs.Pairwise.{Each}
 use Rattle.stock_laws.proofs.Formulas.{put_all-Each}
 use Rattle.stock_laws.proofs.LiveEntries.{IsBetween, entries_after-between, filter-passes, filter-fails}
 use Rattle.stock_laws.proofs.LiveLines.{is_live-longer}
 use Rattle.stock_laws.proofs.PostingLine.{IsPermutation-posting_line}
-use Rattle.repost_fetch.specs.Changes.{goes_since, gone_spots, spot_of_entry}
+use Rattle.repost_fetch.specs.Changes.{gone_spots, spot_of_entry}
 use Rattle.repost_fetch.specs.Fetched.{is_taken, going}
 use Rattle.repost_laws.specs.Changes.{goes_with}
 use Rattle.repost_laws.specs.Touched.{is_old, is_gone}

@@ -15,7 +15,7 @@ use Rattle.repost_frontier.specs.Slots.{slot_at, slots_without, is_suspect, is_r
 use Rattle.repost_frontier.specs.declared.slot.Slot.{Slot}
 use Rattle.repost_frontier.proofs.SlotsLeft.{left-gone, left-others}
 use Rattle.repost_laws.specs.Builds.{Suspects, ValuedSince}
-use Rattle.repost_laws.specs.Valuations.{Found, Valued, nothing_found, worth_of, no_worth, valuation}
+use Rattle.repost_laws.specs.Valuations.{Found, Valued, worth_of, no_worth}
 use Rattle.repost_laws.specs.WholeBuilds.{worth_at, IsWorthInRange, IsBuildOf}
 use Rattle.repost_laws.proofs.ChangedLines.{valuation-alike}
 use Rattle.repost_laws.proofs.Turns.{place-cases}

@@ -1,5 +1,5 @@
 -- The first records and the further ones are all.
-use Rattle.std.proofs.Common.{◌≡◌, ◌+◌, ◌<◌, ◌≤◌, ◌||◌, Fits, w32, Contains, ℕ, List, ◌++◌, take, drop, length, map, filter, refl, sym, ap, ◌∙◌, subst, arith}
+use Rattle.std.proofs.Common.{◌≡◌, ◌+◌, ◌<◌, ◌≤◌, Fits, w32, Contains, ℕ, List, ◌++◌, take, drop, length, map, filter, refl, sym, ap, ◌∙◌, subst, arith}
 use Rattle.std.proofs.lemmas.List.{take-append-drop, length-drop}
 use Rattle.stock_nums.specs.declared.entry.Entry.{Entry}
 use Rattle.stock_nums.specs.declared.limits.TheConstants.{MAX_RECORDS}
