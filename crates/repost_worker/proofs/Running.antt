@@ -1,10 +1,11 @@
 -- Turns one after another, as a run makes them.
-use Rattle.std.proofs.Common.{◌≡◌, ℕ, ◌+◌, ◌-◌, ◌<◌, ◌≤◌, ◌≢◌, List, [], ◌∷◌, ◌++◌, length, sum_by, Option, Some, None, IfSome, inl, inr, refl, sym, ap, ◌∙◌, subst, length-append, arith}
+use Rattle.std.proofs.Common.{◌≡◌, ℕ, zero, suc, ◌+◌, ◌-◌, ◌<◌, ◌≤◌, ◌≢◌, List, [], ◌∷◌, ◌++◌, length, sum_by, Option, Some, None, IfSome, inl, inr, refl, sym, ap, ◌∙◌, subst, length-append, arith}
 use Rattle.std.specs.Option.{option_map}
 use Rattle.std.proofs.lemmas.List.Elements.{Contains-append_cases}
 use Rattle.std.proofs.lemmas.List.Sums.{sum_by-append}
 use Rattle.stock_model.proofs.Pairwise.{Contains-cases}
 use Rattle.stock_model.specs.declared.deeds.Deed.{Deed}
+use Rattle.stock_keeper.specs.declared.fault.KeepFault.{KeepFault}
 use Rattle.repost_build.specs.Readings.{IsUnchanged}
 use Rattle.repost_build.specs.declared.build.Build.{Build}
 use Rattle.repost_worker.specs.Turns.{IsTurnTo, valuations}
@@ -20,7 +21,7 @@ AreLeft (Some limit) (Some left) made = left + made ≡ limit
 
 -- a build is as it is
 unchanged : (build : Build) → IsUnchanged build build
-unchanged build = record { slots = refl; charged = λ line. refl; base = refl; target = refl; fetches = refl; turns = refl }
+unchanged build = record { slots = refl; charged = λ line. refl; base = refl; target = refl; gone = refl; fetches = refl; turns = refl }
 
 -- these many turns were made, each of which did something
 pub record AreMade (limit left : Option ℕ) (history : List Deed) (build : Build) (steps : ℕ) (history' : List Deed)
@@ -68,6 +69,22 @@ at_most-less : (limit : Option ℕ) (made : ℕ) → IfSome limit (λ n. made < 
 at_most-less None made more = tt
 at_most-less (Some limit) made more = omega arith
 
+at_most-more : (limit : Option ℕ) (made : ℕ) → IfSome limit (λ n. made < n) → IfSome limit (λ n. made ≤ n)
+at_most-more None made more = tt
+at_most-more (Some limit) made more = omega arith
+
+-- where none are left, so many were made as may be
+full-is : (limit left : Option ℕ) (made : ℕ) → AreLeft limit left made → (IfSome left (λ n. 0 < n) → ⊥) → limit ≡ Some made
+full-is None left made is none = absurd (none (subst (λ (l : Option ℕ). IfSome l (λ n. 0 < n)) (sym is) tt))
+full-is (Some limit) None made is none = absurd is
+full-is (Some limit) (Some zero) made is none = ap Some (omega (arith, is))
+full-is (Some limit) (Some (suc left)) made is none = absurd (none (omega arith))
+
+full-within : (limit left : Option ℕ) (made : ℕ) → AreLeft limit left made → (IfSome left (λ n. 0 < n) → ⊥)
+    → IfSome limit (λ n. made ≤ n)
+full-within limit left made is none =
+    subst (λ (l : Option ℕ). IfSome l (λ n. made ≤ n)) (sym (full-is limit left made is none)) (omega arith)
+
 module _ (limit left : Option ℕ) (history : List Deed) (build : Build) (steps : ℕ) (mid : List Deed) (then : Build) (made_steps : ℕ)
     (made : AreMade limit left history build steps mid then made_steps) where
   -- after one more that did something
@@ -96,4 +113,30 @@ module _ (limit left : Option ℕ) (history : List Deed) (build : Build) (steps 
     within = subst (λ (n : ℕ). IfSome limit (λ most. n ≤ most)) (sym (length-append made.turns (Idle ∷ [])))
         (at_most-less limit (length made.turns) (left-within limit left (length made.turns) made.more more));
     ended = inl (record { before = made.turns; last = refl; at_work = made.at_work });
+  }
+
+  -- the run that ends as one more turn is refused, which changes nothing
+  pub run-refused : (refusal : KeepFault) (history' : List Deed) (build' : Build) (steps' : ℕ) → IfSome left (λ n. 0 < n)
+      → history' ≡ mid → IsUnchanged then build' → steps' ≡ made_steps
+      → IsRun limit (Some refusal) history build steps history' build' steps'
+  run-refused refusal history' build' steps' more stays rest none_valued = record {
+    turns = made.turns;
+    last = then;
+    run = subst (λ (h : List Deed). AreTurnsTo made.turns history build h then) (sym stays) made.run;
+    rest = rest;
+    valued = none_valued ∙ made.valued;
+    within = at_most-more limit (length made.turns) (left-within limit left (length made.turns) made.more more);
+    ended = record { more = left-within limit left (length made.turns) made.more more; at_work = made.at_work };
+  }
+
+  -- the run that ends as no more turns may be made
+  pub run-full : (IfSome left (λ n. 0 < n) → ⊥) → IsRun limit None history build steps mid then made_steps
+  run-full none = record {
+    turns = made.turns;
+    last = then;
+    run = made.run;
+    rest = unchanged then;
+    valued = made.valued;
+    within = full-within limit left (length made.turns) made.more none;
+    ended = inr (record { full = full-is limit left (length made.turns) made.more none; at_work = made.at_work });
   }

@@ -1,9 +1,10 @@
 -- The turn that was made last is one more, or nothing was left to do.
 use Rattle.std.proofs.Common.{◌≡◌, ◌+◌, ℕ, Option, sym, ◌∙◌, subst}
 use Rattle.std.proofs.lemmas.Bool.{false≢true}
+use Rattle.std.proofs.lemmas.Result.{err_from_is_err_and}
 use Rattle.repost_worker.specs.Turns.{IsTurnTo, valuations}
 use Rattle.repost_worker.specs.declared.turn.Turned.{Turned}
-use Rattle.repost_worker.proofs.Running.{AreMade, made-more, run-idle}
+use Rattle.repost_worker.proofs.Running.{AreMade, made-more, run-idle, run-refused, run-full}
 use Rattle.repost_worker.proofs.Working.{publishes-more}
 use Rattle.repost_worker.proofs.TurnsAhead.{between-work, turns_ahead-less}
 use Rattle.repost_worker.proofs.run.make_turns.Goals as goal
@@ -51,3 +52,19 @@ returns-then-is_idle-clause-publishes g c =
     publishes-more c.args.book.now.history c.args.book.now.keeper before.book.history before.book.keeper before.invariant.publishes
     after.book.history after.book.keeper before.build after.build c.in_ok-turn_on.field-0 c.in_ok-turn_on.ensures.turn
     c.in_ok-turn_on.ensures.done
+
+pub returns-in_err-turn_on-clause-run : goal.returns-in_err-turn_on-clause-run
+returns-in_err-turn_on-clause-run g c =
+    let before = c.loop-alloc in
+    let after = c.turn_on.new in
+    let told = err_from_is_err_and c.from_residual.result c.from_residual.ensures.1 in
+    rw told.1
+    (run-refused c.args.limit before.left c.args.book.now.history c.args.build.now c.args.steps.now before.book.history before.build before.steps
+    before.invariant.made told.0 after.book.history after.build after.steps (c.is_one_left.ensures.0 c.loop-alloc-test.true)
+    c.in_err-turn_on.ensures.book_stays c.in_err-turn_on.ensures.build_stays c.in_err-turn_on.ensures.no_steps)
+
+pub returns-clause-run : goal.returns-clause-run
+returns-clause-run g c =
+    let before = c.loop-alloc in
+    run-full c.args.limit before.left c.args.book.now.history c.args.build.now c.args.steps.now before.book.history before.build before.steps
+    before.invariant.made (λ more. false≢true (sym c.loop-alloc-test.false ∙ c.is_one_left.ensures.1 more))
