@@ -1,5 +1,5 @@
 -- Where each row is told as changed, no other row has to be as it was, and what is fetched as gone is what goes.
-use Rattle.std.proofs.Common.{◌≡◌, ℕ, ◌≤◌, true, List, [], ◌∷◌, ◌++◌, length, length-take, map, filter, take, drop, refl, sym, ap, ◌∙◌, subst, arith}
+use Rattle.std.proofs.Common.{◌≡◌, ℕ, ◌≤◌, true, List, [], ◌∷◌, length, length-take, map, filter, take, drop, refl, sym, ap, ◌∙◌, subst, arith}
 use Rattle.std.specs.List.Sorted.{IsPermutation}
 use Rattle.std.proofs.lemmas.List.Sorted.{IsPermutation-refl}
 use Rattle.std.proofs.lemmas.List.{take_all, take-append-drop}
@@ -60,4 +60,17 @@ AreChanges-all journal n changed spots within is told =
     }
 
 pub publish-requires-clause-changed : goal.publish-requires-clause-changed
-publish-requires-clause-changed c = ?
+publish-requires-clause-changed c =
+    let told = c.args.book.now.history in
+    let journal : List Record = history.records told in
+    let accepted = c.accepted-accepted.result.0 in
+    let covered = c.covered-covered.result.0 in
+    let rows = c.as_slice-2.result.now in
+    let spots = c.as_slice-3.result.now in
+    let count : accepted ≡ length journal = c.accepted-accepted.ensures.accepted in
+    let all : take accepted journal ≡ journal = take_all accepted journal (omega (arith, count)) in
+    let gone : spots ≡ map spot_of_entry (going (take covered journal) (drop covered journal)) =
+    c.as_slice-3.ensures ∙ c.in_ok-gone.ensures ∙ ap (map spot_of_entry) (c.as_slice.ensures ∙ c.in_ok-fetched.ensures.gone) in
+    let are = AreChanges-all journal covered rows spots (omega (arith, count, c.if-covered-accepted.false)) (c.as_slice-2.ensures ∙ c.in_ok-rows.ensures) gone in
+    subst (λ (first : List Record). AreChanges first (history.covered told) rows spots) (sym all)
+    (subst (λ (n : ℕ). AreChanges journal n rows spots) c.covered-covered.ensures.covered are)
