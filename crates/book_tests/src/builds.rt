@@ -151,7 +151,7 @@ fn post<K: Keeper, P: Keeper>(
 
 /// How many movements the records after the first ones make; 0 where memory is wanting.
 fn made<K: Keeper>(alloc: Global, book: &Book<K>, after: RecordNo) -> u64 {
-    if after > book.accepted() {
+    if after.0 > book.accepted().0 {
         return 0;
     }
     match book.fetch(alloc, after) {
