@@ -66,6 +66,7 @@ unchanged-through old mid new one other = record {
   charged = λ line. other.charged line ∙ one.charged line;
   base = other.base ∙ one.base;
   target = other.target ∙ one.target;
+  gone = other.gone ∙ one.gone;
   fetches = other.fetches ∙ one.fetches;
   turns = other.turns ∙ one.turns;
 }
