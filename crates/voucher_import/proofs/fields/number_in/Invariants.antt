@@ -1,0 +1,13 @@
+-- The bytes so far are digits, and the number is what they tell.
+use Rattle.std.proofs.Common.{◌≡◌, ◌<◌, ◌^◌, take, true}
+use Rattle.std.specs.Char.{is_ascii_digit}
+use Rattle.std.specs.List.{list_all}
+use Rattle.std.specs.Str.Parse.{digits_value}
+use Rattle.voucher_import.proofs.fields.number_in.Given as goal
+
+abbrev pub invariant-loop-digit : goal.invariant-loop-digit
+invariant-loop-digit l = record {
+  short : l.number < 10 ^ l.digit-index;
+  digits : list_all is_ascii_digit (take l.digit-index l.text) ≡ true;
+  number : l.number ≡ digits_value 10 (take l.digit-index l.text);
+}
