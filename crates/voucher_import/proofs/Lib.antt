@@ -1,1 +1,6 @@
 mod Columns
+mod Faults
+mod PlacedRows
+mod TextRecords
+mod RunRows
+mod CountKeys

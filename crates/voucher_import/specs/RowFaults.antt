@@ -87,7 +87,7 @@ abbrev pub line_fields : List SheetField
 line_fields = Item ∷ Store ∷ To ∷ Qty ∷ Amount ∷ []
 
 -- what may be wrong with a row, in the order in which it is told
-abbrev pub all_fields : List SheetField
+unfoldable pub all_fields : List SheetField
 all_fields = Length ∷ Group ∷ Do ∷ At ∷ Item ∷ Store ∷ To ∷ Qty ∷ Amount ∷ Repeat ∷ Many ∷ []
 
 -- what is wrong first with a row, where the voucher has these lines before it

@@ -2,6 +2,7 @@
 ghost use Rattle.std.specs.Prelude.{◌≡◌, ◌↔◌, Bool, true, false, List, Some, IsTrue};
 ghost use Rattle.std.specs.List.{AllZip, list_any};
 ghost use Rattle.csv.specs.Records.{fields_of};
+ghost use Rattle.voucher_import.specs.CountKeys.{has_same_key};
 ghost use Rattle.voucher_import.specs.Kinds.{kind_of, is_receipt, is_issue, is_transfer, is_count};
 ghost use Rattle.voucher_import.specs.Reading.{Checks};
 ghost use Rattle.voucher_import.specs.RowFaults.{has_same_place, line_fields};
@@ -128,8 +129,15 @@ impl RowLine for CountLine {
     }
 
     fn repeats(&self, before: &[CountLine]) -> bool {
-        before
-            .iter()
-            .any(|line| line.item == self.item && line.store == self.store)
+        has_key_of(before, self)
     }
+}
+
+/// Whether one of the lines is of the item and the warehouse of this one.
+fn has_key_of(lines: &[CountLine], this: &CountLine) -> bool
+    ensures { result ≡ list_any (has_same_key this.now) lines.now }
+{
+    lines
+        .iter()
+        .any(|line| this.item == line.item && this.store == line.store)
 }
