@@ -116,7 +116,7 @@ count_only kind.Used e = absurd (false≢true e)
 count_only kind.Transfer e = absurd (false≢true e)
 count_only kind.Count e = refl
 
-not_true : (b : Bool) → ¬ (b ≡ true) → b ≡ false
+pub not_true : (b : Bool) → ¬ (b ≡ true) → b ≡ false
 not_true true h = absurd (h refl)
 not_true false h = refl
 

@@ -4,3 +4,4 @@ mod PlacedRows
 mod TextRecords
 mod RunRows
 mod CountKeys
+mod OpenSheets

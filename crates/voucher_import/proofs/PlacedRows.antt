@@ -5,10 +5,15 @@ use Rattle.csv.specs.Records.{fields_of}
 use Rattle.csv.specs.Records.{Row as ByteRow}
 use Rattle.voucher_import.specs.Kinds.{kind_of}
 use Rattle.voucher_import.specs.Reading.{IsBegun, rows_in}
-use Rattle.voucher_import.specs.Rows.{Row, do_of}
+use Rattle.stock_nums.specs.MomentText.{SpellsMoment}
+use Rattle.stock_nums.specs.declared.moment.Moment.{Moment}
+use Rattle.voucher_import.specs.Rows.{Row, at_of, do_of}
+use Rattle.voucher_import.specs.SheetVouchers.{IsDated}
+use Rattle.voucher_import.specs.Sheets.{IsBadAt}
+use Rattle.voucher_import.specs.declared.sheet.SheetField.{SheetField}
 use Rattle.voucher_import.specs.RowFaults.{AreOfGroup, FirstWrong, IsWrong, start_fields}
 use Rattle.voucher_import.specs.declared.kinds.SheetKind.{SheetKind}
-use Rattle.voucher_import.proofs.Faults.{starts_right}
+use Rattle.voucher_import.proofs.Faults.{starts_right, tells_start}
 
 -- the row at a place is the fields of the record there
 pub row_at : (records : List ByteRow) (place : ℕ) (x : ByteRow) → place < length records → x ≡ get_or records place x → get_or (rows_in records) place [] ≡ fields_of x
@@ -43,4 +48,22 @@ of_begun has_kind records place x first within is is_first begun whole group =
     record {
       start = starts_right (take place (rows_in records)) (fields_of first) (fields_of x) begun.of_kind begun.moment (head_at records place x first within is is_first) whole group word (rw start at begun.dated.at);
       word = rw (group.same_do) word;
+    }
+
+-- the kind and the moment of a voucher are those of its first row
+pub dated_by : (records : List ByteRow) (first : ByteRow) (of_kind : SheetKind) (moment : Moment) → 0 < length records → first ≡ get_or records 0 first
+    → kind_of (do_of (fields_of first)) ≡ Some of_kind → SpellsMoment (at_of (fields_of first)) moment → IsDated (rows_in records) of_kind moment
+dated_by records first of_kind moment within is word at =
+    let start = row_at records 0 first within is in
+    record { word = rw start word; at = rw start at }
+
+-- what is wrong with the first row of a voucher
+pub bad_start : (records : List ByteRow) (first : ByteRow) (field : SheetField) → 0 < length records → first ≡ get_or records 0 first
+    → FirstWrong (IsWrong [] (fields_of first)) start_fields (Some field) → IsBadAt (rows_in records) 0 field
+bad_start records first field within is wrong =
+    let size : length (rows_in records) ≡ length records = length-map records fields_of in
+    record {
+      within = omega (arith, size);
+      right = λ place below. absurd (omega (arith, below));
+      wrong = rw (row_at records 0 first within is) (tells_start [] (fields_of first) field wrong);
     }

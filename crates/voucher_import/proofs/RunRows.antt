@@ -1,5 +1,5 @@
 -- The first run of rows, where it is known which rows are of its voucher.
-use Rattle.std.proofs.Common.{◌≡◌, ◌≢◌, ◌++◌, ℕ, Bool, true, false, List, [], ◌∷◌, refl, sym, ap, ◌∙◌}
+use Rattle.std.proofs.Common.{◌≡◌, ◌≢◌, ◌<◌, ◌++◌, ℕ, Bool, true, false, List, [], ◌∷◌, length, refl, sym, ap, ◌∙◌, arith}
 use Rattle.std.specs.Prelude.{All, if◌then◌else◌}
 use Rattle.std.proofs.lemmas.List.Elements.{All-head, All-tail}
 use Rattle.std.proofs.lemmas.Slice.Eq.{bytes_eq-Decides}
@@ -55,3 +55,8 @@ first_run name row (second ∷ run) rest one next =
     let same = All-head (λ r. voucher_of r ≡ name) row (second ∷ run) one ∙ sym (All-head (λ r. voucher_of r ≡ name) second run others) in
     let tail = first_run name second run rest others (of_next_rest row (second ∷ run) rest next) in
     ap (with_row row) tail ∙ joins row second run (runs_of rest) same
+
+-- the same of any rows of one voucher
+pub first_run_of : (name : List ℕ) (run rest : List Row) → 0 < length run → All (λ r. voucher_of r ≡ name) run → IsOfNext run rest → runs_of (run ++ rest) ≡ run ∷ runs_of rest
+first_run_of name [] rest some one next = absurd (omega arith)
+first_run_of name (row ∷ run) rest some one next = first_run name row run rest one next
