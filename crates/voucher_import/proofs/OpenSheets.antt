@@ -12,7 +12,7 @@ use Rattle.voucher_import.specs.Reading.{IsOfNext, IsOpen, ReadsRows, Steps, row
 use Rattle.voucher_import.specs.Rows.{Row, voucher_of}
 use Rattle.voucher_import.specs.Runs.{runs_of}
 use Rattle.voucher_import.specs.SheetVouchers.{IsVoucher, IsWithinLimits}
-use Rattle.voucher_import.specs.Sheets.{AreRight, AreVouchers}
+use Rattle.voucher_import.specs.Sheets.{AreRight, AreVouchers, HasRows, IsSheet}
 use Rattle.voucher_import.specs.declared.open_sheet.OpenSheet.{OpenSheet}
 use Rattle.voucher_import.specs.declared.sheet.SheetFault.{SheetFault}
 use Rattle.voucher_import.specs.declared.sheet.SheetFault.TheVariants.{BadHead, BadRow, NoMemory}
@@ -111,3 +111,10 @@ finishes rows sheet is_open empty =
     let here : runs_of rows ≡ is_open.closed ++ [] = rw empty at is_open.are in
     let all : runs_of rows ≡ is_open.closed = here ∙ append-nil is_open.closed in
     record { right = rw all is_open.right; each = rw all is_open.each }
+
+-- what comes of the rows under the head is what comes of the sheet
+pub of_rows : (whole rows : List Row) → HasRows whole rows → (end : Result (List SheetVoucher) SheetFault) → Steps rows (AreVouchers rows) end → IsSheet whole end
+of_rows whole rows has (Ok vouchers) step = (rows, has, step)
+of_rows whole rows has (Err BadHead) step = absurd step
+of_rows whole rows has (Err (BadRow number field)) step = (rows, has, step)
+of_rows whole rows has (Err NoMemory) step = tt

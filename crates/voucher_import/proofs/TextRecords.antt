@@ -1,9 +1,10 @@
 -- The records that are left of a text, and a reader that gives them one after another.
-use Rattle.std.proofs.Common.{Bor, ◌≡◌, ◌≤◌, ◌<◌, ◌+◌, ◌++◌, ◌||◌, ◌==◌, ℕ, zero, suc, Bool, true, false, List, [], ◌∷◌, length, Option, Some, None, refl, sym, ap, subst, ◌∙◌, arith, add-one}
+use Rattle.std.proofs.Common.{Bor, ◌≡◌, ◌≤◌, ◌<◌, ◌+◌, ◌++◌, ◌||◌, ◌==◌, ℕ, zero, suc, Bool, true, false, List, [], ◌∷◌, length, Option, Some, None, inr, refl, sym, ap, subst, ◌∙◌, arith, add-one}
 use Rattle.std.specs.Prelude.{if◌then◌else◌}
 use Rattle.std.proofs.lemmas.Bool.{false≢true}
 use Rattle.csv.specs.Machine.{Read, after_end, ends_at_end, ends_with, field_after, fields_after, in_field, is_end, next_record, start_field, start_record, step}
-use Rattle.csv.specs.Reading.{Reached, ReadRecord, Ready, default_config, is_bom, reader_config, reader_state, reader_trim, records, records_from, records_next, source_of, strip_bom}
+use Rattle.csv.specs.Reading.{Reached, ReadRecord, Ready, builder_config, builder_names_headers, builder_trim, default_config, is_bom, names_headers, reader_config, reader_headers, reader_state, reader_trim, records_from, records_next, source_of, strip_bom, with_flexible, with_names_headers}
+use Rattle.csv.specs.declared.reader.ReaderBuilder.{ReaderBuilder}
 use Rattle.csv.specs.declared.parser.Action.{Action}
 use Rattle.csv.specs.declared.parser.Action.TheVariants as act
 use Rattle.csv.specs.declared.parser.State.{State}
@@ -199,3 +200,18 @@ gives_next old new rows fields gives read ready =
 pub gives_none : (old new : Reader (Bor (List ℕ))) (rows : List Row) → Gives old rows → ReadRecord (λ s. Some s.now) old new false [] → rows ≡ []
 gives_none old new rows gives read =
     gives.are ∙ left_none (reader_state old) gives.source (rows-end (λ (s : Bor (List ℕ)). Some s.now) old new [] default_config gives.source gives.config gives.known read)
+
+-- a new reader of a text, with no head of its own, gives all of its records
+pub opens : (built set : ReaderBuilder) (rdr : Reader (Bor (List ℕ))) (text : List ℕ) → builder_config built ≡ default_config → builder_trim built ≡ trim.None
+    → set ≡ with_flexible (with_names_headers built false) true → reader_config rdr ≡ builder_config set → names_headers rdr ≡ builder_names_headers set
+    → reader_trim rdr ≡ builder_trim set → reader_headers rdr ≡ None → reader_state rdr ≡ st.StartRecord → source_of (λ s. Some s.now) rdr ≡ Some (strip_bom text)
+    → Gives rdr (rows_of text)
+opens built set rdr text plain untrimmed is_set config named trims headers state known = record {
+  trims = (rw is_set at trims) ∙ untrimmed;
+  ready = inr (inr (rw is_set at named, headers));
+  config = (rw is_set at config) ∙ plain;
+  source = strip_bom text;
+  known = known;
+  fresh = rw state refl;
+  are = rw state refl;
+}

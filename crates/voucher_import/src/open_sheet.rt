@@ -27,7 +27,7 @@ pub(crate) struct OpenSheet {
 impl OpenSheet {
     /// A sheet of which the head is read.
     pub(crate) fn new(alloc: Global) -> OpenSheet
-        ensures open { (rows : List Row) → IsOpen rows rows result }
+        ensures begun { (rows : List Row) → IsOpen rows rows result }
         ensures before { result.before ≡ 1 }
         ensures run { result.run.items ≡ [] }
     {

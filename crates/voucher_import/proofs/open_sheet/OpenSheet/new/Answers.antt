@@ -7,8 +7,8 @@ use Rattle.voucher_import.specs.SheetVouchers.{IsWithinLimits}
 use Rattle.voucher_import.specs.Sheets.{AreRight}
 use Rattle.voucher_import.proofs.open_sheet.OpenSheet.new.Goals as goal
 
-pub returns-clause-open : goal.returns-clause-open
-returns-clause-open c rows = record {
+pub returns-clause-begun : goal.returns-clause-begun
+returns-clause-begun c rows = record {
   closed = [];
   are = rw c.new-2.ensures.items refl;
   right = All-nil AreRight;
