@@ -1,5 +1,5 @@
 -- The fields of a row by their columns.
-use Rattle.std.proofs.Common.{◌≡◌, ℕ, zero, suc, List, [], ◌∷◌, get_or, length, Some, None, Option, refl, arith}
+use Rattle.std.proofs.Common.{◌≡◌, ℕ, zero, suc, List, [], ◌∷◌, get_or, length, Some, None, refl, arith}
 use Rattle.csv.specs.Records.{field_at}
 use Rattle.voucher_import.specs.Rows.{Row}
 

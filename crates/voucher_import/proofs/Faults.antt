@@ -1,14 +1,13 @@
 -- What is wrong first with a row, part by part of the fields in their order.
-use Rattle.std.proofs.Common.{◌≡◌, ◌≢◌, ◌≤◌, ◌<◌, ◌++◌, ℕ, zero, suc, Bool, true, false, List, [], ◌∷◌, get_or, length, take, Option, Some, None, inl, inr, refl, sym, ap, subst, ◌∙◌, arith}
-use Rattle.std.specs.Prelude.{IsUtf8, bytes_eq, Result, Ok, Err}
-use Rattle.std.specs.List.{AllZip, list_any}
+use Rattle.std.proofs.Common.{◌≡◌, ◌≢◌, ◌++◌, ℕ, Bool, true, false, List, [], ◌∷◌, get_or, length, Option, Some, None, inl, inr, refl, sym, ap, ◌∙◌}
+use Rattle.std.specs.Prelude.{IsUtf8, bytes_eq, Err}
 use Rattle.std.proofs.lemmas.Bool.{false≢true}
 use Rattle.std.proofs.lemmas.Slice.Eq.{bytes_eq-Decides}
 use Rattle.stock_nums.specs.MomentText.{SpellsMoment}
 use Rattle.stock_nums.specs.declared.moment.Moment.{Moment}
 use Rattle.voucher_import.specs.Kinds.{kind_of}
 use Rattle.voucher_import.specs.Rows.{Row, do_of, at_of, item_of, store_of, to_of, qty_of, amount_of}
-use Rattle.voucher_import.specs.RowFaults.{AreOfGroup, FirstWrong, IsPrice, IsTo, IsWrong, OfKind, RowFault, all_fields, has_same_place, is_number, least_qty, line_fields, start_fields}
+use Rattle.voucher_import.specs.RowFaults.{AreOfGroup, FirstWrong, IsPrice, IsWrong, OfKind, RowFault, all_fields, is_number, least_qty, line_fields, start_fields}
 use Rattle.voucher_import.specs.declared.kinds.SheetKind.{SheetKind}
 use Rattle.voucher_import.specs.declared.kinds.SheetKind.TheVariants as kind
 use Rattle.voucher_import.specs.declared.sheet.SheetField.{SheetField}
@@ -16,7 +15,7 @@ use Rattle.voucher_import.specs.declared.sheet.SheetField.TheVariants.{Length, G
 use Rattle.voucher_import.specs.Reading.{Checks, Reads}
 use Rattle.voucher_import.specs.declared.fields.RowFault.{RowFault as Fault}
 use Rattle.voucher_import.specs.declared.fields.RowFault.TheVariants.{Wrong, NoMemory}
-use Rattle.stock_nums.specs.declared.limits.TheConstants.{MAX_LINES, MAX_QUANTITY}
+use Rattle.stock_nums.specs.declared.limits.TheConstants.{MAX_QUANTITY}
 use Rattle.voucher_import.specs.Kinds.{is_count, is_transfer}
 
 -- what is wrong among the first fields is wrong first of all

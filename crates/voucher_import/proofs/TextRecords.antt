@@ -1,5 +1,5 @@
 -- The records that are left of a text, and a reader that gives them one after another.
-use Rattle.std.proofs.Common.{Bor, ◌≡◌, ◌≤◌, ◌<◌, ◌+◌, ◌++◌, ◌||◌, ◌==◌, ℕ, zero, suc, Bool, true, false, List, [], ◌∷◌, length, Option, Some, None, inr, refl, sym, ap, subst, ◌∙◌, arith, add-one}
+use Rattle.std.proofs.Common.{Bor, ◌≡◌, ◌≤◌, ◌<◌, ◌+◌, ◌++◌, ◌==◌, ℕ, zero, suc, Bool, true, false, List, [], ◌∷◌, length, Option, Some, None, inr, refl, sym, ap, subst, ◌∙◌, arith, add-one}
 use Rattle.std.specs.Prelude.{if◌then◌else◌}
 use Rattle.std.proofs.lemmas.Bool.{false≢true}
 use Rattle.csv.specs.Machine.{Read, after_end, ends_at_end, ends_with, field_after, fields_after, in_field, is_end, next_record, start_field, start_record, step}
@@ -70,7 +70,7 @@ next_ends s fields field (c ∷ rest) q e = go (is_end (step default_config s c)
   where
     go : (b : Bool) → is_end (step default_config s c).1 ≡ b
         → (if is_end (step default_config s c).1 then Some (fields_after (step default_config s c).1 fields field, (step default_config s c).0, rest)
-          else next_record default_config (step default_config s c).0 (fields_after (step default_config s c).1 fields field) (field_after (step default_config s c).1 c field) rest) ≡ Some q
+        else next_record default_config (step default_config s c).0 (fields_after (step default_config s c).1 fields field) (field_after (step default_config s c).1 c field) rest) ≡ Some q
         → (next_record default_config (step default_config s c).0 (fields_after (step default_config s c).1 fields field) (field_after (step default_config s c).1 c field) rest ≡ Some q → Ends (length rest) q)
         → Ends (suc (length rest)) q
     go true t h more =
@@ -88,7 +88,7 @@ next_takes s (c ∷ rest) q f e = go (is_end (step default_config s c).1) refl e
   where
     go : (b : Bool) → is_end (step default_config s c).1 ≡ b
         → (if is_end (step default_config s c).1 then Some (fields_after (step default_config s c).1 [] [], (step default_config s c).0, rest)
-          else next_record default_config (step default_config s c).0 (fields_after (step default_config s c).1 [] []) (field_after (step default_config s c).1 c []) rest) ≡ Some q
+        else next_record default_config (step default_config s c).0 (fields_after (step default_config s c).1 [] []) (field_after (step default_config s c).1 c []) rest) ≡ Some q
         → (length q.2 < suc (length rest)) × IsFresh q.1
     go true t h =
         let same : (fields_after (step default_config s c).1 [] [], (step default_config s c).0, rest) ≡ q = cc (rw t at h) in
@@ -185,16 +185,19 @@ pub gives_next : (old new : Reader (Bor (List ℕ))) (rows : List Row) (fields :
 unfolding Reached
 gives_next old new rows fields gives read ready =
     let m = rows-more (λ (s : Bor (List ℕ)). Some s.now) old new fields default_config (reader_state old) gives.source gives.source [] gives.config gives.known (refl, refl) read in
-    let one = after_one old rows gives fields (reader_state new) m.0 m.2 in
-    (left_of (reader_state new) m.0, one.0, record {
-      trims = read.3 ∙ gives.trims;
-      ready = ready;
-      config = read.2 ∙ gives.config;
-      source = m.0;
-      known = m.1;
-      fresh = one.1;
-      are = refl;
-    })
+    let one = after_one old rows gives fields (reader_state new) m.0 m.2 in (
+      left_of (reader_state new) m.0,
+      one.0,
+      record {
+        trims = read.3 ∙ gives.trims;
+        ready = ready;
+        config = read.2 ∙ gives.config;
+        source = m.0;
+        known = m.1;
+        fresh = one.1;
+        are = refl;
+      },
+    )
 
 -- where no record is read there is none
 pub gives_none : (old new : Reader (Bor (List ℕ))) (rows : List Row) → Gives old rows → ReadRecord (λ s. Some s.now) old new false [] → rows ≡ []

@@ -1,5 +1,5 @@
 -- What the functions that read a sheet say of each other.
-use Rattle.std.specs.Prelude.{ℕ, ◌≡◌, ◌≢◌, ◌+◌, Bool, true, List, [], ◌++◌, ◌∷◌, length, map, get_or, sum_by, All, Option, Some, None, Result, Ok, Err, ⊤}
+use Rattle.std.specs.Prelude.{ℕ, ◌≡◌, ◌≢◌, ◌+◌, Bool, true, List, [], ◌++◌, ◌∷◌, length, map, sum_by, All, Some, None, Result, Ok, Err, ⊤}
 use Rattle.std.specs.List.{AllZip}
 use Rattle.csv.specs.Records.{fields_of}
 use Rattle.csv.specs.Records.{Row as ByteRow}
@@ -8,7 +8,7 @@ use Rattle.voucher_import.specs.Rows.{Row, voucher_of}
 use Rattle.voucher_import.specs.RowFaults.{FirstWrong, IsWrong}
 use Rattle.voucher_import.specs.Runs.{runs_of}
 use Rattle.voucher_import.specs.SheetVouchers.{IsDated, IsVoucher, IsWithinLimits}
-use Rattle.voucher_import.specs.Sheets.{AreRight, IsBadAt, IsBadRow, AreVouchers}
+use Rattle.voucher_import.specs.Sheets.{AreRight, IsBadAt, IsBadRow}
 use Rattle.voucher_import.specs.declared.fields.RowFault.{RowFault}
 use Rattle.voucher_import.specs.declared.fields.RowFault.TheVariants as row_fault
 use Rattle.voucher_import.specs.declared.kinds.SheetKind.{SheetKind}
@@ -16,7 +16,6 @@ use Rattle.voucher_import.specs.declared.open_sheet.OpenSheet.{OpenSheet}
 use Rattle.voucher_import.specs.declared.sheet.SheetField.{SheetField}
 use Rattle.voucher_import.specs.declared.sheet.SheetFault.{SheetFault}
 use Rattle.voucher_import.specs.declared.sheet.SheetFault.TheVariants as fault
-use Rattle.voucher_import.specs.declared.sheet.SheetVoucher.{SheetVoucher}
 
 -- what comes of a field: a value of which this holds, where the field is right, and else that it is wrong
 abbrev pub Reads : {A : Type 0} → SheetField → Type 0 → (A → Type 0) → Result A RowFault → Type 0

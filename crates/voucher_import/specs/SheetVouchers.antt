@@ -1,5 +1,5 @@
 -- What the rows of a voucher say.
-use Rattle.std.specs.Prelude.{ℕ, ◌≡◌, ◌≤◌, List, [], get_or, length, Option, Some, IsTrue, pos, ⊤}
+use Rattle.std.specs.Prelude.{◌≡◌, List, [], get_or, Some, IsTrue, pos, ⊤}
 use Rattle.std.specs.List.{AllZip}
 use Rattle.std.specs.Str.Parse.{digits_value}
 use Rattle.stock_nums.specs.MomentText.{SpellsMoment}

@@ -9,12 +9,19 @@ use csv::ByteRecord;
 pub(crate) const COLUMNS: usize = 8;
 
 pub(crate) const VOUCHER: usize = 0;
+
 pub(crate) const DO: usize = 1;
+
 pub(crate) const AT: usize = 2;
+
 pub(crate) const ITEM: usize = 3;
+
 pub(crate) const STORE: usize = 4;
+
 pub(crate) const TO: usize = 5;
+
 pub(crate) const QTY: usize = 6;
+
 pub(crate) const AMOUNT: usize = 7;
 
 /// The field of a row in a column. It is empty where the row ends before the column.

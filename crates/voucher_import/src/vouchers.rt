@@ -83,7 +83,7 @@ fn read_issue(
 fn read_start(first: &ByteRecord) -> Result<(SheetKind, Moment), SheetField>
     ensures { MatchResult result
         (λ start. FirstWrong (IsWrong [] (fields_of first.now)) start_fields None
-            × (kind_of (do_of (fields_of first.now)) ≡ Some start.0) × SpellsMoment (at_of (fields_of first.now)) start.1)
+        × (kind_of (do_of (fields_of first.now)) ≡ Some start.0) × SpellsMoment (at_of (fields_of first.now)) start.1)
         (λ field. FirstWrong (IsWrong [] (fields_of first.now)) start_fields (Some field)) }
 {
     if first.len() != COLUMNS {

@@ -1,10 +1,9 @@
 -- The rows under the head, one after another.
-use Rattle.std.proofs.Common.{Bor, ◌≡◌, ◌<◌, ◌≤◌, ◌+◌, ℕ, List, [], ◌∷◌, Err, Some, true, false, length, inl, refl, sym, ap, subst, ◌∙◌, arith}
+use Rattle.std.proofs.Common.{◌≡◌, List, [], ◌∷◌, Err, true, length, inl, sym, ap, subst, ◌∙◌, arith}
 use Rattle.std.proofs.lemmas.Bool.{false≢true}
 use Rattle.std.proofs.lemmas.Result.{err_from_is_err_and}
 use Rattle.csv.specs.Reading.{owned_rows_reader, with_flexible}
 use Rattle.csv.specs.Records.{fields_of}
-use Rattle.csv.specs.declared.reader.Reader.{Reader}
 use Rattle.voucher_import.specs.Reading.{IsOpen}
 use Rattle.voucher_import.specs.Rows.{Row, head_row, rows_of}
 use Rattle.voucher_import.specs.Sheets.{AreVouchers}

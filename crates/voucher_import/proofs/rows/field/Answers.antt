@@ -1,4 +1,4 @@
-use Rattle.std.proofs.Common.{◌≡◌, sym, ◌∙◌, ap}
+use Rattle.std.proofs.Common.{sym}
 use Rattle.voucher_import.proofs.Columns.{field_found, field_missing}
 use Rattle.voucher_import.proofs.rows.field.Goals as goal
 

@@ -1,5 +1,5 @@
 -- A row of eight fields that are the names, one after another.
-use Rattle.std.proofs.Common.{◌≡◌, ℕ, Bool, true, false, List, [], ◌∷◌, get_or, length, sym, ◌∙◌, ap}
+use Rattle.std.proofs.Common.{◌≡◌, ℕ, Bool, true, List, [], get_or, length, sym, ◌∙◌, ap}
 use Rattle.std.specs.Prelude.{bytes_eq, codes}
 use Rattle.std.proofs.lemmas.Bool.{false≢true}
 use Rattle.std.proofs.lemmas.Bool.Decides.{Decides-eqb}
@@ -19,45 +19,45 @@ whole xs size a b d e f g h i = eight_fields xs size ∙ cc
 
 sixth : (c : After-eq-then-eq-7) → c.if-eq-6.value ≡ true → (get_or (fields_of c.args.row.now) 6 [] ≡ codes "qty") × (c.if-eq-5.value ≡ true)
 sixth c t = elim c.if-eq-6.branch [
-    then-eq-6 w ↦ (named w.eq-then-eq-6.result w.field-then-eq-6.result.now w.as_slice-then-eq-6.result.now (get_or (fields_of c.args.row.now) 6 []) (codes "qty") w.eq-then-eq-6.ensures w.field-then-eq-6.ensures w.as_slice-then-eq-6.ensures (sym w.value-is ∙ t), w.if-eq-6.true)
-    | else-eq-6 w ↦ absurd (false≢true (sym w.if-eq-6.false ∙ (sym w.value-is ∙ t)))
-  ]
+  | then-eq-6 w ↦ (named w.eq-then-eq-6.result w.field-then-eq-6.result.now w.as_slice-then-eq-6.result.now (get_or (fields_of c.args.row.now) 6 []) (codes "qty") w.eq-then-eq-6.ensures w.field-then-eq-6.ensures w.as_slice-then-eq-6.ensures (sym w.value-is ∙ t), w.if-eq-6.true)
+  | else-eq-6 w ↦ absurd (false≢true (sym w.if-eq-6.false ∙ (sym w.value-is ∙ t)))
+]
 
 fifth : (c : After-eq-then-eq-7) → c.if-eq-5.value ≡ true → (get_or (fields_of c.args.row.now) 5 [] ≡ codes "to") × (c.if-eq-4.value ≡ true)
 fifth c t = elim c.if-eq-5.branch [
-    then-eq-5 w ↦ (named w.eq-then-eq-5.result w.field-then-eq-5.result.now w.as_slice-then-eq-5.result.now (get_or (fields_of c.args.row.now) 5 []) (codes "to") w.eq-then-eq-5.ensures w.field-then-eq-5.ensures w.as_slice-then-eq-5.ensures (sym w.value-is ∙ t), w.if-eq-5.true)
-    | else-eq-5 w ↦ absurd (false≢true (sym w.if-eq-5.false ∙ (sym w.value-is ∙ t)))
-  ]
+  | then-eq-5 w ↦ (named w.eq-then-eq-5.result w.field-then-eq-5.result.now w.as_slice-then-eq-5.result.now (get_or (fields_of c.args.row.now) 5 []) (codes "to") w.eq-then-eq-5.ensures w.field-then-eq-5.ensures w.as_slice-then-eq-5.ensures (sym w.value-is ∙ t), w.if-eq-5.true)
+  | else-eq-5 w ↦ absurd (false≢true (sym w.if-eq-5.false ∙ (sym w.value-is ∙ t)))
+]
 
 fourth : (c : After-eq-then-eq-7) → c.if-eq-4.value ≡ true → (get_or (fields_of c.args.row.now) 4 [] ≡ codes "store") × (c.if-eq-3.value ≡ true)
 fourth c t = elim c.if-eq-4.branch [
-    then-eq-4 w ↦ (named w.eq-then-eq-4.result w.field-then-eq-4.result.now w.as_slice-then-eq-4.result.now (get_or (fields_of c.args.row.now) 4 []) (codes "store") w.eq-then-eq-4.ensures w.field-then-eq-4.ensures w.as_slice-then-eq-4.ensures (sym w.value-is ∙ t), w.if-eq-4.true)
-    | else-eq-4 w ↦ absurd (false≢true (sym w.if-eq-4.false ∙ (sym w.value-is ∙ t)))
-  ]
+  | then-eq-4 w ↦ (named w.eq-then-eq-4.result w.field-then-eq-4.result.now w.as_slice-then-eq-4.result.now (get_or (fields_of c.args.row.now) 4 []) (codes "store") w.eq-then-eq-4.ensures w.field-then-eq-4.ensures w.as_slice-then-eq-4.ensures (sym w.value-is ∙ t), w.if-eq-4.true)
+  | else-eq-4 w ↦ absurd (false≢true (sym w.if-eq-4.false ∙ (sym w.value-is ∙ t)))
+]
 
 third : (c : After-eq-then-eq-7) → c.if-eq-3.value ≡ true → (get_or (fields_of c.args.row.now) 3 [] ≡ codes "item") × (c.if-eq-2.value ≡ true)
 third c t = elim c.if-eq-3.branch [
-    then-eq-3 w ↦ (named w.eq-then-eq-3.result w.field-then-eq-3.result.now w.as_slice-then-eq-3.result.now (get_or (fields_of c.args.row.now) 3 []) (codes "item") w.eq-then-eq-3.ensures w.field-then-eq-3.ensures w.as_slice-then-eq-3.ensures (sym w.value-is ∙ t), w.if-eq-3.true)
-    | else-eq-3 w ↦ absurd (false≢true (sym w.if-eq-3.false ∙ (sym w.value-is ∙ t)))
-  ]
+  | then-eq-3 w ↦ (named w.eq-then-eq-3.result w.field-then-eq-3.result.now w.as_slice-then-eq-3.result.now (get_or (fields_of c.args.row.now) 3 []) (codes "item") w.eq-then-eq-3.ensures w.field-then-eq-3.ensures w.as_slice-then-eq-3.ensures (sym w.value-is ∙ t), w.if-eq-3.true)
+  | else-eq-3 w ↦ absurd (false≢true (sym w.if-eq-3.false ∙ (sym w.value-is ∙ t)))
+]
 
 second : (c : After-eq-then-eq-7) → c.if-eq-2.value ≡ true → (get_or (fields_of c.args.row.now) 2 [] ≡ codes "at") × (c.if-eq.value ≡ true)
 second c t = elim c.if-eq-2.branch [
-    then-eq-2 w ↦ (named w.eq-then-eq-2.result w.field-then-eq-2.result.now w.as_slice-then-eq-2.result.now (get_or (fields_of c.args.row.now) 2 []) (codes "at") w.eq-then-eq-2.ensures w.field-then-eq-2.ensures w.as_slice-then-eq-2.ensures (sym w.value-is ∙ t), w.if-eq-2.true)
-    | else-eq-2 w ↦ absurd (false≢true (sym w.if-eq-2.false ∙ (sym w.value-is ∙ t)))
-  ]
+  | then-eq-2 w ↦ (named w.eq-then-eq-2.result w.field-then-eq-2.result.now w.as_slice-then-eq-2.result.now (get_or (fields_of c.args.row.now) 2 []) (codes "at") w.eq-then-eq-2.ensures w.field-then-eq-2.ensures w.as_slice-then-eq-2.ensures (sym w.value-is ∙ t), w.if-eq-2.true)
+  | else-eq-2 w ↦ absurd (false≢true (sym w.if-eq-2.false ∙ (sym w.value-is ∙ t)))
+]
 
 first : (c : After-eq-then-eq-7) → c.if-eq.value ≡ true → (get_or (fields_of c.args.row.now) 1 [] ≡ codes "do") × (c.if-len-eq-COLUMNS.value ≡ true)
 first c t = elim c.if-eq.branch [
-    then-eq w ↦ (named w.eq-then-eq.result w.field-then-eq.result.now w.as_slice-then-eq.result.now (get_or (fields_of c.args.row.now) 1 []) (codes "do") w.eq-then-eq.ensures w.field-then-eq.ensures w.as_slice-then-eq.ensures (sym w.value-is ∙ t), w.if-eq.true)
-    | else-eq w ↦ absurd (false≢true (sym w.if-eq.false ∙ (sym w.value-is ∙ t)))
-  ]
+  | then-eq w ↦ (named w.eq-then-eq.result w.field-then-eq.result.now w.as_slice-then-eq.result.now (get_or (fields_of c.args.row.now) 1 []) (codes "do") w.eq-then-eq.ensures w.field-then-eq.ensures w.as_slice-then-eq.ensures (sym w.value-is ∙ t), w.if-eq.true)
+  | else-eq w ↦ absurd (false≢true (sym w.if-eq.false ∙ (sym w.value-is ∙ t)))
+]
 
 zeroth : (c : After-eq-then-eq-7) → c.if-len-eq-COLUMNS.value ≡ true → (get_or (fields_of c.args.row.now) 0 [] ≡ codes "voucher") × (length (fields_of c.args.row.now) ≡ 8)
 zeroth c t = elim c.if-len-eq-COLUMNS.branch [
-    then-len-eq-COLUMNS w ↦ (named w.eq.result w.field.result.now w.as_slice.result.now (get_or (fields_of c.args.row.now) 0 []) (codes "voucher") w.eq.ensures w.field.ensures w.as_slice.ensures (sym w.value-is ∙ t), sym c.len.ensures ∙ w.if-len-eq-COLUMNS.true)
-    | else-len-eq-COLUMNS w ↦ absurd (w.if-len-eq-COLUMNS.false ((Decides-eqb c.len.result 8).0 (sym w.value-is ∙ t)))
-  ]
+  | then-len-eq-COLUMNS w ↦ (named w.eq.result w.field.result.now w.as_slice.result.now (get_or (fields_of c.args.row.now) 0 []) (codes "voucher") w.eq.ensures w.field.ensures w.as_slice.ensures (sym w.value-is ∙ t), sym c.len.ensures ∙ w.if-len-eq-COLUMNS.true)
+  | else-len-eq-COLUMNS w ↦ absurd (w.if-len-eq-COLUMNS.false ((Decides-eqb c.len.result 8).0 (sym w.value-is ∙ t)))
+]
 
 pub returns-then-eq-7 : goal.returns-then-eq-7
 returns-then-eq-7 c =

@@ -1,5 +1,5 @@
 -- What is wrong with a row, step by step.
-use Rattle.std.proofs.Common.{◌≡◌, ◌≤◌, ℕ, [], ◌∷◌, List, Some, None, true, false, inl, inr, length, take, Err, refl, sym, ap, subst, ◌∙◌, arith}
+use Rattle.std.proofs.Common.{◌≡◌, ◌≤◌, Some, None, inl, inr, length, take, Err, refl, sym, ap, subst, ◌∙◌, arith}
 use Rattle.std.proofs.lemmas.Bool.{false≢true}
 use Rattle.std.proofs.lemmas.Result.{err_from_is_err_and}
 use Rattle.std.proofs.lemmas.Slice.Zip.{AllZip-long}
@@ -31,7 +31,7 @@ returns-in_err-line g c =
     let before = take c.args.place (rows_in c.args.run.now) in
     let row = fields_of c.index-run-place.result in
     let begun = of_begun g.L.RowLine.has_kind c.args.run.now c.args.place c.index-run-place.result c.index-run-0.result c.requires.within c.index-run-place.is c.index-run-0.is c.requires.begun
-        (sym c.len.ensures ∙ c.if-len-ne-COLUMNS.false) (c.is_of_group.ensures.0 c.if-not-is_of_group.false) in
+    (sym c.len.ensures ∙ c.if-len-ne-COLUMNS.false) (c.is_of_group.ensures.0 c.if-not-is_of_group.false) in
     let p = err_from_is_err_and c.from_residual.result c.from_residual.ensures.1 in
     let here = row_at c.args.run.now c.args.place c.index-run-place.result c.requires.within c.index-run-place.is in
     rw (p.1, p.2)
@@ -43,7 +43,7 @@ returns-then-repeats g c =
     let before = take c.args.place (rows_in c.args.run.now) in
     let row = fields_of c.index-run-place.result in
     let begun = of_begun g.L.RowLine.has_kind c.args.run.now c.args.place c.index-run-place.result c.index-run-0.result c.requires.within c.index-run-place.is c.index-run-0.is c.requires.begun
-        (sym c.len.ensures ∙ c.if-len-ne-COLUMNS.false) (c.is_of_group.ensures.0 c.if-not-is_of_group.false) in
+    (sym c.len.ensures ∙ c.if-len-ne-COLUMNS.false) (c.is_of_group.ensures.0 c.if-not-is_of_group.false) in
     let read = c.in_ok-line.ensures c.requires.begun.of_kind c.requires.begun.is_one begun.word before in
     let again = (c.repeats.ensures c.requires.begun.of_kind c.requires.begun.is_one row before read.1 c.requires.so_far).0 c.if-repeats.true in
     rw (row_at c.args.run.now c.args.place c.index-run-place.result c.requires.within c.index-run-place.is)
@@ -54,7 +54,7 @@ returns-then-before-ge-MAX_LINES g c =
     let before = take c.args.place (rows_in c.args.run.now) in
     let row = fields_of c.index-run-place.result in
     let begun = of_begun g.L.RowLine.has_kind c.args.run.now c.args.place c.index-run-place.result c.index-run-0.result c.requires.within c.index-run-place.is c.index-run-0.is c.requires.begun
-        (sym c.len.ensures ∙ c.if-len-ne-COLUMNS.false) (c.is_of_group.ensures.0 c.if-not-is_of_group.false) in
+    (sym c.len.ensures ∙ c.if-len-ne-COLUMNS.false) (c.is_of_group.ensures.0 c.if-not-is_of_group.false) in
     let read = c.in_ok-line.ensures c.requires.begun.of_kind c.requires.begun.is_one begun.word before in
     let repeats = c.repeats.ensures c.requires.begun.of_kind c.requires.begun.is_one row before read.1 c.requires.so_far in
     let once : ¬ IsWrong before row Repeat = λ again. false≢true (sym c.if-repeats.false ∙ repeats.1 (cc (again.0, begun.word), again.1)) in
@@ -68,7 +68,7 @@ returns g c =
     let before = take c.args.place (rows_in c.args.run.now) in
     let row = fields_of c.index-run-place.result in
     let begun = of_begun g.L.RowLine.has_kind c.args.run.now c.args.place c.index-run-place.result c.index-run-0.result c.requires.within c.index-run-place.is c.index-run-0.is c.requires.begun
-        (sym c.len.ensures ∙ c.if-len-ne-COLUMNS.false) (c.is_of_group.ensures.0 c.if-not-is_of_group.false) in
+    (sym c.len.ensures ∙ c.if-len-ne-COLUMNS.false) (c.is_of_group.ensures.0 c.if-not-is_of_group.false) in
     let read = c.in_ok-line.ensures c.requires.begun.of_kind c.requires.begun.is_one begun.word before in
     let repeats = c.repeats.ensures c.requires.begun.of_kind c.requires.begun.is_one row before read.1 c.requires.so_far in
     let once : ¬ IsWrong before row Repeat = λ again. false≢true (sym c.if-repeats.false ∙ repeats.1 (cc (again.0, begun.word), again.1)) in

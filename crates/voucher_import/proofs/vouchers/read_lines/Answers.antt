@@ -1,5 +1,5 @@
 -- One row after another, until one is wrong.
-use Rattle.std.proofs.Common.{◌≡◌, ◌≤◌, ◌+◌, ◌++◌, ℕ, [], ◌∷◌, None, length, take, get_or, refl, sym, ap, ◌∙◌, arith}
+use Rattle.std.proofs.Common.{◌≡◌, ◌≤◌, ◌+◌, ◌++◌, ℕ, [], ◌∷◌, length, take, get_or, refl, arith}
 use borrow.Author.Count.{below_more}
 use Rattle.std.specs.List.{AllZip}
 use Rattle.std.proofs.lemmas.List.{length-map, length_push, take_all, take_more}
@@ -7,7 +7,7 @@ use Rattle.std.proofs.lemmas.Slice.Zip.{AllZip-long, all_zipped_more}
 use Rattle.csv.specs.Records.{fields_of}
 use Rattle.stock_nums.specs.declared.limits.TheConstants.{MAX_LINES}
 use Rattle.voucher_import.specs.Reading.{rows_in}
-use Rattle.voucher_import.specs.Sheets.{AreRight, IsRightAt}
+use Rattle.voucher_import.specs.Sheets.{IsRightAt}
 use Rattle.voucher_import.proofs.Faults.{none_wrong}
 use Rattle.voucher_import.proofs.vouchers.read_lines.Goals as goal
 
@@ -17,12 +17,15 @@ room_left most count h = omega (arith, h)
 pub returns-in-Err-Wrong-clause-outcome : goal.returns-in-Err-Wrong-clause-outcome
 returns-in-Err-Wrong-clause-outcome g c =
     let size : length (rows_in c.args.run.now) ≡ length c.args.run.now = length-map c.args.run.now fields_of in
-    rw (c.in-Err-Wrong.field-0-is)
-    (c.loop-place.place, record {
-      within = omega (arith, size);
-      right = c.loop-place.invariant.right;
-      wrong = rw c.in-Err-Wrong.field-0-is at c.in-Err-Wrong.ensures;
-    }, refl)
+    rw (c.in-Err-Wrong.field-0-is) (
+      c.loop-place.place,
+      record {
+        within = omega (arith, size);
+        right = c.loop-place.invariant.right;
+        wrong = rw c.in-Err-Wrong.field-0-is at c.in-Err-Wrong.ensures;
+      },
+      refl,
+    )
 
 pub loop-place-preserved : goal.loop-place-preserved
 loop-place-preserved g c =

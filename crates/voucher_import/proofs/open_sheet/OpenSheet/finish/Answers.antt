@@ -1,5 +1,5 @@
 -- With the last voucher closed all are read.
-use Rattle.std.proofs.Common.{◌≡◌, []}
+use Rattle.std.proofs.Common.{[]}
 use Rattle.std.proofs.lemmas.Result.{err_from_is_err_and}
 use Rattle.voucher_import.proofs.OpenSheets.{finishes, same_fault}
 use Rattle.voucher_import.specs.Reading.{IsOpen}

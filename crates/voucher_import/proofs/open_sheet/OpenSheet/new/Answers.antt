@@ -1,7 +1,5 @@
 use Rattle.std.proofs.Common.{◌≡◌, [], refl}
-use Rattle.std.specs.Prelude.{⊤}
 use Rattle.std.proofs.lemmas.List.Elements.{All-nil}
-use Rattle.voucher_import.specs.Reading.{IsOpen}
 use Rattle.voucher_import.specs.Rows.{voucher_of}
 use Rattle.voucher_import.specs.SheetVouchers.{IsWithinLimits}
 use Rattle.voucher_import.specs.Sheets.{AreRight}

@@ -1,5 +1,5 @@
 -- A line of a count repeats an earlier one where its row does.
-use Rattle.std.proofs.Common.{◌≡◌, sym, ◌∙◌}
+use Rattle.std.proofs.Common.{sym, ◌∙◌}
 use Rattle.voucher_import.proofs.CountKeys.{same_places}
 use Rattle.voucher_import.proofs.Faults.{count_only}
 use Rattle.voucher_import.proofs.row_lines.CountLineRowLine.repeats.Goals as goal

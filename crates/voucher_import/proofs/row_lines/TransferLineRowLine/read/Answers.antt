@@ -1,5 +1,5 @@
 -- A transfer has a code in `to`.
-use Rattle.std.proofs.Common.{◌≡◌, ℕ, inl, inr, refl}
+use Rattle.std.proofs.Common.{◌≡◌, ℕ, inr, refl}
 use Rattle.std.specs.Prelude.{⊤}
 use Rattle.std.specs.Str.Parse.{digits_value}
 use Rattle.std.proofs.lemmas.Result.{err_from_is_err_and}
@@ -25,8 +25,7 @@ returns c of_kind is word before =
     let store = rw c.field-2.ensures at c.in_ok-from.ensures in
     let to = rw c.field-3.ensures at c.in_ok-to.ensures in
     let qty = rw c.field-4.ensures at c.in_ok-qty.ensures.outcome in
-    let price = rw c.field-5.ensures at c.in_ok-check_empty.ensures.0 in
-    (
+    let price = rw c.field-5.ensures at c.in_ok-check_empty.ensures.0 in (
       inr (λ n. n item.0, inr (λ n. n store.0, inr (to_right before row of_kind is word to.0, inr (qty_right before row of_kind is word qty.0, inr (price_right before row of_kind is word price, refl))))),
       record { item = item.1; from = store.1; to = to.1; qty = qty.1 },
     )
