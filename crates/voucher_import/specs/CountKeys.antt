@@ -1,4 +1,4 @@
--- What no two lines of a count have in common.
+-- What no two lines of a count have in common. The type of a count spells the test out, since it can't cite a file that names its lines.
 use Rattle.std.specs.Prelude.{Bool, ◌&&◌, bytes_eq}
 use Rattle.voucher_import.specs.declared.sheet.CountLine.{CountLine}
 
