@@ -1,0 +1,5 @@
+pub mod Held
+pub mod Sides
+pub mod Differences
+pub mod Corrections
+pub mod Plans

@@ -1,0 +1,7 @@
+//! Counts of stock as ordinary vouchers: an issue of what is missing, and a receipt of what there is too much.
+#![tactic(auto)]
+
+mod corrections;
+mod holding;
+pub mod plan;
+pub mod planning;
