@@ -1,0 +1,4 @@
+pub mod HeldSums
+pub mod JournalEntries
+pub mod CountedLines
+pub mod PlanLimits

@@ -3,8 +3,10 @@ ghost use Rattle.std.specs.Prelude.{◌≡◌, ◌*◌, ◌≤◌, ◌^◌, ◌+
 ghost use Rattle.stock_nums.specs.declared.limits.TheConstants.{MAX_QUANTITY};
 ghost use Rattle.stock_nums.specs.Places.{is_later};
 ghost use Rattle.stock_model.specs.Entries.{all_entries, is_live_entry};
+ghost use Rattle.stock_nums.specs.declared.moment.Moment.{Moment};
+ghost use Rattle.stock_count.specs.Differences.{difference};
 ghost use Rattle.stock_count.specs.Held.{held_of, is_until, key_with};
-ghost use Rattle.stock_count.specs.Sides.{held_among, units_of_side};
+ghost use Rattle.stock_count.specs.Sides.{held_among, is_of_side, side_units};
 
 use std::alloc::Global;
 use stock_model::names::{Names, Returns};
@@ -58,8 +60,8 @@ fn is_later(a: Moment, b: Moment) -> bool
     a > b
 }
 
-/// What entered less what left, by these movements, of a line's item and warehouse: 0 where the journal lacks one of them.
-pub(crate) fn held(journal: &Journal, entries: &[Entry], line: &CountLine) -> i128
+// What entered less what left, by these movements, of a line's item and warehouse: 0 where the journal lacks one of them.
+fn held(journal: &Journal, entries: &[Entry], line: &CountLine) -> i128
     ensures held { result ≡ held_among journal.now entries.now line.now.item line.now.store }
     ensures small { unsigned_abs result ≤ 2 ^ 94 }
 {
@@ -71,6 +73,13 @@ pub(crate) fn held(journal: &Journal, entries: &[Entry], line: &CountLine) -> i1
     }
 }
 
+/// What was counted less what was held at the moment, by the movements up to it.
+pub(crate) fn difference(journal: &Journal, entries: &[Entry], line: &CountLine) -> i128
+    ensures { (at : Moment) → entries.now ≡ filter (is_until at) (all_entries journal.now) → result ≡ difference journal.now at line.now }
+{
+    i128::from(line.qty.0) - held(journal, entries, line)
+}
+
 // The item and the warehouse with these codes.
 fn key_with(journal: &Journal, item: &Code, store: &Code) -> Option<Key>
     ensures { result ≡ key_with journal.now item.now store.now }
@@ -80,14 +89,21 @@ fn key_with(journal: &Journal, item: &Code, store: &Code) -> Option<Key>
     Some(Key { item, store })
 }
 
+// Whether the movement is of this item in this warehouse, and enters it or leaves it.
+fn is_of_side(entry: &Entry, key: Key, side: Side) -> bool
+    ensures { result ≡ is_of_side key side entry.now }
+{
+    entry.item == key.item && entry.store == key.store && entry.place.side == side
+}
+
 // How many units of an item entered a warehouse by these movements, or left it.
 fn units(entries: &[Entry], key: Key, side: Side) -> u128
-    ensures units { result ≡ units_of_side entries.now key side }
+    ensures units { result ≡ side_units entries.now key side }
     ensures small { result ≤ length entries.now * MAX_QUANTITY }
 {
     let mut units: u128 = 0;
     for entry in entries {
-        if entry.item == key.item && entry.store == key.store && entry.place.side == side {
+        if is_of_side(entry, key, side) {
             units += u128::from(entry.qty.0);
         }
     }

@@ -5,7 +5,7 @@ ghost use Rattle.stock_count.specs.Differences.{differences, first_wide, is_wide
 ghost use Rattle.stock_count.specs.Plans.{AreWithinLimits, IsPlan};
 
 use crate::corrections::Corrections;
-use crate::holding::{entries_until, held};
+use crate::holding::{difference, entries_until};
 use crate::plan::{CountFault, CountPlan};
 use std::alloc::Global;
 use stock_nums::limits::MAX_QUANTITY;
@@ -28,7 +28,7 @@ pub fn plan_count(
     let entries = entries_until(alloc, journal, sheet.at)?;
     let mut corrections = Corrections::new(alloc);
     for (index, line) in sheet.lines.as_slice().iter().enumerate() {
-        let diff = i128::from(line.qty.0) - held(journal, entries.as_slice(), line);
+        let diff = difference(journal, entries.as_slice(), line);
         if is_wide(diff) {
             return Err(CountFault::Wide {
                 line: index as u32 + 1,
