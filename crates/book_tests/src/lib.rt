@@ -7,6 +7,8 @@ mod books;
 #[cfg(test)]
 mod builds;
 #[cfg(test)]
+mod counts;
+#[cfg(test)]
 mod crashes;
 #[cfg(test)]
 mod journals;
