@@ -2,3 +2,9 @@ pub mod HeldSums
 pub mod JournalEntries
 pub mod CountedLines
 pub mod PlanLimits
+pub mod KeyCodes
+pub mod CountedUnits
+pub mod PostedLines
+pub mod PostedSteps
+pub mod KnownLines
+pub mod HeldAsCounted

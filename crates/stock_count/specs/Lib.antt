@@ -3,3 +3,4 @@ pub mod Sides
 pub mod Differences
 pub mod Corrections
 pub mod Plans
+pub mod Posted

@@ -2,6 +2,7 @@
 #![tactic(auto)]
 
 mod corrections;
+pub mod count_laws;
 mod holding;
 pub mod plan;
 pub mod planning;

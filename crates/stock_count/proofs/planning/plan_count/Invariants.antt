@@ -1,5 +1,5 @@
 -- No difference so far is wide, and their corrections are made.
-use Rattle.std.proofs.Common.{◌≡◌, ◌+◌, ◌≤◌, take, drop, map, length}
+use Rattle.std.proofs.Common.{◌≡◌, ◌+◌, take, drop, map}
 use Rattle.std.specs.List.{filter_map}
 use Rattle.stock_model.specs.Faults.{first_line}
 use Rattle.stock_count.specs.Corrections.{issue_said, receipt_said, shortage_of, surplus_of}
