@@ -7,8 +7,6 @@ mod books;
 #[cfg(test)]
 mod builds;
 #[cfg(test)]
-mod counts;
-#[cfg(test)]
 mod crashes;
 #[cfg(test)]
 mod journals;

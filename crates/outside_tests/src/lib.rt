@@ -1,5 +1,5 @@
-//! The tests of what stands between a ledger and the world: streams and sockets, keepers, requests and answers as bytes, JSON
-//! texts and sheets. They stand alone, so that they don't have the functions of those crates proved once more.
+//! The tests of what stands between a ledger and the world: streams and sockets, keepers, requests and answers as bytes, and JSON
+//! texts. They stand alone, so that they don't have the functions of those crates proved once more.
 #![tactic(auto)]
 
 #[cfg(test)]
@@ -14,8 +14,6 @@ mod lists;
 mod replies;
 #[cfg(test)]
 mod requests;
-#[cfg(test)]
-mod sheets;
 #[cfg(test)]
 mod sockets;
 #[cfg(test)]
