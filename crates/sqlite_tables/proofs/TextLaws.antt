@@ -1,0 +1,123 @@
+-- What each text means under the whole schema. The kit's meaning of SQL is run on the text.
+use Rattle.std.proofs.Common.{◌≡◌, ℕ, pos, negsuc, List, [], ◌∷◌, codes, false, None, Some, refl}
+use Rattle.sqlite_value.specs.declared.keys.Collation.TheVariants.{Binary}
+use Rattle.sqlite_value.specs.declared.keys.Key.{Key}
+use Rattle.sqlite_value.specs.declared.value.Value.TheVariants.{Null, Int}
+use Rattle.sqlite_value.specs.Keys.{ascending}
+use Rattle.sqlite_sql.specs.Term.{Term, lit, col, op2}
+use Rattle.sqlite_sql.specs.Query.{Query, inner, end}
+use Rattle.sqlite_sql.specs.declared.ops.BinaryOp.TheVariants.{Compare}
+use Rattle.sqlite_sql.specs.declared.ops.CompareOp.TheVariants.{Eq}
+use Rattle.sqlite_schema.specs.declared.program.Program.{Program}
+use Rattle.sqlite_schema.specs.declared.command.Source.TheVariants.{Values}
+use Rattle.sqlite_schema.specs.declared.command.Conflict.TheVariants.{Abort}
+use Rattle.sqlite_schema.specs.declared.command.Command.TheVariants.{Insert, InsertOr, Update, Delete, Select}
+use Rattle.sqlite_tied.specs.Compute.{everything}
+use Rattle.sqlite.specs.Listing.{understood, reads_listing}
+use Rattle.sqlite.proofs.Callers.{IsPlain, command_of}
+use Rattle.sqlite_tables.specs.Whole.{whole}
+use Rattle.sqlite_tables.specs.Texts as texts
+
+abbrev same : Term → Term → Term
+same a b = op2 (Compare Eq Binary) a b
+
+abbrev pub by_order : Term → Term × Key
+by_order t = (t, ascending Binary)
+
+abbrev pub alone : Query → Program
+alone q = record { lets = []; body = q }
+
+-- the rows of a table that pass the tests, as these terms
+abbrev pub query_of : ℕ → List Term → List Term → List (Term × Key) → Query
+query_of tree filter project order = record {
+  from = inner tree end;
+  filter = filter;
+  group = None;
+  project = project;
+  distinct = false;
+  collations = [];
+  order = order;
+  limit = lit (Int (negsuc 0));
+  offset = lit (Int (pos 0));
+}
+
+abbrev pub insert_terms : List Term
+insert_terms = col 0 0 ∷ lit Null ∷ col 0 1 ∷ []
+
+pub insert_is : command_of (understood whole texts.insert_record) ≡ Insert 0 (Values insert_terms 3)
+unfolding understood everything
+insert_is = refl
+
+pub insert_plain : IsPlain (understood whole texts.insert_record)
+unfolding understood everything
+insert_plain = (refl, refl)
+
+abbrev pub put_terms : List Term
+put_terms = lit Null ∷ col 0 0 ∷ col 0 1 ∷ col 0 2 ∷ col 0 3 ∷ col 0 4 ∷ []
+
+abbrev pub put_query : Query
+put_query = query_of 1 (same (col 1 0) (col 0 5) ∷ []) (col 1 0 ∷ col 1 0 ∷ col 1 1 ∷ col 1 2 ∷ col 1 3 ∷ col 0 3 ∷ col 0 4 ∷ []) []
+
+pub put_is : command_of (understood whole texts.put_worth) ≡ InsertOr 1 Abort (Values put_terms 6) (record { target = Some (1 ∷ 2 ∷ 3 ∷ []); update = Some (alone put_query) } ∷ [])
+unfolding understood everything
+put_is = refl
+
+pub put_plain : IsPlain (understood whole texts.put_worth)
+unfolding understood everything
+put_plain = (refl, refl)
+
+abbrev pub remove_query : Query
+remove_query = query_of 1 (same (col 1 1) (col 0 0) ∷ same (col 1 2) (col 0 1) ∷ same (col 1 3) (col 0 2) ∷ []) (col 1 0 ∷ []) []
+
+pub remove_is : command_of (understood whole texts.remove_worth) ≡ Delete 1 (alone remove_query)
+unfolding understood everything
+remove_is = refl
+
+pub remove_plain : IsPlain (understood whole texts.remove_worth)
+unfolding understood everything
+remove_plain = (refl, refl)
+
+abbrev pub cover_query : Query
+cover_query = query_of 3 (same (col 1 0) (lit (Int (pos 1))) ∷ []) (col 1 0 ∷ col 1 0 ∷ lit Null ∷ col 1 2 ∷ col 0 0 ∷ []) []
+
+pub cover_is : command_of (understood whole texts.cover) ≡ Update 2 (alone cover_query)
+unfolding understood everything
+cover_is = refl
+
+pub cover_plain : IsPlain (understood whole texts.cover)
+unfolding understood everything
+cover_plain = (refl, refl)
+
+abbrev pub records_query : Query
+records_query = query_of 0 [] (col 1 0 ∷ col 1 2 ∷ []) (by_order (col 1 0) ∷ [])
+
+pub records_is : command_of (understood whole texts.select_records) ≡ Select (alone records_query) (codes "no" ∷ codes "body" ∷ [])
+unfolding understood everything
+records_is = refl
+
+pub records_plain : IsPlain (understood whole texts.select_records) × (reads_listing whole texts.select_records ≡ false)
+unfolding understood everything
+records_plain = ((refl, refl), refl)
+
+abbrev pub worths_query : Query
+worths_query =
+    query_of 1 [] (col 1 1 ∷ col 1 2 ∷ col 1 3 ∷ col 1 4 ∷ col 1 5 ∷ []) (by_order (col 1 1) ∷ by_order (col 1 2) ∷ by_order (col 1 3) ∷ [])
+
+pub worths_is : command_of (understood whole texts.select_worths) ≡ Select (alone worths_query) (codes "voucher" ∷ codes "line" ∷ codes "side" ∷ codes "value" ∷ codes "share" ∷ [])
+unfolding understood everything
+worths_is = refl
+
+pub worths_plain : IsPlain (understood whole texts.select_worths) × (reads_listing whole texts.select_worths ≡ false)
+unfolding understood everything
+worths_plain = ((refl, refl), refl)
+
+abbrev pub head_query : Query
+head_query = query_of 3 [] (col 1 2 ∷ col 1 3 ∷ []) (by_order (col 1 0) ∷ [])
+
+pub head_is : command_of (understood whole texts.select_head) ≡ Select (alone head_query) (codes "version" ∷ codes "covered" ∷ [])
+unfolding understood everything
+head_is = refl
+
+pub head_plain : IsPlain (understood whole texts.select_head) × (reads_listing whole texts.select_head ≡ false)
+unfolding understood everything
+head_plain = ((refl, refl), refl)

@@ -1,0 +1,24 @@
+-- A statement that was run in a transaction has turned the tables as its text's law says.
+use Rattle.std.proofs.Common.{ℕ, List, Ok, Err, Result, IsTrue, OnOk}
+use Rattle.sqlite_value.specs.Order.{Row}
+use Rattle.sqlite_trees.specs.declared.store.Store.{Ghosts}
+use Rattle.sqlite.specs.State.{HasCleanDisk, Executes, ExecutesInside}
+use Rattle.sqlite.specs.Held.{Held, state}
+use Rattle.sqlite.specs.declared.error.Error.{Error}
+use Rattle.stock_keeper.specs.declared.tables.Tables.{Tables}
+use Rattle.sqlite_tables.specs.Standing.{StandsFor}
+use Rattle.sqlite_tables.specs.Turning.{HasTurned}
+
+-- a statement of this text was run, with these parameters
+abbrev pub HasRun : {S : Type 0} → Ghosts S → List ℕ → Row → Held S → Held S → Result ℕ Error → Type 0
+HasRun store text params old new result =
+    HasCleanDisk (state store new) → IsTrue old.in_transaction → ExecutesInside 0 text params (state store old) (state store new) result
+
+pub has_turned : {S : Type 0} (store : Ghosts S) (May : Tables → Type 0) (change : Tables → Tables) (text : List ℕ) (params : Row) (old new : Held S) (result : Result ℕ Error)
+    → HasRun store text params old new result
+    → ((count : ℕ) → Executes text params (state store old) (state store new) (Ok count) → (t : Tables) → StandsFor (state store old).now t → May t → StandsFor (state store new).now (change t))
+    → OnOk result (HasTurned store May change old new)
+has_turned store May change text params old new (Err e) runs law = tt
+has_turned store May change text params old new (Ok count) runs law = λ clean inside.
+    let ran = runs clean inside in
+    record { shows = ran.1; stands = law count ran.0 }

@@ -1,0 +1,5 @@
+pub mod Texts
+pub mod Whole
+pub mod Rows
+pub mod Standing
+pub mod Turning

@@ -1,0 +1,37 @@
+-- How records, worths and the head stand in rows.
+use Rattle.std.specs.Prelude.{pos, [], ◌∷◌}
+use Rattle.sqlite_value.specs.declared.value.Value.TheVariants.{Int, Blob}
+use Rattle.sqlite_value.specs.Order.{Row, column}
+use Rattle.stock_nums.specs.Places.{side_rank}
+use Rattle.stock_nums.specs.declared.place.Spot.{Spot}
+use Rattle.stock_keeper.specs.declared.changes.SpotWorth.{SpotWorth}
+use Rattle.stock_keeper.specs.declared.tables.StoredRecord.{StoredRecord}
+use Rattle.stock_keeper.specs.declared.tables.Tables.{Tables}
+
+-- what is written of a record, and what is shown of it
+abbrev pub record_row : StoredRecord → Row
+record_row r = Int r.number ∷ Blob r.body ∷ []
+
+-- the side is 0 of what leaves and 1 of what enters
+abbrev pub spot_row : Spot → Row
+spot_row s = Int (pos s.voucher.0) ∷ Int (pos s.line) ∷ Int (pos (side_rank s.side)) ∷ []
+
+abbrev pub worth_row : SpotWorth → Row
+worth_row w =
+    Int (pos w.spot.voucher.0) ∷ Int (pos w.spot.line) ∷ Int (pos (side_rank w.spot.side)) ∷ Int w.worth.value.0 ∷ Int w.worth.share.0 ∷ []
+
+abbrev pub head_row : Tables → Row
+head_row t = Int t.version ∷ Int t.covered ∷ []
+
+-- A stored row has its rowid first and then its columns. A column that the rowid stands for is NULL there.
+abbrev pub record_cells : Row → Row
+record_cells r = column r 0 ∷ column r 2 ∷ []
+
+abbrev pub spot_cells : Row → Row
+spot_cells r = column r 1 ∷ column r 2 ∷ column r 3 ∷ []
+
+abbrev pub worth_cells : Row → Row
+worth_cells r = column r 1 ∷ column r 2 ∷ column r 3 ∷ column r 4 ∷ column r 5 ∷ []
+
+abbrev pub head_cells : Row → Row
+head_cells r = column r 0 ∷ column r 2 ∷ column r 3 ∷ []
