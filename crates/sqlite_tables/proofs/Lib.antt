@@ -3,3 +3,12 @@ pub mod Steps
 pub mod Ends
 pub mod AppendLaw
 pub mod TurnLemmas
+pub mod Members
+pub mod EditLaw
+pub mod QueryLaw
+pub mod Tests
+pub mod WorthLaw
+pub mod UpsertLaw
+pub mod DeleteLaw
+pub mod CoverLaw
+pub mod Loops

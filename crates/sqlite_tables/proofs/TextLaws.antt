@@ -55,8 +55,14 @@ insert_plain = (refl, refl)
 abbrev pub put_terms : List Term
 put_terms = lit Null ∷ col 0 0 ∷ col 0 1 ∷ col 0 2 ∷ col 0 3 ∷ col 0 4 ∷ []
 
+abbrev pub put_tests : List Term
+put_tests = same (col 1 0) (col 0 5) ∷ []
+
+abbrev pub put_shown : List Term
+put_shown = col 1 0 ∷ col 1 0 ∷ col 1 1 ∷ col 1 2 ∷ col 1 3 ∷ col 0 3 ∷ col 0 4 ∷ []
+
 abbrev pub put_query : Query
-put_query = query_of 1 (same (col 1 0) (col 0 5) ∷ []) (col 1 0 ∷ col 1 0 ∷ col 1 1 ∷ col 1 2 ∷ col 1 3 ∷ col 0 3 ∷ col 0 4 ∷ []) []
+put_query = query_of 1 put_tests put_shown []
 
 pub put_is : command_of (understood whole texts.put_worth) ≡ InsertOr 1 Abort (Values put_terms 6) (record { target = Some (1 ∷ 2 ∷ 3 ∷ []); update = Some (alone put_query) } ∷ [])
 unfolding understood everything
@@ -66,8 +72,14 @@ pub put_plain : IsPlain (understood whole texts.put_worth)
 unfolding understood everything
 put_plain = (refl, refl)
 
+abbrev pub remove_tests : List Term
+remove_tests = same (col 1 1) (col 0 0) ∷ same (col 1 2) (col 0 1) ∷ same (col 1 3) (col 0 2) ∷ []
+
+abbrev pub remove_terms : List Term
+remove_terms = col 1 0 ∷ []
+
 abbrev pub remove_query : Query
-remove_query = query_of 1 (same (col 1 1) (col 0 0) ∷ same (col 1 2) (col 0 1) ∷ same (col 1 3) (col 0 2) ∷ []) (col 1 0 ∷ []) []
+remove_query = query_of 1 remove_tests remove_terms []
 
 pub remove_is : command_of (understood whole texts.remove_worth) ≡ Delete 1 (alone remove_query)
 unfolding understood everything
@@ -77,8 +89,14 @@ pub remove_plain : IsPlain (understood whole texts.remove_worth)
 unfolding understood everything
 remove_plain = (refl, refl)
 
+abbrev pub cover_tests : List Term
+cover_tests = same (col 1 0) (lit (Int (pos 1))) ∷ []
+
+abbrev pub cover_terms : List Term
+cover_terms = col 1 0 ∷ col 1 0 ∷ lit Null ∷ col 1 2 ∷ col 0 0 ∷ []
+
 abbrev pub cover_query : Query
-cover_query = query_of 3 (same (col 1 0) (lit (Int (pos 1))) ∷ []) (col 1 0 ∷ col 1 0 ∷ lit Null ∷ col 1 2 ∷ col 0 0 ∷ []) []
+cover_query = query_of 3 cover_tests cover_terms []
 
 pub cover_is : command_of (understood whole texts.cover) ≡ Update 2 (alone cover_query)
 unfolding understood everything

@@ -1,6 +1,6 @@
 -- What a statement in a transaction makes of the tables. Each says something only where the disk is clean: where it has returned
 -- what was written.
-use Rattle.std.specs.Prelude.{◌≡◌, pos, true, IsTrue, [], ◌∷◌}
+use Rattle.std.specs.Prelude.{◌≡◌, pos, true, List, fold, IsTrue, [], ◌∷◌}
 use Rattle.sqlite_trees.specs.declared.store.Store.{Ghosts}
 use Rattle.sqlite.specs.State.{State, HasCleanDisk, Shows, KeepsCommit}
 use Rattle.sqlite.specs.Held.{Held, state}
@@ -37,6 +37,25 @@ without_spot spot t = record t { worths = without (spot ∷ []) t.worths }
 -- the tables whose worths are made from so many records
 abbrev pub with_covered : RecordNo → Tables → Tables
 with_covered covered t = record t { covered = pos covered.0 }
+
+-- the tables with each of these worths put in at its spot, one after another
+abbrev pub with_worths : List SpotWorth → Tables → Tables
+with_worths rows t = record t { worths = fold put t.worths rows }
+
+-- the tables with no worth at any of these spots
+abbrev pub without_spots : List Spot → Tables → Tables
+without_spots spots t = record t { worths = without spots t.worths }
+
+-- Statements ran one after another, or none did. The transaction goes on, and the tables have the change.
+pub record Goes (change : Tables → Tables) (old new : State) : Type 0 where
+  pub was_open : IsTrue new.is_open → IsTrue old.is_open
+  pub committed : new.committed ≡ old.committed
+  pub mode : IsTrue new.in_transaction
+  pub stands : (t : Tables) → StandsFor old.now t → StandsFor new.now (change t)
+
+abbrev pub HasGone : {S : Type 0} → Ghosts S → (Tables → Tables) → Held S → Held S → Type 0
+HasGone store change old new =
+    HasCleanDisk (state store new) → IsTrue old.in_transaction → Goes change (state store old) (state store new)
 
 -- A whole transaction made the change and has committed it.
 pub record Makes (May : Tables → Type 0) (change : Tables → Tables) (old new : State) : Type 0 where
