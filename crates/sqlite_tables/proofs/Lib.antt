@@ -12,3 +12,8 @@ pub mod UpsertLaw
 pub mod DeleteLaw
 pub mod CoverLaw
 pub mod Loops
+pub mod Sorting
+pub mod ReadLaw
+pub mod LoadLaw
+pub mod RowsRead
+pub mod WorthOrder

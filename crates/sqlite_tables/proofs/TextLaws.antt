@@ -11,6 +11,7 @@ use Rattle.sqlite_sql.specs.declared.ops.CompareOp.TheVariants.{Eq}
 use Rattle.sqlite_schema.specs.declared.program.Program.{Program}
 use Rattle.sqlite_schema.specs.declared.command.Source.TheVariants.{Values}
 use Rattle.sqlite_schema.specs.declared.command.Conflict.TheVariants.{Abort}
+use Rattle.sqlite_schema.specs.declared.command.Command.{Command}
 use Rattle.sqlite_schema.specs.declared.command.Command.TheVariants.{Insert, InsertOr, Update, Delete, Select}
 use Rattle.sqlite_tied.specs.Compute.{everything}
 use Rattle.sqlite.specs.Listing.{understood, reads_listing}
@@ -106,8 +107,14 @@ pub cover_plain : IsPlain (understood whole texts.cover)
 unfolding understood everything
 cover_plain = (refl, refl)
 
+abbrev pub records_terms : List Term
+records_terms = col 1 0 ∷ col 1 2 ∷ []
+
+abbrev pub records_order : List (Term × Key)
+records_order = by_order (col 1 0) ∷ []
+
 abbrev pub records_query : Query
-records_query = query_of 0 [] (col 1 0 ∷ col 1 2 ∷ []) (by_order (col 1 0) ∷ [])
+records_query = query_of 0 [] records_terms records_order
 
 pub records_is : command_of (understood whole texts.select_records) ≡ Select (alone records_query) (codes "no" ∷ codes "body" ∷ [])
 unfolding understood everything
@@ -117,9 +124,14 @@ pub records_plain : IsPlain (understood whole texts.select_records) × (reads_li
 unfolding understood everything
 records_plain = ((refl, refl), refl)
 
+abbrev pub worths_terms : List Term
+worths_terms = col 1 1 ∷ col 1 2 ∷ col 1 3 ∷ col 1 4 ∷ col 1 5 ∷ []
+
+abbrev pub worths_order : List (Term × Key)
+worths_order = by_order (col 1 1) ∷ by_order (col 1 2) ∷ by_order (col 1 3) ∷ []
+
 abbrev pub worths_query : Query
-worths_query =
-    query_of 1 [] (col 1 1 ∷ col 1 2 ∷ col 1 3 ∷ col 1 4 ∷ col 1 5 ∷ []) (by_order (col 1 1) ∷ by_order (col 1 2) ∷ by_order (col 1 3) ∷ [])
+worths_query = query_of 1 [] worths_terms worths_order
 
 pub worths_is : command_of (understood whole texts.select_worths) ≡ Select (alone worths_query) (codes "voucher" ∷ codes "line" ∷ codes "side" ∷ codes "value" ∷ codes "share" ∷ [])
 unfolding understood everything
@@ -129,10 +141,19 @@ pub worths_plain : IsPlain (understood whole texts.select_worths) × (reads_list
 unfolding understood everything
 worths_plain = ((refl, refl), refl)
 
-abbrev pub head_query : Query
-head_query = query_of 3 [] (col 1 2 ∷ col 1 3 ∷ []) (by_order (col 1 0) ∷ [])
+abbrev pub head_terms : List Term
+head_terms = col 1 2 ∷ col 1 3 ∷ []
 
-pub head_is : command_of (understood whole texts.select_head) ≡ Select (alone head_query) (codes "version" ∷ codes "covered" ∷ [])
+abbrev pub head_order : List (Term × Key)
+head_order = by_order (col 1 0) ∷ []
+
+abbrev pub head_query : Query
+head_query = query_of 3 [] head_terms head_order
+
+abbrev pub head_command : Command
+head_command = Select (alone head_query) (codes "version" ∷ codes "covered" ∷ [])
+
+pub head_is : command_of (understood whole texts.select_head) ≡ head_command
 unfolding understood everything
 head_is = refl
 

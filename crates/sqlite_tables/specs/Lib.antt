@@ -3,3 +3,4 @@ pub mod Whole
 pub mod Rows
 pub mod Standing
 pub mod Turning
+pub mod Reading

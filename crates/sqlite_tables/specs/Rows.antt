@@ -1,5 +1,5 @@
 -- How records, worths and the head stand in rows.
-use Rattle.std.specs.Prelude.{pos, [], ◌∷◌}
+use Rattle.std.specs.Prelude.{◌≡◌, ℤ, pos, List, map, [], ◌∷◌}
 use Rattle.sqlite_value.specs.declared.value.Value.TheVariants.{Int, Blob}
 use Rattle.sqlite_value.specs.Order.{Row, column}
 use Rattle.stock_nums.specs.Places.{side_rank}
@@ -35,3 +35,32 @@ worth_cells r = column r 1 ∷ column r 2 ∷ column r 3 ∷ column r 4 ∷ colu
 
 abbrev pub head_cells : Row → Row
 head_cells r = column r 0 ∷ column r 2 ∷ column r 3 ∷ []
+
+-- A row that a query shows is that of a record, and of a worth, in its first columns.
+abbrev pub IsRecordOf : Row → StoredRecord → Type 0
+IsRecordOf row r = (column row 0 ≡ Int r.number) × (column row 1 ≡ Blob r.body)
+
+pub record IsWorthOf (row : Row) (w : SpotWorth) : Type 0 where
+  pub voucher : column row 0 ≡ Int (pos w.spot.voucher.0)
+  pub line : column row 1 ≡ Int (pos w.spot.line)
+  pub side : column row 2 ≡ Int (pos (side_rank w.spot.side))
+  pub value : column row 3 ≡ Int w.worth.value.0
+  pub share : column row 4 ≡ Int w.worth.share.0
+
+-- it has the version and then how many records are covered
+abbrev pub IsHeadOf : Row → ℤ → ℤ → Type 0
+IsHeadOf row version covered = (column row 0 ≡ Int version) × (column row 1 ≡ Int covered)
+
+-- the columns of a row that a record is read from, and a worth
+abbrev pub record_columns : Row → Row
+record_columns row = column row 0 ∷ column row 1 ∷ []
+
+abbrev pub worth_columns : Row → Row
+worth_columns row = column row 0 ∷ column row 1 ∷ column row 2 ∷ column row 3 ∷ column row 4 ∷ []
+
+-- these are the records of all the rows, in order, and these the worths
+abbrev pub AreRecordsOf : List Row → List StoredRecord → Type 0
+AreRecordsOf rows records = map record_row records ≡ map record_columns rows
+
+abbrev pub AreWorthsOf : List Row → List SpotWorth → Type 0
+AreWorthsOf rows worths = map worth_row worths ≡ map worth_columns rows

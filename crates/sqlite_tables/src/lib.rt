@@ -1,5 +1,7 @@
 //! The ledger's tables in a database of SQLite, and what each statement makes of them.
 #![tactic(auto)]
 
+mod parsing;
+pub mod reading;
 mod statements;
 pub mod writing;
