@@ -17,3 +17,4 @@ pub mod ReadLaw
 pub mod LoadLaw
 pub mod RowsRead
 pub mod WorthOrder
+pub mod MakeLaw

@@ -4,8 +4,10 @@ use Rattle.sqlite_value.specs.Order.{Row}
 use Rattle.sqlite_trees.specs.declared.store.Store.{Ghosts}
 use Rattle.sqlite.specs.State.{HasCleanDisk, Executes, ExecutesInside}
 use Rattle.sqlite.specs.Held.{Held, state}
+use Rattle.sqlite.specs.Effect.{Database}
 use Rattle.sqlite.specs.declared.error.Error.{Error}
 use Rattle.stock_keeper.specs.declared.tables.Tables.{Tables}
+use Rattle.sqlite_tables.specs.Making.{HasLed}
 use Rattle.sqlite_tables.specs.Standing.{StandsFor}
 use Rattle.sqlite_tables.specs.Turning.{HasTurned}
 
@@ -22,3 +24,13 @@ has_turned store May change text params old new (Err e) runs law = tt
 has_turned store May change text params old new (Ok count) runs law = λ clean inside.
     let ran = runs clean inside in
     record { shows = ran.1; stands = law count ran.0 }
+
+-- the same of one that makes a table
+pub has_led : {S : Type 0} (store : Ghosts S) (From To : Database → Type 0) (text : List ℕ) (params : Row) (old new : Held S) (result : Result ℕ Error)
+    → HasRun store text params old new result
+    → ((count : ℕ) → Executes text params (state store old) (state store new) (Ok count) → From (state store old).now → To (state store new).now)
+    → OnOk result (HasLed store From To old new)
+has_led store From To text params old new (Err e) runs law = tt
+has_led store From To text params old new (Ok count) runs law = λ clean inside.
+    let ran = runs clean inside in
+    record { shows = ran.1; leads = law count ran.0 }

@@ -4,3 +4,4 @@ pub mod Rows
 pub mod Standing
 pub mod Turning
 pub mod Reading
+pub mod Making
