@@ -26,6 +26,7 @@ const HEADS: [&str; 3] = [
 /// Ten units of A on the second day, as record 4, of which three are sold on the third.
 const RECEIPT: &str =
     r#"{"do":"receipt","at":"2026-01-02T09:00:00","lines":[{"item":"A","store":"W1","qty":10,"amount":1000}]}"#;
+
 const SALE: &str =
     r#"{"do":"issue","at":"2026-01-03T09:00:00","use":"sold","lines":[{"item":"A","store":"W1","qty":3}]}"#;
 
@@ -35,6 +36,7 @@ const CANCEL: &str = r#"{"do":"cancel","record":5}"#;
 /// One more unit of A than one line can take out, from two lines.
 const MOST: &str =
     r#"{"do":"receipt","at":"2026-01-02T09:00:00","lines":[{"item":"A","store":"W1","qty":1000000000,"amount":0}]}"#;
+
 const ONE: &str =
     r#"{"do":"receipt","at":"2026-01-02T09:00:00","lines":[{"item":"A","store":"W1","qty":1,"amount":0}]}"#;
 
@@ -141,24 +143,50 @@ const THREE_MORE: &str =
 
 #[test]
 fn receives_a_surplus_alone(rt: HostRuntime) {
-    assert!(rt; comes_to(rt.alloc(), &[RECEIPT, SALE], THREE_FIRST, &[3], ["", THREE_MORE]));
+    assert!(rt;
+        comes_to(
+            rt.alloc(),
+            &[RECEIPT, SALE],
+            THREE_FIRST,
+            &[3],
+            ["", THREE_MORE]
+        )
+    );
 }
 
 /// Eight of A at the moment of the sale, which counts, a second before it, and at that of the receipt.
 const EIGHT_AT_SALE: &str =
     "voucher,do,at,item,store,to,qty,amount\nc1,count,2026-01-03T09:00:00,A,W1,,8,\n";
+
 const EIGHT_BEFORE: &str =
     "voucher,do,at,item,store,to,qty,amount\nc1,count,2026-01-03T08:59:59,A,W1,,8,\n";
 
 const ONE_MORE: &str =
     r#"{"at":"2026-01-03T09:00:00","desk":0,"do":"receipt","lines":[{"amount":0,"item":"A","qty":1,"store":"W1"}]}"#;
+
 const TWO_LESS: &str =
     r#"{"at":"2026-01-03T08:59:59","desk":0,"do":"issue","lines":[{"item":"A","qty":2,"store":"W1"}],"use":"used"}"#;
 
 #[test]
 fn looks_at_its_moment(rt: HostRuntime) {
-    assert!(rt; comes_to(rt.alloc(), &[RECEIPT, SALE], EIGHT_AT_SALE, &[1], ["", ONE_MORE]));
-    assert!(rt; comes_to(rt.alloc(), &[RECEIPT, SALE], EIGHT_BEFORE, &[-2], [TWO_LESS, ""]));
+    assert!(rt;
+        comes_to(
+            rt.alloc(),
+            &[RECEIPT, SALE],
+            EIGHT_AT_SALE,
+            &[1],
+            ["", ONE_MORE]
+        )
+    );
+    assert!(rt;
+        comes_to(
+            rt.alloc(),
+            &[RECEIPT, SALE],
+            EIGHT_BEFORE,
+            &[-2],
+            [TWO_LESS, ""]
+        )
+    );
 }
 
 /// Ten of A at the moment of the sale.
@@ -167,12 +195,21 @@ const TEN_AT_SALE: &str =
 
 #[test]
 fn leaves_out_what_is_taken_back(rt: HostRuntime) {
-    assert!(rt; comes_to(rt.alloc(), &[RECEIPT, SALE, CANCEL], TEN_AT_SALE, &[0], ["", ""]));
+    assert!(rt;
+        comes_to(
+            rt.alloc(),
+            &[RECEIPT, SALE, CANCEL],
+            TEN_AT_SALE,
+            &[0],
+            ["", ""]
+        )
+    );
 }
 
 /// An item and a warehouse that there are not, of which none were counted, or five.
 const NONE_OF_UNKNOWN: &str =
     "voucher,do,at,item,store,to,qty,amount\nc1,count,2026-01-04T09:00:00,C,W1,,0,\nc1,count,2026-01-04T09:00:00,A,W9,,0,\n";
+
 const FIVE_OF_UNKNOWN: &str =
     "voucher,do,at,item,store,to,qty,amount\nc1,count,2026-01-04T09:00:00,C,W1,,5,\n";
 
@@ -182,7 +219,15 @@ const FIVE_MORE: &str =
 #[test]
 fn holds_nothing_of_what_is_unknown(rt: HostRuntime) {
     assert!(rt; comes_to(rt.alloc(), &[RECEIPT], NONE_OF_UNKNOWN, &[0, 0], ["", ""]));
-    assert!(rt; comes_to(rt.alloc(), &[RECEIPT], FIVE_OF_UNKNOWN, &[5], ["", FIVE_MORE]));
+    assert!(rt;
+        comes_to(
+            rt.alloc(),
+            &[RECEIPT],
+            FIVE_OF_UNKNOWN,
+            &[5],
+            ["", FIVE_MORE]
+        )
+    );
 }
 
 /// Two of B, and none of A.
