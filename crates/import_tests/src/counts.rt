@@ -1,7 +1,7 @@
 //! A count of stock comes to the vouchers that correct what was held at its moment.
 
-ghost use Rattle.std.specs.Prelude.{IfSome};
-ghost use Rattle.stock_count.specs.Plans.{IsWithinLimits};
+ghost use Rattle.std.specs.Prelude.{IfOk, IfSome};
+ghost use Rattle.stock_count.specs.Plans.{AreWithinLimits, IsWithinLimits};
 
 use crate::records::record;
 use std::alloc::Global;
@@ -63,7 +63,9 @@ fn keep(alloc: Global, journal: &mut Journal, line: &str) -> Option<()> {
 }
 
 // What the only count of a sheet with these rows comes to in this journal.
-fn planned(alloc: Global, journal: &Journal, rows: &str) -> Option<Result<CountPlan, CountFault>> {
+fn planned(alloc: Global, journal: &Journal, rows: &str) -> Option<Result<CountPlan, CountFault>>
+    ensures { IfSome result (λ outcome. IfOk outcome AreWithinLimits) }
+{
     if rows.len() > 10_000 {
         return None;
     }
@@ -91,6 +93,20 @@ fn is_said_so(alloc: Global, what: Option<What>, text: &str) -> bool
     }
 }
 
+// Whether the plan has these differences, and vouchers with these texts.
+fn is_so(alloc: Global, plan: CountPlan, diffs: &[i64], issue: &str, receipt: &str) -> bool
+    requires { AreWithinLimits plan }
+{
+    let CountPlan {
+        diffs: found,
+        issue: issued,
+        receipt: received,
+    } = plan;
+    found.as_slice() == diffs
+        && is_said_so(alloc, issued, issue)
+        && is_said_so(alloc, received, receipt)
+}
+
 // Whether the count comes to these differences and to vouchers with these texts, the second empty where there is none.
 fn comes_to(alloc: Global, lines: &[&str], rows: &str, diffs: &[i64], texts: [&str; 2]) -> bool {
     let Some(journal) = journal_of(alloc, lines) else {
@@ -98,11 +114,7 @@ fn comes_to(alloc: Global, lines: &[&str], rows: &str, diffs: &[i64], texts: [&s
     };
     let [issue, receipt] = texts;
     match planned(alloc, &journal, rows) {
-        Some(Ok(plan)) => {
-            plan.diffs.as_slice() == diffs
-                && is_said_so(alloc, plan.issue, issue)
-                && is_said_so(alloc, plan.receipt, receipt)
-        }
+        Some(Ok(plan)) => is_so(alloc, plan, diffs, issue, receipt),
         _ => false,
     }
 }
