@@ -18,3 +18,5 @@ pub mod LoadLaw
 pub mod RowsRead
 pub mod WorthOrder
 pub mod MakeLaw
+pub mod Telling
+pub mod StoredLaw

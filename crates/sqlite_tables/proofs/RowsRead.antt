@@ -13,7 +13,7 @@ record_same a b h =
     let body : a.body ≡ b.body = cc in
     λ i. record { number = number i; body = body i }
 
-records_same : (xs ys : List StoredRecord) → map record_row xs ≡ map record_row ys → xs ≡ ys
+pub records_same : (xs ys : List StoredRecord) → map record_row xs ≡ map record_row ys → xs ≡ ys
 records_same [] [] h = refl
 records_same [] (y ∷ ys) h = absurd cc
 records_same (x ∷ xs) [] h = absurd cc
@@ -23,7 +23,7 @@ records_same (x ∷ xs) (y ∷ ys) h =
     let tail = records_same xs ys (cc) in
     λ i. head i ∷ tail i
 
-worth_same : (a b : SpotWorth) → worth_row a ≡ worth_row b → a ≡ b
+pub worth_same : (a b : SpotWorth) → worth_row a ≡ worth_row b → a ≡ b
 worth_same a b h =
     let spots : spot_row a.spot ≡ spot_row b.spot = cc in
     let spot = spot_row-same a.spot b.spot spots in
@@ -31,7 +31,7 @@ worth_same a b h =
     let share : a.worth.share.0 ≡ b.worth.share.0 = cc in
     λ i. record { spot = spot i; worth = record { value = record { 0 = value i }; share = record { 0 = share i } } }
 
-worths_same : (xs ys : List SpotWorth) → map worth_row xs ≡ map worth_row ys → xs ≡ ys
+pub worths_same : (xs ys : List SpotWorth) → map worth_row xs ≡ map worth_row ys → xs ≡ ys
 worths_same [] [] h = refl
 worths_same [] (y ∷ ys) h = absurd cc
 worths_same (x ∷ xs) [] h = absurd cc

@@ -20,7 +20,7 @@ use Rattle.sqlite_sql.proofs.QueryLemmas.{output_cmp_total}
 use Rattle.sqlite_rules.specs.Lists.{Has}
 use Rattle.sqlite.specs.Effect.{Database, Answers}
 use Rattle.stock_nums.specs.Places.{first_by, side_rank}
-use Rattle.stock_keeper.specs.Worths.{IsBefore}
+use Rattle.stock_keeper.specs.Worths.{IsBefore, AreInOrder}
 use Rattle.stock_keeper.specs.declared.changes.SpotWorth.{SpotWorth}
 use Rattle.stock_keeper.specs.declared.tables.Tables.{Tables}
 use Rattle.stock_keeper.proofs.Pairs.{Precedes, Pairwise, Pairwise-from_AllPairs}
@@ -38,14 +38,14 @@ use Rattle.sqlite_tables.proofs.WorthLaw.{spot_of_cells}
 abbrev row_output : Row → Output
 row_output r = (spot_cells r, worth_cells r)
 
-abbrev worth_output : SpotWorth → Output
+abbrev pub worth_output : SpotWorth → Output
 worth_output w = (spot_row w.spot, worth_row w)
 
 out_rows : (rows : List Row) → map (output worths_query) (map (λ (r : Row). [] ∷ r ∷ []) rows) ≡ map row_output rows
 out_rows [] = refl
 out_rows (r ∷ rows) = ap (λ l. row_output r ∷ l) (out_rows rows)
 
-out_worths : (ws : List SpotWorth) → map (λ (o : Output). o.1) (map worth_output ws) ≡ map worth_row ws
+pub out_worths : (ws : List SpotWorth) → map (λ (o : Output). o.1) (map worth_output ws) ≡ map worth_row ws
 out_worths [] = refl
 out_worths (w ∷ ws) = ap (λ l. worth_row w ∷ l) (out_worths ws)
 
@@ -79,6 +79,9 @@ worths_rise (w ∷ ws) order = (each ws order.0, worths_rise ws order.1)
     each : (vs : List SpotWorth) → Precedes IsBefore w vs → AllByRecursion (λ o. output_cmp worths_query (worth_output w) o ≡ Less) (map worth_output vs)
     each [] all = tt
     each (v ∷ vs) all = (spots_rise w v all.0, each vs all.1)
+
+pub ordered_rise : (ws : List SpotWorth) → AreInOrder ws → IsStrictlySortedBy (output_cmp worths_query) (map worth_output ws)
+ordered_rise ws order = worths_rise ws (Pairwise-from_AllPairs IsBefore ws order)
 
 -- ---- rows of different spots do not tie
 
@@ -150,7 +153,7 @@ worths_shown db t rows stands answers =
     let same = subst (λ l. IsPermutation l it.ordered) out it.same in
     let apart = rows_apart all t.worths stands.worths all (λ r h. h) stands.worths.rises in
     let ordered : it.ordered ≡ wanted = same_members total it.ordered wanted (sorted_rises total outs it.ordered apart same it.sorted)
-    (worths_rise t.worths (Pairwise-from_AllPairs IsBefore t.worths stands.worths.in_order))
+    (ordered_rise t.worths stands.worths.in_order)
     (λ v h. rows_into all t.worths stands.worths v (has_permutation it.ordered outs v (IsPermutation-sym outs it.ordered same) h))
     (λ v h. has_permutation outs it.ordered v same (worths_into all t.worths stands.worths v h)) in
     it.shown ∙ ap (map (λ (o : Output). o.1)) ordered ∙ out_worths t.worths

@@ -2,6 +2,8 @@ pub mod Texts
 pub mod Whole
 pub mod Rows
 pub mod Standing
+pub mod Lasting
+pub mod Stored
 pub mod Turning
 pub mod Reading
 pub mod Making

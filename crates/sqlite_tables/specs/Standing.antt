@@ -37,6 +37,10 @@ pub record Tells {S : Type 0} (store : Ghosts S) (conn : Held S) (t : Tables) : 
   pub stands : StandsFor (state store conn).now t
   pub committed : (state store conn).committed ≡ (state store conn).now
 
+-- it tells some, unless the disk lied or the connection is shut
+abbrev pub IsTelling : {S : Type 0} → Ghosts S → Held S → Type 0
+IsTelling store conn = HasCleanDisk (state store conn) → IsTrue (state store conn).is_open → (t : Tables) × Tells store conn t
+
 -- a crash now may leave these tables
 pub record MayLeave {S : Type 0} (store : Ghosts S) (conn : Held S) (t : Tables) : Type 0 where
   pub clean : HasCleanDisk (state store conn)

@@ -5,4 +5,5 @@ pub mod making;
 mod parsing;
 pub mod reading;
 mod statements;
+pub mod stored_tables;
 pub mod writing;

@@ -1,0 +1,63 @@
+-- What calls on stored tables make of what they tell.
+use Rattle.std.proofs.Common.{◌≡◌, ◌⊎◌, Bool, false, Result, Ok, Err, IsTrue, OnOk, OnErr, IfOk, inl, inr}
+use Rattle.std.proofs.lemmas.Result.{on_ok_weaker, on_err_weaker}
+use Rattle.sqlite_trees.specs.declared.store.Store.{Ghosts}
+use Rattle.sqlite_trees.specs.Tree.{Trees}
+use Rattle.sqlite.specs.State.{Survives}
+use Rattle.sqlite.specs.Held.{Held, state}
+use Rattle.stock_keeper.specs.Keeping.{Within, Makes, MayMake}
+use Rattle.stock_keeper.specs.declared.tables.Tables.{Tables}
+use Rattle.sqlite_tables.specs.Reading.{HasRead}
+use Rattle.sqlite_tables.specs.Stored.{Base, IsSettled, TellsTables, MayLeaveTables}
+use Rattle.sqlite_tables.specs.Turning.{HasMade, HasUndone, IsTried}
+use Rattle.sqlite_tables.proofs.Telling.{makes_telling, makes_told, tried_left, undone_telling, undone_told, read_told, quiet_left, left_told}
+
+abbrev pub base : {S : Type 0} → Held S → Bool → Base S
+base conn ready = record { conn = conn; ready = ready }
+
+module _ {S : Type 0} (store : Ghosts S) (old new : Held S) (ready : Bool) (settled : IsSettled store old ready) where
+  module _ {E : Type 0} (May : Tables → Type 0) (change : Tables → Tables) (may : (t : Tables) → TellsTables store (base old ready) t → May t)
+      (survives : Survives (state store old) (state store new) (IsTried May change (state store old))) (r : Result (Unit {0}) E) (made : OnOk r (HasMade store May change old new)) where
+    pub changed_made : OnOk r (Makes change (TellsTables store (base old ready)) (TellsTables store (base new ready)))
+    changed_made =
+        on_ok_weaker r (λ m t told. let it = makes_told store old new (settled.telling told.0) May change (λ s h. may s (told.0, h)) _ survives m t told.1 in (it.0, (told.0, it.1), it.2)) made
+
+    pub changed_crash : OnErr r (MayMake change (TellsTables store (base old ready)) (MayLeaveTables store (base old ready)) (MayLeaveTables store (base new ready)))
+    changed_crash = always r (λ t left. elim (tried_left store old new (settled.telling left.0) May change (λ s h. may s (left.0, h)) survives t left.1) [
+      | inl before ↦ inl (left.0, before)
+      | inr it ↦ inr (it.0, (left.0, it.1), it.2)
+    ])
+      where
+        always : {P : Type 0} (r : Result (Unit {0}) E) → P → OnErr r P
+        always (Ok _) p = tt
+        always (Err _) p = p
+
+    pub changed_durable : ((s : S) (db : Trees) → IsTrue (store.view s).is_open → store.recovers s db → db ≡ (store.view s).committed)
+        → OnOk r (Within (TellsTables store (base new ready)) (MayLeaveTables store (base new ready)))
+    changed_durable last =
+        on_ok_weaker r (λ m t left. (left.0, left_told store last new (makes_telling store old new (settled.telling left.0) May change (λ s h. may s (left.0, h)) _ survives m) (m left.1.clean).is_open t left.1)) made
+
+    module _ (undone : OnErr r (HasUndone store old new)) where
+      pub changed_kept : OnErr r (Within (TellsTables store (base old ready)) (TellsTables store (base new ready)))
+      changed_kept = on_err_weaker r (λ u t told. (told.0, undone_told store old new (settled.telling told.0) _ survives u t told.1)) undone
+
+      pub changed_settled : new.in_transaction ≡ false → IsSettled store new ready
+      changed_settled ended = record { settled = ended; telling = λ is_ready. by r made undone is_ready }
+        where
+          by : (r : Result (Unit {0}) E) → OnOk r (HasMade store May change old new) → OnErr r (HasUndone store old new) → IsTrue ready → Rattle.sqlite_tables.specs.Standing.IsTelling store new
+          by (Ok _) m u is_ready = makes_telling store old new (settled.telling is_ready) May change (λ s h. may s (is_ready, h)) _ survives m
+          by (Err _) m u is_ready = undone_telling store old new (settled.telling is_ready) _ survives u
+
+  module _ (survives : Survives (state store old) (state store new) (λ _. ⊥)) (undone : HasUndone store old new) where
+    pub loaded_tables : {E : Type 0} (r : Result Tables E) → IfOk r (HasRead store old new) → IfOk r (λ copy. (t : Tables) → TellsTables store (base new ready) t → copy ≡ t)
+    loaded_tables (Ok copy) read = λ t told. read_told store old new (settled.telling told.0) _ survives undone copy read t told.1
+    loaded_tables (Err e) read = tt
+
+    pub loaded_kept : Within (TellsTables store (base old ready)) (TellsTables store (base new ready))
+    loaded_kept t told = (told.0, undone_told store old new (settled.telling told.0) _ survives undone t told.1)
+
+    pub loaded_crash : Within (MayLeaveTables store (base old ready)) (MayLeaveTables store (base new ready))
+    loaded_crash t left = (left.0, quiet_left store old new survives t left.1)
+
+    pub loaded_settled : new.in_transaction ≡ false → IsSettled store new ready
+    loaded_settled ended = record { settled = ended; telling = λ is_ready. undone_telling store old new (settled.telling is_ready) _ survives undone }

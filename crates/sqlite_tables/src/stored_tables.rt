@@ -1,0 +1,84 @@
+//! Tables in a database, which are told: what a keeper over a database needs to say of them.
+ghost use Rattle.std.specs.Prelude.{◌≡◌, OnOk, OnErr, IfOk};
+ghost use Rattle.stock_keeper.specs.Changed.{appended, published, Follows};
+ghost use Rattle.stock_keeper.specs.Keeping.{Within, Makes, MayMake};
+ghost use Rattle.stock_keeper.specs.Worths.{AreInOrder};
+ghost use Rattle.stock_keeper.specs.declared.tables.Tables.{Tables};
+ghost use Rattle.sqlite_tables.specs.Stored.{TellsTables, MayLeaveTables};
+
+use crate::{reading, writing};
+use sqlite::{Alter, Connection, Error};
+use std::alloc::Global;
+use std::marker::Model;
+use stock_keeper::changes::Changes;
+use stock_keeper::tables::Tables;
+use stock_nums::numbers::RecordNo;
+
+/// A connection to a database with the tables of a ledger. It tells them where it is known for which tables the database stands:
+/// where it made them itself.
+#[derive(Drop)]
+pub struct StoredTables<S: Alter> {
+    conn: Connection<S>,
+    ready: bool,
+}
+
+impl<S: Alter> Model for StoredTables<S> {
+    ghost use Rattle.sqlite_tables.specs.Stored.{Base, base_code, IsSettled};
+
+    ghost Value = { Base S };
+
+    ghost coded = { base_code S.code };
+
+    ghost view = { λ s. record { conn = s.conn; ready = s.ready } };
+
+    ghost invariant = { λ s. IsSettled S.Store s.conn s.ready };
+}
+
+impl<S: Alter> StoredTables<S> {
+    /// Adds a record.
+    ///
+    /// # Errors
+    ///
+    /// Those of the database. The tables are as they were, but a crash may leave them with this record.
+    pub fn append(&mut self, number: RecordNo, body: &[u8]) -> Result<(), Error>
+        requires { (t : Tables) → TellsTables S.Store self.old t → Follows t number }
+        ensures made { OnOk result (Makes (appended number body.now) (TellsTables S.Store self.old) (TellsTables S.Store self.new)) }
+        ensures durable { OnOk result (Within (TellsTables S.Store self.new) (MayLeaveTables S.Store self.new)) }
+        ensures tables_kept { OnErr result (Within (TellsTables S.Store self.old) (TellsTables S.Store self.new)) }
+        ensures crash { OnErr result (MayMake (appended number body.now) (TellsTables S.Store self.old) (MayLeaveTables S.Store self.old)
+            (MayLeaveTables S.Store self.new)) }
+    {
+        writing::append(&mut self.conn, number, body)
+    }
+
+    /// Changes the worths, and says from how many records they are made now.
+    ///
+    /// # Errors
+    ///
+    /// Those of the database. The tables are as they were, but a crash may leave them with all of these changes.
+    pub fn publish(&mut self, covered: RecordNo, changes: &Changes) -> Result<(), Error>
+        ensures made { OnOk result (Makes (published covered changes.now) (TellsTables S.Store self.old) (TellsTables S.Store self.new)) }
+        ensures durable { OnOk result (Within (TellsTables S.Store self.new) (MayLeaveTables S.Store self.new)) }
+        ensures tables_kept { OnErr result (Within (TellsTables S.Store self.old) (TellsTables S.Store self.new)) }
+        ensures crash { OnErr result (MayMake (published covered changes.now) (TellsTables S.Store self.old) (MayLeaveTables S.Store self.old)
+            (MayLeaveTables S.Store self.new)) }
+    {
+        writing::publish(&mut self.conn, covered, changes)
+    }
+
+    /// A copy of the tables. They stay as they are. Where they are told after it, they are what was copied.
+    ///
+    /// # Errors
+    ///
+    /// `QueryReturnedNoRows` where the head has no row. `IntegralValueOutOfRange` where a number of a worth is
+    /// none that its field can have. `DatabaseCorrupt` where the worths come out of order, or two at one spot. All
+    /// others are those of the database.
+    pub fn load(&mut self, alloc: Global) -> Result<Tables, Error>
+        ensures tables { IfOk result (λ copy. (t : Tables) → TellsTables S.Store self.new t → copy ≡ t) }
+        ensures in_order { IfOk result (λ copy. AreInOrder copy.worths) }
+        ensures tables_kept { Within (TellsTables S.Store self.old) (TellsTables S.Store self.new) }
+        ensures crash { Within (MayLeaveTables S.Store self.old) (MayLeaveTables S.Store self.new) }
+    {
+        reading::load(alloc, &mut self.conn)
+    }
+}
