@@ -1,5 +1,5 @@
 -- What calls on stored tables make of what they tell.
-use Rattle.std.proofs.Common.{◌≡◌, ◌⊎◌, Bool, false, Result, Ok, Err, IsTrue, OnOk, OnErr, IfOk, inl, inr}
+use Rattle.std.proofs.Common.{◌≡◌, Bool, false, Result, Ok, Err, IsTrue, OnOk, OnErr, IfOk, inl, inr}
 use Rattle.std.proofs.lemmas.Result.{on_ok_weaker, on_err_weaker}
 use Rattle.sqlite_trees.specs.declared.store.Store.{Ghosts}
 use Rattle.sqlite_trees.specs.Tree.{Trees}

@@ -1,6 +1,5 @@
 -- What a keeper over a connection tells: the steps from what the transactions ensure to what the trait of keepers asks.
-use Rattle.std.proofs.Common.{◌≡◌, ◌⊎◌, ℤ, pos, List, [], ◌∷◌, map, IsTrue, refl, sym, ap, ◌∙◌, subst, inl, inr, arith}
-use Rattle.sqlite_value.specs.declared.value.Value.TheVariants.{Int}
+use Rattle.std.proofs.Common.{◌≡◌, ◌⊎◌, List, map, IsTrue, sym, ap, ◌∙◌, subst, inl, inr, arith}
 use Rattle.sqlite_value.specs.Order.{Row}
 use Rattle.sqlite_trees.specs.declared.store.Store.{Ghosts}
 use Rattle.sqlite_trees.specs.Tree.{Trees}
@@ -13,7 +12,6 @@ use Rattle.stock_keeper.specs.declared.changes.SpotWorth.{SpotWorth}
 use Rattle.stock_keeper.specs.declared.tables.Tables.{Tables}
 use Rattle.sqlite_tables.specs.Lasting.{restood}
 use Rattle.sqlite_tables.specs.Reading.{HasRead}
-use Rattle.sqlite_tables.specs.Rows.{worth_row, worth_cells}
 use Rattle.sqlite_tables.specs.Standing.{HoldsWorths, StandsFor, Tells, IsTelling, MayLeave}
 use Rattle.sqlite_tables.specs.Turning.{HasMade, HasUndone, IsTried}
 use Rattle.sqlite_tables.specs.Whole.{whole}

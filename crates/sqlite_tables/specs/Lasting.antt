@@ -1,8 +1,7 @@
 -- A crash may leave what a connection tells.
-use Rattle.std.specs.Prelude.{◌≡◌, IsTrue, refl}
+use Rattle.std.specs.Prelude.{IsTrue, refl}
 use Rattle.std.proofs.Math.Path.{sym, subst}
 use Rattle.sqlite_trees.specs.declared.store.Store.{Ghosts}
-use Rattle.sqlite_trees.specs.Tree.{Trees}
 use Rattle.sqlite.specs.Effect.{Database}
 use Rattle.sqlite.specs.Held.{Held, state}
 use Rattle.stock_keeper.specs.declared.tables.Tables.{Tables}

@@ -1,5 +1,5 @@
 //! Tables in a database, which are told: what a keeper over a database needs to say of them.
-ghost use Rattle.std.specs.Prelude.{◌≡◌, OnOk, OnErr, IfOk};
+ghost use Rattle.std.specs.Prelude.{◌≡◌, false, OnOk, OnErr, IfOk};
 ghost use Rattle.stock_keeper.specs.Changed.{appended, published, Follows};
 ghost use Rattle.stock_keeper.specs.Keeping.{Within, Makes, MayMake};
 ghost use Rattle.stock_keeper.specs.Worths.{AreInOrder};
@@ -35,6 +35,22 @@ impl<S: Alter> Model for StoredTables<S> {
 }
 
 impl<S: Alter> StoredTables<S> {
+    /// What stands behind this connection. It tells nothing yet.
+    pub fn over(conn: Connection<S>) -> StoredTables<S>
+        requires { conn.in_transaction ≡ false }
+        ensures { result ≡ record { conn = conn; ready = false } }
+    {
+        StoredTables { conn, ready: false }
+    }
+
+    /// The connection, for good.
+    pub fn into_connection(self) -> Connection<S>
+        ensures same { result ≡ self.conn }
+        ensures ended { result.in_transaction ≡ false }
+    {
+        self.conn
+    }
+
     /// Adds a record.
     ///
     /// # Errors

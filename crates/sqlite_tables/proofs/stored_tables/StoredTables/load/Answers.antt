@@ -1,4 +1,4 @@
-use Rattle.std.proofs.Common.{IfOk, subst}
+use Rattle.std.proofs.Common.{subst}
 use Rattle.stock_keeper.specs.Keeping.{Within}
 use Rattle.sqlite_tables.specs.Stored.{TellsTables, MayLeaveTables}
 use Rattle.sqlite_tables.proofs.StoredLaw.{base, loaded_tables, loaded_kept, loaded_crash, loaded_settled}
