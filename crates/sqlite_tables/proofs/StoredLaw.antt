@@ -1,5 +1,5 @@
 -- What calls on stored tables make of what they tell.
-use Rattle.std.proofs.Common.{◌≡◌, Bool, false, Result, Ok, Err, IsTrue, OnOk, OnErr, IfOk, inl, inr}
+use Rattle.std.proofs.Common.{◌≡◌, Bool, true, false, Result, Ok, Err, IsTrue, OnOk, OnErr, IfOk, inl, inr}
 use Rattle.std.proofs.lemmas.Result.{on_ok_weaker, on_err_weaker}
 use Rattle.sqlite_trees.specs.declared.store.Store.{Ghosts}
 use Rattle.sqlite_trees.specs.Tree.{Trees}
@@ -7,10 +7,13 @@ use Rattle.sqlite.specs.State.{Survives}
 use Rattle.sqlite.specs.Held.{Held, state}
 use Rattle.stock_keeper.specs.Keeping.{Within, Makes, MayMake}
 use Rattle.stock_keeper.specs.declared.tables.Tables.{Tables}
+use Rattle.stock_keeper.specs.Changed.{new_tables}
+use Rattle.sqlite_tables.specs.Making.{HasMadeTables, IsBlank}
+use Rattle.sqlite_tables.specs.Standing.{IsTelling}
 use Rattle.sqlite_tables.specs.Reading.{HasRead}
 use Rattle.sqlite_tables.specs.Stored.{Base, IsSettled, TellsTables, MayLeaveTables}
 use Rattle.sqlite_tables.specs.Turning.{HasMade, HasUndone, IsTried}
-use Rattle.sqlite_tables.proofs.Telling.{makes_telling, makes_told, tried_left, undone_telling, undone_told, read_told, quiet_left, left_told}
+use Rattle.sqlite_tables.proofs.Telling.{stands_alone, makes_telling, makes_told, tried_left, undone_telling, undone_told, read_told, quiet_left, left_told}
 
 abbrev pub base : {S : Type 0} → Held S → Bool → Base S
 base conn ready = record { conn = conn; ready = ready }
@@ -61,3 +64,20 @@ module _ {S : Type 0} (store : Ghosts S) (old new : Held S) (ready : Bool) (sett
 
     pub loaded_settled : new.in_transaction ≡ false → IsSettled store new ready
     loaded_settled ended = record { settled = ended; telling = λ is_ready. undone_telling store old new (settled.telling is_ready) _ survives undone }
+
+module _ {S : Type 0} (store : Ghosts S) (old new : Held S) (made : HasMadeTables store old new) (blank : IsBlank (state store old).now) where
+  -- tables that were made are told
+  pub new_telling : IsTelling store new
+  new_telling clean is_open =
+      let it = made clean in
+      (new_tables, record { clean = clean; is_open = is_open; stands = it.stands blank; committed = it.committed })
+
+  pub new_settled : new.in_transaction ≡ false → IsSettled store new true
+  new_settled ended = record { settled = ended; telling = λ ready. new_telling }
+
+  pub new_made : Within (λ t. t ≡ new_tables) (TellsTables store (base new true))
+  new_made t told = stands_alone (state store new).now t new_tables told.1.stands ((made told.1.clean).stands blank)
+
+  pub new_durable : ((s : S) (db : Trees) → IsTrue (store.view s).is_open → store.recovers s db → db ≡ (store.view s).committed)
+      → Within (TellsTables store (base new true)) (MayLeaveTables store (base new true))
+  new_durable last t left = (left.0, left_told store last new new_telling (made left.1.clean).is_open t left.1)

@@ -1,12 +1,14 @@
 //! Tables in a database, which are told: what a keeper over a database needs to say of them.
-ghost use Rattle.std.specs.Prelude.{◌≡◌, false, OnOk, OnErr, IfOk};
-ghost use Rattle.stock_keeper.specs.Changed.{appended, published, Follows};
+ghost use Rattle.std.specs.Prelude.{◌≡◌, false, IsTrue, OnOk, OnErr, IfOk, IfErr};
+ghost use Rattle.stock_keeper.specs.Changed.{new_tables, appended, published, Follows};
 ghost use Rattle.stock_keeper.specs.Keeping.{Within, Makes, MayMake};
 ghost use Rattle.stock_keeper.specs.Worths.{AreInOrder};
 ghost use Rattle.stock_keeper.specs.declared.tables.Tables.{Tables};
+ghost use Rattle.sqlite.specs.Held.{state};
+ghost use Rattle.sqlite_tables.specs.Making.{IsBlank};
 ghost use Rattle.sqlite_tables.specs.Stored.{TellsTables, MayLeaveTables};
 
-use crate::{reading, writing};
+use crate::{making, reading, writing};
 use sqlite::{Alter, Connection, Error};
 use std::alloc::Global;
 use std::marker::Model;
@@ -49,6 +51,25 @@ impl<S: Alter> StoredTables<S> {
         ensures ended { result.in_transaction ≡ false }
     {
         self.conn
+    }
+
+    /// The tables that are made in a database with nothing in it, in one transaction. They are told from then on.
+    ///
+    /// # Errors
+    ///
+    /// Those of the database, which is given back: there are no tables then, but a crash may leave them all.
+    pub fn make(mut conn: Connection<S>) -> Result<StoredTables<S>, (Error, Connection<S>)>
+        requires settled { conn.in_transaction ≡ false }
+        requires blank { IsBlank (state S.Store conn).now }
+        ensures made { IfOk result (λ s. Within (λ t. t ≡ new_tables) (TellsTables S.Store s)) }
+        ensures durable { IfOk result (λ s. Within (TellsTables S.Store s) (MayLeaveTables S.Store s)) }
+        ensures ready { IfOk result (λ s. IsTrue s.ready) }
+        ensures ended { IfErr result (λ refused. refused.1.in_transaction ≡ false) }
+    {
+        match making::make_tables(&mut conn) {
+            Ok(()) => Ok(StoredTables { conn, ready: true }),
+            Err(error) => Err((error, conn)),
+        }
     }
 
     /// Adds a record.
