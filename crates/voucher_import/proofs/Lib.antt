@@ -5,3 +5,4 @@ mod TextRecords
 mod RunRows
 mod CountKeys
 mod OpenSheets
+mod OneReading

@@ -1,8 +1,10 @@
 //! The reading of a sheet.
-ghost use Rattle.std.specs.Prelude.{◌^◌, ◌<◌, length, All, IfOk};
-ghost use Rattle.voucher_import.specs.Rows.{rows_of};
+ghost use Rattle.std.specs.Prelude.{◌≡◌, ◌≢◌, ◌^◌, ◌<◌, List, length, All, Ok, Err, IfOk};
+ghost use Rattle.voucher_import.specs.Rows.{Row, rows_of};
 ghost use Rattle.voucher_import.specs.Sheets.{IsSheet};
 ghost use Rattle.voucher_import.specs.SheetVouchers.{IsWithinLimits};
+ghost use Rattle.voucher_import.specs.declared.sheet.SheetFault.{SheetFault};
+ghost use Rattle.voucher_import.specs.declared.sheet.SheetVoucher.{SheetVoucher};
 
 use crate::open_sheet::OpenSheet;
 use crate::rows::is_head;
@@ -44,3 +46,11 @@ pub fn read_sheet(alloc: Global, bytes: &[u8]) -> Result<Lines<SheetVoucher>, Sh
     }
     sheet.finish(alloc)
 }
+
+/// A sheet has at most one fault, but for want of memory, and none where it says vouchers.
+pub fn sheets_have_one_fault()
+    ensures one { (whole : List Row) (a b : SheetFault) → IsSheet whole (Err a) → IsSheet whole (Err b) →
+        a ≢ SheetFault.NoMemory → b ≢ SheetFault.NoMemory → a ≡ b }
+    ensures right { (whole : List Row) (vouchers : List SheetVoucher) (fault : SheetFault) →
+        IsSheet whole (Ok vouchers) → IsSheet whole (Err fault) → fault ≡ SheetFault.NoMemory }
+{}
