@@ -1,10 +1,9 @@
 -- A sheet has one fault, or vouchers and no fault.
-use Rattle.std.proofs.Common.{◌≡◌, ◌≢◌, ◌<◌, ◌≤◌, ◌+◌, ◌++◌, ◌⊎◌, ℕ, List, [], ◌∷◌, Option, Some, None, Result, Ok, Err, take, get_or, length, inl, inr, refl, sym, ap, subst, ◌∙◌, arith}
+use Rattle.std.proofs.Common.{◌≡◌, ◌≢◌, ◌<◌, ◌++◌, ◌⊎◌, ℕ, List, [], ◌∷◌, Option, Some, None, Ok, Err, take, get_or, length, inl, inr, refl, sym, ap, ◌∙◌, arith}
 use Rattle.std.specs.Prelude.{All, sum_by}
 use Rattle.std.proofs.lemmas.List.Elements.{All-head, All-tail}
 use Rattle.voucher_import.specs.Rows.{Row, head_row}
 use Rattle.voucher_import.specs.RowFaults.{FirstWrong, IsWrong, RowFault, all_fields}
-use Rattle.voucher_import.specs.Runs.{runs_of}
 use Rattle.voucher_import.specs.Sheets.{AreRight, HasRows, IsBadAt, IsBadRow, IsSheet}
 use Rattle.voucher_import.specs.declared.sheet.SheetField.{SheetField}
 use Rattle.voucher_import.specs.declared.sheet.SheetFault.{SheetFault}
