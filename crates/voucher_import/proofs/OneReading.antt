@@ -65,7 +65,7 @@ one_first (x ∷ before) (y ∷ other) after rest voucher next same right good b
 one_bad_row : (rows : List Row) (m n : ℕ) (x y : SheetField) → IsBadRow rows m x → IsBadRow rows n y → (m ≡ n) × (x ≡ y)
 one_bad_row rows m n x y is other =
     let first = one_first is.before other.before is.after other.after is.voucher other.voucher (sym is.are ∙ other.are) is.right other.right
-        (not_right is.voucher is.place x is.bad) (not_right other.voucher other.place y other.bad) in
+    (not_right is.voucher is.place x is.bad) (not_right other.voucher other.place y other.bad) in
     let there : IsBadAt is.voucher other.place y = rw first.itself other.bad in
     let place = one_place is.voucher is.place other.place x y is.bad there in
     let total : sum_by length is.before ≡ sum_by length other.before = ap (λ (runs : List (List Row)). sum_by length runs) first.before_it in
