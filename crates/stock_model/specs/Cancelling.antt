@@ -3,6 +3,7 @@ use Rattle.std.specs.Prelude.{ℕ, Bool, true, false, ◌&&◌, ◌==◌, List, 
 use Rattle.std.specs.Option.{option_map_or}
 use Rattle.std.specs.List.{enumerate_from, find, list_any}
 use Rattle.stock_nums.specs.declared.cause.Target.{Target}
+use Rattle.stock_nums.specs.declared.numbers.RecordNo.{RecordNo}
 use Rattle.stock_model.specs.declared.records.Record.{Record}
 use Rattle.stock_model.specs.declared.targets.NamedTarget.{NamedTarget}
 use Rattle.stock_model.specs.declared.vouchers.What.{What}
@@ -42,6 +43,10 @@ is_link journal n (k, item) = is_live journal k && names_line_of n item.what
 -- the first such record, with its number
 abbrev pub first_link : List Record → ℕ → Option (ℕ × Record)
 first_link journal n = find (is_link journal n) (enumerate_from 1 journal)
+
+-- the number of a record that has one
+abbrev pub record_number : ℕ × Record → RecordNo
+record_number (k, item) = record { 0 = k }
 
 -- the units of the target that the record returns, if it is a return
 abbrev pub record_units : Target → Record → ℕ

@@ -1,9 +1,9 @@
 //! Which records are in force, and which voucher a cancel may take back.
 ghost use Rattle.std.specs.Prelude.{◌≡◌, false, slice_get};
-ghost use Rattle.std.specs.Option.{option_map, option_map_or};
-ghost use Rattle.stock_model.specs.Cancelling.{first_link, is_line_of, is_voucher, is_voucher_in_force, names_line_of};
+ghost use Rattle.std.specs.Option.{option_map_or};
+ghost use Rattle.stock_model.specs.Cancelling.{is_line_of, is_voucher, is_voucher_in_force, names_line_of};
 ghost use Rattle.stock_model.specs.Entries.{cancels, is_live};
-ghost use Rattle.stock_model.specs.Faults.{linked, linked_by, not_live};
+ghost use Rattle.stock_model.specs.Faults.{linked, not_live};
 ghost use Rattle.stock_model.specs.VoucherLines.{targets_of};
 
 use crate::faults::PostFault;
@@ -74,7 +74,10 @@ pub(crate) fn linked<N: Returns>(names: &N, what: &What) -> Option<PostFault>
     ensures { result ≡ linked (N.journal names.now) what.now }
 {
     match what {
-        What::Cancel { target } => link_fault(names, *target),
+        What::Cancel { target } => match names.first_link(*target) {
+            Some(by) => Some(PostFault::Linked { by }),
+            None => None,
+        },
         _ => None,
     }
 }
@@ -89,21 +92,8 @@ fn is_voucher_in_force<N: Returns>(names: &N, number: RecordNo) -> bool
     }
 }
 
-// The fault that the first record in force gives that names a line of the one with this number.
-fn link_fault<N: Returns>(names: &N, number: RecordNo) -> Option<PostFault>
-    ensures { result ≡ option_map linked_by (first_link (N.journal names.now) number.0) }
-{
-    for (index, record) in names.records().iter().enumerate() {
-        let by = RecordNo(index as u32 + 1);
-        if names.is_live(by) && names_line_of(number, &record.what) {
-            return Some(PostFault::Linked { by });
-        }
-    }
-    None
-}
-
-// Whether a return or a landed voucher names a line of the record with this number.
-fn names_line_of(number: RecordNo, what: &What) -> bool
+/// Whether what is said, a return or a landed voucher, names a line of the record with this number.
+pub fn names_line_of(number: RecordNo, what: &What) -> bool
     ensures { result ≡ names_line_of number.0 what.now }
 {
     for index in 0..target_count(what) {

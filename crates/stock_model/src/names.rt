@@ -1,7 +1,8 @@
 //! What a voucher may name: items, warehouses, and lines of earlier vouchers.
 ghost use Rattle.std.specs.Prelude.{◌≡◌, ◌^◌, ◌<◌, List, length};
-ghost use Rattle.std.specs.Option.{option_copied};
+ghost use Rattle.std.specs.Option.{option_copied, option_map};
 ghost use Rattle.stock_model.specs.declared.records.Record.{Record};
+ghost use Rattle.stock_model.specs.Cancelling.{first_link, record_number};
 ghost use Rattle.stock_model.specs.Entries.{all_entries, is_live};
 ghost use Rattle.stock_model.specs.Freezing.{frozen};
 ghost use Rattle.stock_model.specs.Masters.{item_with, store_with, record_at};
@@ -37,11 +38,16 @@ pub trait Names {
         ensures few { length result.now < 2 ^ 32 };
 }
 
-/// What a voucher may name, which of it is in force, how many units of lines were returned, and up to which moment the past is closed.
+/// What a voucher may name, which of it is in force, what names it, how many units of lines were returned, and up to which moment
+/// the past is closed.
 pub trait Returns: Names {
     /// Whether the record with this number, from 1, is in force: no later record of the journal takes it back.
     fn is_live(&self, number: RecordNo) -> bool
         ensures { result ≡ is_live (Self.Names.journal self.now) number.0 };
+
+    /// The first record in force that names a line of the one with this number, from 1. None exactly where none does.
+    fn first_link(&self, number: RecordNo) -> Option<RecordNo>
+        ensures { result ≡ option_map record_number (first_link (Self.Names.journal self.now) number.0) };
 
     /// How many units of the line all vouchers in force return, whatever their moments.
     fn returned(&self, target: Target) -> Qty
