@@ -31,11 +31,6 @@ pub trait Names {
     /// The record with this number, from 1. None exactly where the journal has no such record.
     fn record_at(&self, number: RecordNo) -> Option<&Record>
         ensures { option_copied result ≡ record_at (journal self.now) number.0 };
-
-    /// The records in the order of their numbers.
-    fn records(&self) -> &[Record]
-        ensures records { result.now ≡ journal self.now }
-        ensures few { length result.now < 2 ^ 32 };
 }
 
 /// What a voucher may name, which of it is in force, what names it, how many units of lines were returned, and up to which moment
@@ -78,9 +73,5 @@ impl<'a> Names for Listed<'a> {
 
     fn record_at(&self, number: RecordNo) -> Option<&Record> {
         masters::record_at(self.records, number)
-    }
-
-    fn records(&self) -> &[Record] {
-        self.records
     }
 }
