@@ -77,13 +77,15 @@ pub trait Keeper {
         ensures counted { OnSome (plan self.old) (calls self.new ≡ raised (calls self.old)) }
         ensures plan_kept { plan self.new ≡ plan self.old };
 
-    /// A copy of the tables. They stay as they are. Their worths stand by record, line and side, each spot once.
+    /// A copy of the tables. They stay as they are. Their worths stand by record, line and side, each spot once. A disk may lie
+    /// while it is read: only what is told after the load, or may be left by a crash then, says that it did not.
     ///
     /// # Errors
     ///
     /// `Failed` where the keeper failed: a fault was counted. `NoMemory` for want of memory.
     fn load(&mut self) -> Result<Tables, KeepFault>
-        ensures tables { IfOk result (λ copy. (t : Tables) → tells self.old t → copy ≡ t) }
+        ensures tables { IfOk result (λ copy. (t : Tables) → tells self.new t → copy ≡ t) }
+        ensures left { IfOk result (λ copy. (t : Tables) → tells self.old t → may_leave self.new t → copy ≡ t) }
         ensures in_order { IfOk result (λ copy. AreInOrder copy.worths) }
         ensures tables_kept { Within (tells self.old) (tells self.new) }
         ensures crash { Within (may_leave self.old) (may_leave self.new) }
