@@ -15,7 +15,7 @@ use Rattle.kept_tables.specs.TablesOf.{worths_of, tables_of}
 use Rattle.kept_tables.specs.declared.differing.Difference.{Difference}
 use Rattle.kept_tables.specs.declared.open_fault.OpenFault.{OpenFault}
 use Rattle.kept_tables.specs.declared.open_fault.OpenFault.TheVariants.{KeeperFailed, BadHead, BadStored, StoredDiffers, NoMemory}
-use Rattle.repost_worker.specs.Openings.{IsUnposted, IsFoundIn}
+use Rattle.repost_worker.specs.Openings.{IsLoaded, IsUnposted, IsFoundIn}
 
 -- tables with the same in each field are the same
 same_tables : (a b : Tables) → a.version ≡ b.version → a.records ≡ b.records → a.covered ≡ b.covered → a.worths ≡ b.worths → a ≡ b
@@ -77,11 +77,23 @@ fault-found t NoMemory found = tt
 
 -- a keeper of which a crash leaves just its tables is one of the history that they are of
 pub kept-opened : (tells may_leave tells' may_leave' : Tables → Type 0) (history : List Deed) (copy : Tables)
-    → tables_of history ≡ copy → ((t : Tables) → tells t → copy ≡ t) → Within tells tells' → Within may_leave may_leave'
-    → Within tells may_leave → IsKept tells' may_leave' history []
-kept-opened tells may_leave tells' may_leave' history copy opened copied tables_kept crash settled =
-    let same : (t : Tables) → tells t → t ≡ tables_of history = λ t told. sym (opened ∙ copied t told) in
+    → tables_of history ≡ copy → ((t : Tables) → tells' t → copy ≡ t) → ((t : Tables) → tells t → may_leave' t → copy ≡ t)
+    → Within may_leave may_leave' → Within tells may_leave → IsKept tells' may_leave' history []
+kept-opened tells may_leave tells' may_leave' history copy opened copied left crash settled =
     record {
-      told = λ t now. same t (tables_kept t now);
-      left = λ t may. inl (same t (settled t (crash t may)));
+      told = λ t now. sym (opened ∙ copied t now);
+      left = λ t may. inl (sym (opened ∙ left t (settled t (crash t may)) may));
     }
+
+-- and it is one that was loaded
+pub loaded-opened : {Kt : Type 0} (tells may_leave : Kt → Tables → Type 0) (before loaded : Kt) (history history' : List Deed) (copy : Tables)
+    → history' ≡ history → tables_of history ≡ copy → ((t : Tables) → tells loaded t → copy ≡ t)
+    → ((t : Tables) → tells before t → may_leave loaded t → copy ≡ t) → Within (tells before) (tells loaded)
+    → IsLoaded tells may_leave before history'
+loaded-opened tells may_leave before loaded history history' copy same opened copied left tables_kept =
+    subst (IsLoaded tells may_leave before) (sym same) (record {
+      loaded = loaded;
+      tables_kept = tables_kept;
+      tables = λ t now. sym (opened ∙ copied t now);
+      left = λ t told may. sym (opened ∙ left t told may);
+    })

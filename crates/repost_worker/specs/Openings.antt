@@ -7,11 +7,13 @@ use Rattle.stock_model.specs.declared.deeds.Deed.TheVariants.{Kept}
 use Rattle.stock_model.specs.declared.records.Record.{Record}
 use Rattle.stock_keeper.specs.Calls.{KeeperState, IsDone, IsRefused}
 use Rattle.stock_keeper.specs.Changed.{stored}
+use Rattle.stock_keeper.specs.Keeping.{Within}
 use Rattle.stock_keeper.specs.declared.fault.KeepFault.TheVariants as keep
 use Rattle.stock_keeper.specs.declared.tables.StoredRecord.{StoredRecord}
 use Rattle.stock_keeper.specs.declared.tables.Tables.{Tables}
 use Rattle.voucher_json.specs.RecordTexts.{record_text}
 use Rattle.kept_tables.specs.Openings.{IsBadRecord, IsBadStored, IsFaultOf, opening}
+use Rattle.kept_tables.specs.TablesOf.{tables_of}
 use Rattle.kept_tables.specs.declared.open_fault.OpenFault.{OpenFault}
 use Rattle.kept_tables.specs.declared.open_fault.OpenFault.TheVariants.{KeeperFailed, BadStored, NoMemory}
 
@@ -30,6 +32,14 @@ pub record IsPosted (old : List Deed) (kept : StoredRecord) (new : List Deed) : 
 -- there are some, and then the others were kept
 abbrev pub opened_history : List Record → ℕ → List Deed
 opened_history items covered = opening (take covered items) covered ++ map Kept (drop covered items)
+
+-- the tables that the keeper tells once they are loaded are those of the history, and those that it told before, as where they were
+-- told before and a crash may leave them still; where a disk lied while it was read, none are
+pub record IsLoaded {Kt : Type 0} (tells may_leave : Kt → Tables → Type 0) (before : Kt) (history : List Deed) : Type 0 where
+  pub loaded : Kt
+  pub tables_kept : Within (tells before) (tells loaded)
+  pub tables : (t : Tables) → tells loaded t → t ≡ tables_of history
+  pub left : (t : Tables) → tells before t → may_leave loaded t → t ≡ tables_of history
 
 -- memory was wanting, or no record that may come next is kept so
 abbrev pub IsBadNext : List Record → StoredRecord → OpenFault → Type 0

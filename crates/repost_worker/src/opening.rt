@@ -7,7 +7,7 @@ ghost use Rattle.stock_keeper.specs.Worths.{AreInOrder};
 ghost use Rattle.stock_keeper.specs.declared.tables.Tables.{Tables};
 ghost use Rattle.kept_tables.specs.Openings.{AreStored, IsFaultOf};
 ghost use Rattle.kept_tables.specs.TablesOf.{tables_of};
-ghost use Rattle.repost_worker.specs.Openings.{state_of, opened_history, IsPosted, IsBadNext, IsUnposted, IsFoundIn, IsAfterFault};
+ghost use Rattle.repost_worker.specs.Openings.{state_of, opened_history, IsLoaded, IsPosted, IsBadNext, IsUnposted, IsFoundIn, IsAfterFault};
 ghost use Rattle.repost_worker.specs.Paces.{IsInPace, IsAtRest, IsSamePace};
 ghost use Rattle.repost_worker.specs.Published.{KeepsAlone};
 
@@ -32,7 +32,8 @@ pub struct NotOpened<K: Keeper> {
 
 impl<K: Keeper> RevaluedBook<K> {
     /// The ledger that a keeper keeps, revalued up to where it was published. The head of its tables is checked first, then each
-    /// record in order, which are replayed once, and then the worths. It takes a keeper of which a crash leaves just its tables.
+    /// record in order, which are replayed once, and then the worths. It takes a keeper of which a crash leaves just its tables. A
+    /// disk may lie while it is read, so what is said of tables is said of those that are told after the load.
     ///
     /// # Errors
     ///
@@ -40,13 +41,13 @@ impl<K: Keeper> RevaluedBook<K> {
     /// given back, and its tables stay.
     pub fn begin(alloc: Global, keeper: K) -> Result<RevaluedBook<K>, NotOpened<K>>
         requires settled { Within (K.tells keeper) (K.may_leave keeper) }
-        ensures opened { IfOk result (λ book. (t : Tables) → K.tells keeper t → t ≡ tables_of book.history) }
+        ensures opened { IfOk result (λ book. IsLoaded K.tells K.may_leave keeper book.history) }
         ensures legal { IfOk result (λ book. IsLegal book.history) }
         ensures order { IfOk result (λ book. book.history ≡ opened_history (records book.history) (covered book.history)) }
         ensures at_rest { IfOk result IsAtRest }
         ensures in_pace { IfOk result IsInPace }
         ensures done { IfOk result (λ book. IsDone (state_of (K.faults keeper) (K.plan keeper) (K.calls keeper)) book.keeper) }
-        ensures fault { IfErr result (λ n. (t : Tables) → K.tells keeper t → IsFaultOf t n.fault) }
+        ensures fault { IfErr result (λ n. (t : Tables) → K.tells n.keeper t → IsFaultOf t n.fault) }
         ensures tables_kept { IfErr result (λ n. Within (K.tells keeper) (K.tells n.keeper)) }
         ensures refused { IfErr result (λ n. IsAfterFault n.fault (state_of (K.faults keeper) (K.plan keeper) (K.calls keeper))
             (state_of (K.faults n.keeper) (K.plan n.keeper) (K.calls n.keeper))) }

@@ -7,14 +7,14 @@ use Rattle.stock_ends.specs.declared.end.End.{End}
 use Rattle.stock_ends.proofs.Openings.{opened-as, opened-plan, unopened}
 use Rattle.stock_batch.specs.Filed.{RunsOverShelf, RunsOverKeeper}
 
-module _ {H Kt S O : Type 0} (kept_tells : Kt → Tables → Type 0) (k_faults : Kt → ℕ) (k_plan : Kt → Option (List ℕ)) (k_calls : Kt → ℕ)
+module _ {H Kt S O : Type 0} (kept_tells kept_may_leave : Kt → Tables → Type 0) (k_faults : Kt → ℕ) (k_plan : Kt → Option (List ℕ)) (k_calls : Kt → ℕ)
     (tells : H → Tables → Type 0) (plan : H → Option (List ℕ)) (faults kept_faults : H → ℕ) (left : S → Option (List ℕ))
     (taken read_faults : S → ℕ) (written : O → Option (List ℕ)) (write_faults : O → ℕ) where
   pub over-kept : (shelf shelf' : H) (keeper keeper' : Kt) (input input' : S) (output output' : O) (end : End)
       → TellSame (tells shelf) (kept_tells keeper) → k_faults keeper ≡ 0 → IfSome (plan shelf) (λ numbers. k_plan keeper ≡ Some numbers)
       → OnSome (plan shelf) (k_calls keeper ≡ 0) → Within (kept_tells keeper') (tells shelf')
       → IfSome (plan shelf') (λ numbers. k_plan keeper' ≡ Some numbers) → kept_faults shelf' ≡ k_faults keeper'
-      → RunsOverKeeper kept_tells k_faults k_plan k_calls left taken read_faults written write_faults keeper keeper' input input' output
+      → RunsOverKeeper kept_tells kept_may_leave k_faults k_plan k_calls left taken read_faults written write_faults keeper keeper' input input' output
       output' end
       → RunsOverShelf kept_tells tells plan faults kept_faults left taken read_faults written write_faults shelf shelf' input input' output
       output' end
@@ -24,7 +24,7 @@ module _ {H Kt S O : Type 0} (kept_tells : Kt → Tables → Type 0) (k_faults :
         nothing_written = unbegun.nothing_written;
         tables_stay = inr (λ s t before after. same s t before (unbegun.tables_kept t (back t after)));
         cause =
-            unopened kept_tells keeper (tells shelf) same end (plan shelf) (faults shelf) (faults shelf')
+            unopened kept_tells keeper' (tells shelf) (λ s t before after. same s t before (unbegun.tables_kept t after)) end (plan shelf) (faults shelf) (faults shelf')
             (state_of (k_faults keeper) (k_plan keeper) (k_calls keeper)) (state_of (k_faults keeper') (k_plan keeper') (k_calls keeper'))
             (kept_faults shelf') fresh counted planned uncalled unbegun.cause;
       })
@@ -33,8 +33,8 @@ module _ {H Kt S O : Type 0} (kept_tells : Kt → Tables → Type 0) (k_faults :
         first = run.first;
         last = run.last;
         opened =
-            opened-as kept_tells keeper (tells shelf) (plan shelf) (k_plan keeper) (k_faults keeper) (k_calls keeper) run.first same planned
-            uncalled run.tables run.legal run.order run.at_rest run.begun;
+            opened-as kept_tells keeper (tells shelf) (plan shelf) (k_plan keeper) kept_may_leave (k_faults keeper) (k_calls keeper) run.first same
+            planned uncalled run.loaded run.legal run.order run.at_rest run.begun;
         put_back = record {
           tables = λ t told. run.kept t (back t told);
           plan_is = opened-plan (plan shelf') (k_plan keeper') run.last.keeper.plan plans (sym run.plan_is);

@@ -60,7 +60,7 @@ fn run_kept<K: Keeper, S: Source, O: Sink>(
 ) -> Ended<K>
     requires room { 0 < length buffer.old }
     requires settled { Within (K.tells keeper) (K.may_leave keeper) }
-    ensures { RunsOverKeeper K.tells K.faults K.plan K.calls S.left S.taken S.faults O.written O.faults
+    ensures { RunsOverKeeper K.tells K.may_leave K.faults K.plan K.calls S.left S.taken S.faults O.written O.faults
         keeper result.keeper input.old input.new output.old output.new result.end }
 {
     match RevaluedBook::begin(alloc, keeper) {

@@ -8,8 +8,7 @@ use Rattle.stock_keeper.specs.Keeping.{TellSame}
 use Rattle.stock_keeper.specs.declared.fault.KeepFault.{KeepFault}
 use Rattle.stock_keeper.specs.declared.fault.KeepFault.TheVariants as keep
 use Rattle.stock_keeper.specs.declared.tables.Tables.{Tables}
-use Rattle.kept_tables.specs.TablesOf.{tables_of}
-use Rattle.repost_worker.specs.Openings.{state_of, opened_history}
+use Rattle.repost_worker.specs.Openings.{state_of, opened_history, IsLoaded}
 use Rattle.repost_worker.specs.Paces.{Pace, IsAtRest}
 use Rattle.stock_ends.specs.Openings.{end_of_refusal, HasFirst, IsUnopened, IsUnbegunFor, IsOpenedAs}
 use Rattle.stock_ends.specs.declared.end.End.{End}
@@ -30,15 +29,16 @@ opened-calls (Some numbers) kept before after plan none counted =
 
 -- the book was opened by the first call of the keeper that the shelf handed out
 pub opened-as : {Kt : Type 0} (kept_tells : Kt → Tables → Type 0) (keeper : Kt) (told : Tables → Type 0) (plan kept_plan : Option (List ℕ))
-    (faults calls : ℕ) (first : Pace) → TellSame told (kept_tells keeper) → IfSome plan (λ numbers. kept_plan ≡ Some numbers)
-    → OnSome plan (calls ≡ 0) → ((t : Tables) → kept_tells keeper t → t ≡ tables_of first.history) → IsLegal first.history
+    (kept_may_leave : Kt → Tables → Type 0) (faults calls : ℕ) (first : Pace) → TellSame told (kept_tells keeper)
+    → IfSome plan (λ numbers. kept_plan ≡ Some numbers)
+    → OnSome plan (calls ≡ 0) → IsLoaded kept_tells kept_may_leave keeper first.history → IsLegal first.history
     → first.history ≡ opened_history (records first.history) (covered first.history) → IsAtRest first
     → IsDone (state_of faults kept_plan calls) first.keeper → IsOpenedAs kept_tells told plan first
-opened-as kept_tells keeper told plan kept_plan faults calls first same planned uncalled tables legal order at_rest begun =
+opened-as kept_tells keeper told plan kept_plan kept_may_leave faults calls first same planned uncalled loaded legal order at_rest begun =
     record {
-      kept = keeper;
-      same = same;
-      tables = tables;
+      kept = loaded.loaded;
+      same = λ s t before after. same s t before (loaded.tables_kept t after);
+      tables = loaded.tables;
       legal = legal;
       order = order;
       at_rest = at_rest;

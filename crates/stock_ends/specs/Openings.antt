@@ -26,13 +26,15 @@ abbrev pub IsUnopened : {Kt : Type 0} → (Kt → Tables → Type 0) → End →
 IsUnopened kept_tells NoMemory told plan faults faults' kept_faults' = Unit {0}
 -- the shelf counted a fault, or the keeper that is back on it, of which the plan that the shelf tells has the first call
 IsUnopened kept_tells StoreFailed told plan faults faults' kept_faults' = Rose faults faults' ⊎ (Rose 0 kept_faults' × HasFirst plan)
--- the keeper that was handed out tells tables that are damaged so, which are those of the shelf, where both tell them
+-- the keeper that was handed out tells tables, once they were loaded, that are damaged so, which are those of the shelf, where both
+-- tell them
 IsUnopened {Kt} kept_tells (Damaged damage) told plan faults faults' kept_faults' =
     (kept : Kt) × TellSame told (kept_tells kept) × ((t : Tables) → kept_tells kept t → HasDamage t damage)
 IsUnopened kept_tells end told plan faults faults' kept_faults' = ⊥
 
--- the book was opened over a keeper whose tables are those of its history, and those of the shelf, where both tell them, by the
--- first call of the keeper, which has the plan that the shelf tells; and the worker begins with what is covered and no turn
+-- the book was opened over a keeper whose tables, once they were loaded, are those of its history, and those of the shelf, where both
+-- tell them, by the first call of the keeper, which has the plan that the shelf tells; and the worker begins with what is covered
+-- and no turn
 pub record IsOpenedAs {Kt : Type 0} (kept_tells : Kt → Tables → Type 0) (told : Tables → Type 0) (plan : Option (List ℕ)) (first : Pace) : Type 0 where
   pub kept : Kt
   pub same : TellSame told (kept_tells kept)

@@ -75,7 +75,7 @@ module _ {P : Type 0} (serves : ℕ → ℕ → ℕ → List Deed → List Deed 
   leaves-legal (Ok text) leaves = leaves.0.legal
   leaves-legal (Err end) stops = stopped-legal end stops
 
-module _ {H Kt L P O : Type 0} (kept_tells : Kt → Tables → Type 0) (k_faults : Kt → ℕ) (k_plan : Kt → Option (List ℕ)) (k_calls : Kt → ℕ)
+module _ {H Kt L P O : Type 0} (kept_tells kept_may_leave : Kt → Tables → Type 0) (k_faults : Kt → ℕ) (k_plan : Kt → Option (List ℕ)) (k_calls : Kt → ℕ)
     (tells : H → Tables → Type 0) (plan : H → Option (List ℕ)) (faults kept_faults : H → ℕ) (hears : L → Heard P)
     (written : O → Option (List ℕ)) (write_faults : O → ℕ) (serves : ℕ → ℕ → ℕ → List Deed → List Deed → P → P → Type 0) (is_fresh : P → Type 0)
     (desks : ℕ) (shelf shelf' : H) (keeper keeper' : Kt) (listener listener' : L) (output output' : O) where
@@ -83,7 +83,7 @@ module _ {H Kt L P O : Type 0} (kept_tells : Kt → Tables → Type 0) (k_faults
       → TellSame (tells shelf) (kept_tells keeper) → IfSome (plan shelf) (λ numbers. k_plan keeper ≡ Some numbers)
       → OnSome (plan shelf) (k_calls keeper ≡ 0) → Within (kept_tells keeper') (tells shelf')
       → IfSome (plan shelf') (λ numbers. k_plan keeper' ≡ Some numbers) → kept_faults shelf' ≡ k_faults keeper'
-      → IsBegun kept_tells k_faults k_plan k_calls (λ first last. Leaves serves is_fresh desks summary first last (hears listener)
+      → IsBegun kept_tells kept_may_leave k_faults k_plan k_calls (λ first last. Leaves serves is_fresh desks summary first last (hears listener)
       (hears listener')) keeper keeper'
       → IfOk summary (λ text. IsWritten written write_faults end (string_bytes text) output output') → IfErr summary (λ e. end ≡ e)
       → OnErr summary (output' ≡ output)
@@ -92,8 +92,8 @@ module _ {H Kt L P O : Type 0} (kept_tells : Kt → Tables → Type 0) (k_faults
   served-begun summary end same planned uncalled back plans counted begun wrote is unwritten =
       let told = told-by written write_faults serves is_fresh desks begun.first begun.last (hears listener) (hears listener') output output'
       summary end begun.done wrote is unwritten in
-      let opened = opened-as kept_tells keeper (tells shelf) (plan shelf) (k_plan keeper) (k_faults keeper) (k_calls keeper) begun.first same
-      planned uncalled begun.tables begun.legal begun.order begun.at_rest begun.begun in
+      let opened = opened-as kept_tells keeper (tells shelf) (plan shelf) (k_plan keeper) kept_may_leave (k_faults keeper) (k_calls keeper)
+      begun.first same planned uncalled begun.loaded begun.legal begun.order begun.at_rest begun.begun in
       record {
         first = begun.first;
         last = begun.last;
@@ -123,7 +123,7 @@ module _ {H Kt L P O : Type 0} (kept_tells : Kt → Tables → Type 0) (k_faults
         nothing_written = unwritten;
         tables_stay = inr (λ s t before after. same s t before (unbegun.tables_kept t (back t after)));
         cause =
-            unopened kept_tells keeper (tells shelf) same end (plan shelf) (faults shelf) (faults shelf')
+            unopened kept_tells keeper' (tells shelf) (λ s t before after. same s t before (unbegun.tables_kept t after)) end (plan shelf) (faults shelf) (faults shelf')
             (state_of (k_faults keeper) (k_plan keeper) (k_calls keeper)) (state_of (k_faults keeper') (k_plan keeper') (k_calls keeper'))
             (kept_faults shelf') fresh counted planned uncalled unbegun.cause;
       })
@@ -132,7 +132,7 @@ module _ {H Kt L P O : Type 0} (kept_tells : Kt → Tables → Type 0) (k_faults
       → TellSame (tells shelf) (kept_tells keeper) → k_faults keeper ≡ 0 → IfSome (plan shelf) (λ numbers. k_plan keeper ≡ Some numbers)
       → OnSome (plan shelf) (k_calls keeper ≡ 0) → Within (kept_tells keeper') (tells shelf')
       → IfSome (plan shelf') (λ numbers. k_plan keeper' ≡ Some numbers) → kept_faults shelf' ≡ k_faults keeper'
-      → LeavesKept kept_tells k_faults k_plan k_calls hears serves is_fresh desks summary keeper keeper' listener listener'
+      → LeavesKept kept_tells kept_may_leave k_faults k_plan k_calls hears serves is_fresh desks summary keeper keeper' listener listener'
       → IfOk summary (λ text. IsWritten written write_faults end (string_bytes text) output output') → IfErr summary (λ e. end ≡ e)
       → OnErr summary (output' ≡ output)
       → ServesOverShelf kept_tells tells plan faults kept_faults hears written write_faults serves is_fresh desks shelf shelf' listener

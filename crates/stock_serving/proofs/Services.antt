@@ -108,10 +108,10 @@ module _ {P : Type 0} (serves : ℕ → ℕ → ℕ → List Deed → List Deed 
       subst (λ (h : Heard P). Leaves serves is_fresh desks summary first last h new) same leaves
 
 -- what was begun leaves a summary or none
-module _ {Kt L P : Type 0} (tells : Kt → Tables → Type 0) (faults : Kt → ℕ) (plan : Kt → Option (List ℕ)) (calls : Kt → ℕ)
+module _ {Kt L P : Type 0} (tells may_leave : Kt → Tables → Type 0) (faults : Kt → ℕ) (plan : Kt → Option (List ℕ)) (calls : Kt → ℕ)
     (hears : L → Heard P) (serves : ℕ → ℕ → ℕ → List Deed → List Deed → P → P → Type 0) (is_fresh : P → Type 0) (desks : ℕ) where
   pub leaves-begun : (summary : Result (String Global) End) (keeper keeper' : Kt) (listener listener' : L)
-      → IsBegun tells faults plan calls (λ first last. Leaves serves is_fresh desks summary first last (hears listener) (hears listener')) keeper keeper'
-      → LeavesKept tells faults plan calls hears serves is_fresh desks summary keeper keeper' listener listener'
+      → IsBegun tells may_leave faults plan calls (λ first last. Leaves serves is_fresh desks summary first last (hears listener) (hears listener')) keeper keeper'
+      → LeavesKept tells may_leave faults plan calls hears serves is_fresh desks summary keeper keeper' listener listener'
   leaves-begun (Ok text) keeper keeper' listener listener' begun = begun
   leaves-begun (Err end) keeper keeper' listener listener' begun = inr begun

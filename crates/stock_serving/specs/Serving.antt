@@ -12,7 +12,7 @@ use Rattle.stock_keeper.specs.declared.fault.KeepFault.{KeepFault}
 use Rattle.stock_keeper.specs.declared.fault.KeepFault.TheVariants as keep
 use Rattle.stock_keeper.specs.declared.tables.Tables.{Tables}
 use Rattle.kept_tables.specs.TablesOf.{tables_of}
-use Rattle.repost_worker.specs.Openings.{state_of, opened_history}
+use Rattle.repost_worker.specs.Openings.{state_of, opened_history, IsLoaded}
 use Rattle.repost_worker.specs.Paces.{Pace, IsAtRest}
 use Rattle.repost_worker.specs.Published.{Publishes}
 use Rattle.desk_service.specs.Listening.{Heard}
@@ -121,16 +121,16 @@ pub record IsUnbegunKeeper {Kt L : Type 0} (tells : Kt → Tables → Type 0) (f
     (listener_before listener_after : L) (end : End) : Type 0 where
   pub nothing_heard : listener_after ≡ listener_before
   pub tables_kept : Within (tells keeper_before) (tells keeper_after)
-  pub cause : IsUnbegunFor end (tells keeper_before) (state_of (faults keeper_before) (plan keeper_before) (calls keeper_before))
+  pub cause : IsUnbegunFor end (tells keeper_after) (state_of (faults keeper_before) (plan keeper_before) (calls keeper_before))
       (state_of (faults keeper_after) (plan keeper_after) (calls keeper_after))
 
--- or its ledger was opened, and this was done from the history that its tables are of to the one that they are of then; the worker
--- began with what was covered and no turn
-pub record IsBegun {Kt : Type 0} (tells : Kt → Tables → Type 0) (faults : Kt → ℕ) (plan : Kt → Option (List ℕ)) (calls : Kt → ℕ)
+-- or its ledger was opened, and this was done from the history that its tables are of, once they were loaded, to the one that they
+-- are of then; the worker began with what was covered and no turn
+pub record IsBegun {Kt : Type 0} (tells may_leave : Kt → Tables → Type 0) (faults : Kt → ℕ) (plan : Kt → Option (List ℕ)) (calls : Kt → ℕ)
     (does : Pace → Pace → Type 0) (keeper_before keeper_after : Kt) : Type 0 where
   pub first : Pace
   pub last : Pace
-  pub tables : (t : Tables) → tells keeper_before t → t ≡ tables_of first.history
+  pub loaded : IsLoaded tells may_leave keeper_before first.history
   pub legal : IsLegal first.history
   pub order : first.history ≡ opened_history (records first.history) (covered first.history)
   pub at_rest : IsAtRest first
@@ -141,15 +141,15 @@ pub record IsBegun {Kt : Type 0} (tells : Kt → Tables → Type 0) (faults : Kt
   pub done : does first last
 
 -- what a service over a keeper leaves: the text of its summary, or the end that it came to without one
-module _ {Kt L P : Type 0} (tells : Kt → Tables → Type 0) (faults : Kt → ℕ) (plan : Kt → Option (List ℕ)) (calls : Kt → ℕ)
+module _ {Kt L P : Type 0} (tells may_leave : Kt → Tables → Type 0) (faults : Kt → ℕ) (plan : Kt → Option (List ℕ)) (calls : Kt → ℕ)
     (hears : L → Heard P) (serves : ℕ → ℕ → ℕ → List Deed → List Deed → P → P → Type 0) (is_fresh : P → Type 0) (desks : ℕ) where
   abbrev pub LeavesKept : Result (String Global) End → Kt → Kt → L → L → Type 0
   LeavesKept (Ok text) keeper_before keeper_after listener_before listener_after =
-      IsBegun tells faults plan calls (λ first last. Leaves serves is_fresh desks (Ok text) first last (hears listener_before) (hears listener_after))
+      IsBegun tells may_leave faults plan calls (λ first last. Leaves serves is_fresh desks (Ok text) first last (hears listener_before) (hears listener_after))
       keeper_before keeper_after
   LeavesKept (Err end) keeper_before keeper_after listener_before listener_after =
       IsUnbegunKeeper tells faults plan calls keeper_before keeper_after listener_before listener_after end
-      ⊎ IsBegun tells faults plan calls (λ first last. Leaves serves is_fresh desks (Err end) first last (hears listener_before) (hears listener_after))
+      ⊎ IsBegun tells may_leave faults plan calls (λ first last. Leaves serves is_fresh desks (Err end) first last (hears listener_before) (hears listener_after))
       keeper_before keeper_after
 
 module _ {H Kt L P O : Type 0} (kept_tells : Kt → Tables → Type 0) (tells : H → Tables → Type 0) (plan : H → Option (List ℕ))

@@ -111,7 +111,7 @@ fn serve_kept<K: Keeper + Send, P: Link, L: Listener<Peer = P> + Drop, R: Thread
 ) -> KeptEnd<K, L>
     requires settled { Within (K.tells keeper) (K.may_leave keeper) }
     requires desks { (0 < desks) × (desks ≤ MAX_DESK) }
-    ensures serves { LeavesKept K.tells K.faults K.plan K.calls
+    ensures serves { LeavesKept K.tells K.may_leave K.faults K.plan K.calls
         (heard L.waiting L.hung_up L.accepts L.hang_ups L.faults)
         (IsPeerServed P.left P.taken P.written P.Source.faults P.ended)
         (IsFresh P.taken P.written P.Source.faults P.ended) desks

@@ -13,7 +13,7 @@ returns-in-Ok g c =
     inr (record {
       first = c.in-Ok.book;
       last = c.into_book.result;
-      tables = c.in-Ok.ensures.opened;
+      loaded = c.in-Ok.ensures.opened;
       legal = c.in-Ok.ensures.legal;
       order = c.in-Ok.ensures.order;
       at_rest = c.in-Ok.ensures.at_rest;

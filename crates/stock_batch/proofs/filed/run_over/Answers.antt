@@ -8,7 +8,7 @@ returns-in-Err-Failed-clause-runs g c = inl (record { nothing_taken = refl; noth
 
 pub returns-clause-runs : goal.returns-clause-runs
 returns-clause-runs g c =
-    over-kept g.H.Kept.Keeper.tells g.H.Kept.Keeper.faults g.H.Kept.Keeper.plan g.H.Kept.Keeper.calls g.H.Shelf.tells g.H.Shelf.plan
+    over-kept g.H.Kept.Keeper.tells g.H.Kept.Keeper.may_leave g.H.Kept.Keeper.faults g.H.Kept.Keeper.plan g.H.Kept.Keeper.calls g.H.Shelf.tells g.H.Shelf.plan
     g.H.Shelf.faults g.H.Shelf.kept_faults g.S.Source.left g.S.Source.taken g.S.Source.faults g.O.Sink.written g.O.Sink.faults
     c.args.shelf.now c.put_back.new.self c.in-Ok-open_keeper.keeper c.run_kept-end.result.keeper c.args.input.now c.run_kept-end.new.input
     c.args.output.now c.run_kept-end.new.output c.run_kept-end.result.end c.in-Ok-open_keeper.ensures.tables c.in-Ok-open_keeper.ensures.fresh

@@ -8,7 +8,7 @@ use Rattle.stock_serving.proofs.serving.serve_kept.Goals as goal
 
 pub returns-in-Ok-clause-serves : goal.returns-in-Ok-clause-serves
 returns-in-Ok-clause-serves g c =
-    leaves-begun g.K.Keeper.tells g.K.Keeper.faults g.K.Keeper.plan g.K.Keeper.calls
+    leaves-begun g.K.Keeper.tells g.K.Keeper.may_leave g.K.Keeper.faults g.K.Keeper.plan g.K.Keeper.calls
     (heard g.L.Listener.waiting g.L.Listener.hung_up g.L.Listener.accepts g.L.Listener.hang_ups g.L.Listener.faults)
     (IsPeerServed g.P.Source.left g.P.Source.taken g.P.Sink.written g.P.Source.faults g.P.Link.ended)
     (IsFresh g.P.Source.taken g.P.Sink.written g.P.Source.faults g.P.Link.ended) c.args.desks
@@ -16,7 +16,7 @@ returns-in-Ok-clause-serves g c =
     (record {
       first = c.in-Ok.book;
       last = c.serve_book-summary.result.book;
-      tables = c.in-Ok.ensures.opened;
+      loaded = c.in-Ok.ensures.opened;
       legal = c.in-Ok.ensures.legal;
       order = c.in-Ok.ensures.order;
       at_rest = c.in-Ok.ensures.at_rest;

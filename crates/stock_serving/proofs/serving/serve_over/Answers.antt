@@ -24,7 +24,7 @@ pub returns-clause-serves : goal.returns-clause-serves
 returns-clause-serves g c =
     let opened = c.in-Ok in
     let served = c.serve_kept-summary in
-    over-served g.H.Kept.Keeper.tells g.H.Kept.Keeper.faults g.H.Kept.Keeper.plan g.H.Kept.Keeper.calls g.H.Shelf.tells g.H.Shelf.plan
+    over-served g.H.Kept.Keeper.tells g.H.Kept.Keeper.may_leave g.H.Kept.Keeper.faults g.H.Kept.Keeper.plan g.H.Kept.Keeper.calls g.H.Shelf.tells g.H.Shelf.plan
     g.H.Shelf.faults g.H.Shelf.kept_faults
     (heard g.L.Listener.waiting g.L.Listener.hung_up g.L.Listener.accepts g.L.Listener.hang_ups g.L.Listener.faults)
     g.O.Sink.written g.O.Sink.faults
