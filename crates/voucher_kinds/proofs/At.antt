@@ -2,7 +2,7 @@
 use Rattle.std.proofs.Common.{◌≡◌, ℕ, zero, suc, ◌+◌, ◌-◌, ◌<◌, ◌≤◌, List, [], ◌∷◌, ◌++◌, length, take, drop, get_or, Some, refl, sym, ap, ◌∙◌, arith}
 use Rattle.std.proofs.lemmas.Option.{slice_get_read}
 use Rattle.std.proofs.lemmas.List.{append-nil, take_more, take_all, drop_all}
-use Rattle.std.proofs.Math.Seq.{take-length}
+use Rattle.std.proofs.Math.Seq.{take-length, take-append_seam}
 use Rattle.stock_model.specs.declared.records.Record.{Record}
 use Rattle.stock_model.specs.Masters.{record_at}
 use Rattle.stock_model.specs.Entries.{entries, entries_of}
@@ -41,3 +41,9 @@ journal-last journal shown count last some same counted is =
 pub whole-of : {X : Type 0} (n : ℕ) (xs ys : List X) → length xs ≡ length ys → n ≡ length ys → take n (xs ++ drop (length xs) ys) ≡ xs
 whole-of n xs ys same count =
     ap (λ rest. take n (xs ++ rest)) (drop_all (length xs) ys (omega (arith, same))) ∙ ap (take n) (append-nil xs) ∙ take_all n xs (omega (arith, same, count))
+
+-- a list to which one was added, cut back to what it had
+pub without-new : {X : Type 0} (xs : List X) (x : X) (longer : List X) (n count : ℕ) → longer ≡ xs ++ x ∷ [] → n ≡ count + 1 → length xs ≡ count → take (n - 1) longer ≡ xs
+without-new xs x longer n count grows number counted =
+    let index : n - 1 ≡ length xs = omega (arith, number, counted) in
+    ap (take (n - 1)) grows ∙ ap (λ (k : ℕ). take k (xs ++ x ∷ [])) index ∙ take-append_seam xs (x ∷ [])

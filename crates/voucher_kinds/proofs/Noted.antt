@@ -27,7 +27,7 @@ at-snoc [] (suc i) = refl
 at-snoc (t ∷ takers) zero = refl
 at-snoc (t ∷ takers) (suc i) = at-snoc takers i
 
-taker-snoc : (takers : List (Option RecordNo)) (n : ℕ) → taker (takers ++ None ∷ []) n ≡ taker takers n
+pub taker-snoc : (takers : List (Option RecordNo)) (n : ℕ) → taker (takers ++ None ∷ []) n ≡ taker takers n
 taker-snoc takers zero = refl
 taker-snoc takers (suc i) = at-snoc takers i
 
@@ -39,7 +39,7 @@ at-take [] (suc k) (suc i) within = refl
 at-take (t ∷ takers) (suc k) zero within = refl
 at-take (t ∷ takers) (suc k) (suc i) within = at-take takers k i (omega (arith, within))
 
-taker-take : (takers : List (Option RecordNo)) (k n : ℕ) → n ≤ k → taker (take k takers) n ≡ taker takers n
+pub taker-take : (takers : List (Option RecordNo)) (k n : ℕ) → n ≤ k → taker (take k takers) n ≡ taker takers n
 taker-take takers k zero within = refl
 taker-take takers k (suc i) within = at-take takers k i (omega (arith, within))
 

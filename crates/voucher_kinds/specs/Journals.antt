@@ -1,5 +1,5 @@
 -- How a journal is kept: its records, their items and warehouses in a master, the units that they return, which record takes each
--- of them back, and up to which moment they close the past.
+-- of them back and from which one on it is named, and up to which moment they close the past.
 use Rattle.std.specs.Prelude.{◌≡◌, ℕ, zero, suc, ◌-◌, ◌<◌, ◌≤◌, Bool, true, nat_lt, List, length, take, Option, None, Some, IfSome, unwrap_or, slice_get, set}
 use Rattle.item_master.specs.State.{MasterState}
 use Rattle.stock_model.specs.declared.records.Record.{Record}
@@ -11,10 +11,11 @@ use Rattle.stock_nums.specs.declared.cause.Target.{Target}
 use Rattle.stock_nums.specs.declared.line_sums.LineSums.{LineSums}
 use Rattle.stock_nums.specs.declared.moment.Moment.{Moment}
 use Rattle.stock_nums.specs.declared.numbers.RecordNo.{RecordNo}
+use Rattle.stock_model.specs.Cancelling.{names_line_of}
 use Rattle.stock_model.specs.Entries.{all_entries, is_live}
 use Rattle.stock_model.specs.Freezing.{frozen}
 use Rattle.stock_model.specs.Journals.{AreSound}
-use Rattle.stock_model.specs.Masters.{items, stores}
+use Rattle.stock_model.specs.Masters.{items, stores, record_at}
 use Rattle.stock_model.specs.Returns.{returned}
 use Rattle.voucher_kinds.specs.ReturnedUnits.{HasRoom}
 
@@ -48,6 +49,21 @@ pub record AreTakers (records : List Record) (takers : List (Option RecordNo)) :
   pub notes : length takers ≡ length records
   pub in_force : (n k : ℕ) → k ≤ length records → is_live (take k records) n ≡ is_later k (taker takers n)
   pub within : (n : ℕ) → IfSome (taker takers n) (λ by. by.0 ≤ length records)
+
+-- what is noted is at a record, or before it
+abbrev pub IsFrom : Option RecordNo → ℕ → Type 0
+IsFrom None k = ⊥
+IsFrom (Some first) k = first.0 ≤ k
+
+-- nothing is noted later than it was
+abbrev pub KeepsFirst : List (Option RecordNo) → List (Option RecordNo) → Type 0
+KeepsFirst old new = (n k : ℕ) → IsFrom (taker old n) k → IsFrom (taker new n) k
+
+-- there is a note for each of the records, and whatever names a line of it comes after it, and from the one on that is noted
+pub record AreNamers (records : List Record) (namers : List (Option RecordNo)) : Type 0 where
+  pub notes : length namers ≡ length records
+  pub from : (n k : ℕ) (item : Record) → record_at records k ≡ Some item → names_line_of n item.what ≡ true
+      → (0 < n) × (n < k) × IsFrom (taker namers n) k
 
 -- the records are no more than a journal holds, none had a fault of its own at its place, the master has their items and
 -- warehouses, the units that they return are counted and have room, it is noted of each which one takes it back, and the past is

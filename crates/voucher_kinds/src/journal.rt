@@ -1,7 +1,9 @@
 //! The accepted records, and what a voucher's codes stand for.
 
-ghost use Rattle.std.specs.Prelude.{◌≡◌, ◌⊎◌, ◌+◌, ◌-◌, ◌<◌, ◌≤◌, ℕ, [], ◌∷◌, ◌++◌, length, take, IfOk, OnOk, OnErr, IfErr, IfSome, Some, None};
-ghost use Rattle.std.specs.Option.{option_copied};
+ghost use Rattle.std.specs.Prelude.{◌≡◌, ◌⊎◌, ◌+◌, ◌-◌, ◌<◌, ◌≤◌, ℕ, [], ◌∷◌, ◌++◌, length, take, IfOk, true, OnOk, OnErr, IfErr, IfSome, Some, None};
+ghost use Rattle.std.specs.Option.{option_copied, option_map};
+ghost use Rattle.stock_model.specs.declared.records.Record.{Record};
+ghost use Rattle.stock_model.specs.Cancelling.{first_link, names_line_of, record_number};
 ghost use Rattle.stock_model.specs.Faults.{voucher_fault};
 ghost use Rattle.stock_model.specs.Entries.{entries, entries_of, is_live};
 ghost use Rattle.stock_model.specs.Freezing.{frozen};
@@ -9,14 +11,14 @@ ghost use Rattle.stock_model.specs.Masters.{record_at};
 ghost use Rattle.voucher_kinds.specs.Heads.{made_fault, with_made};
 ghost use Rattle.voucher_kinds.specs.Journals.{is_later};
 
-use crate::{heads, returned_units, takers};
+use crate::{heads, namers, returned_units, takers};
 use item_master::master::Master;
 use std::alloc::Global;
 use std::marker::Model;
 use stock_model::faults::PostFault;
 use stock_model::names::{Listed, Names, Returns};
 use stock_model::records::Record;
-use stock_model::{freezing, movements, refusals};
+use stock_model::{cancelling, freezing, movements, refusals};
 use stock_nums::cause::{Method, Target};
 use stock_nums::code::Code;
 use stock_nums::entry::Entry;
@@ -28,7 +30,8 @@ use stock_nums::moment::Moment;
 use stock_nums::numbers::{AccountNo, ItemNo, Qty, RecordNo, StoreNo};
 
 /// The accepted records in the order of their numbers, their items and warehouses, the units that they return, which of
-/// them takes each one back, and up to which moment they close the past, which are found without going over the records.
+/// them takes each one back and from which one on it is named, and up to which moment they close the past, which are found
+/// without going over the records.
 /// Contracts see it as the list of the records.
 #[derive(Drop)]
 pub struct Journal {
@@ -36,19 +39,21 @@ pub struct Journal {
     master: Master,
     returned_units: LineSums,
     takers: Vec<Option<RecordNo>>,
+    namers: Vec<Option<RecordNo>>,
     frozen: Option<Moment>,
 }
 
 impl Model for Journal {
     ghost use Rattle.std.specs.Prelude.{List};
     ghost use Rattle.stock_model.specs.declared.records.Record.{Record};
-    ghost use Rattle.voucher_kinds.specs.Journals.{IsJournal};
+    ghost use Rattle.voucher_kinds.specs.Journals.{IsJournal, AreNamers};
 
     ghost Value = { List Record };
 
     ghost view = { λ journal. journal.records.items };
 
-    ghost invariant = { λ journal. IsJournal journal.records.items journal.master journal.returned_units journal.takers.items journal.frozen };
+    ghost invariant = { λ journal. IsJournal journal.records.items journal.master journal.returned_units journal.takers.items journal.frozen
+        × AreNamers journal.records.items journal.namers.items };
 }
 
 impl Names for Journal {
@@ -65,15 +70,18 @@ impl Names for Journal {
     fn record_at(&self, number: RecordNo) -> Option<&Record> {
         self.at(number)
     }
-
-    fn records(&self) -> &[Record] {
-        self.records.as_slice()
-    }
 }
 
 impl Returns for Journal {
     fn is_live(&self, number: RecordNo) -> bool {
         takers::taker(self.takers.as_slice(), number).is_none()
+    }
+
+    fn first_link(&self, number: RecordNo) -> Option<RecordNo> {
+        match takers::taker(self.namers.as_slice(), number) {
+            Some(first) => self.link_from(first, number),
+            None => None,
+        }
     }
 
     fn returned(&self, target: Target) -> Qty {
@@ -95,6 +103,7 @@ impl Journal {
             master: Master::new(alloc),
             returned_units: LineSums::new(alloc),
             takers: Vec::new(alloc),
+            namers: Vec::new(alloc),
             frozen: None,
         }
     }
@@ -145,8 +154,13 @@ impl Journal {
         if self.takers.push(None).is_err() {
             return Err(NoMemory);
         }
+        if self.namers.push(None).is_err() {
+            self.takers.truncate(number.0 as usize - 1);
+            return Err(NoMemory);
+        }
         if enter(&mut self.records, &mut self.master, number, item).is_err() {
             self.takers.truncate(number.0 as usize - 1);
+            self.namers.truncate(number.0 as usize - 1);
             return Err(NoMemory);
         }
         let records = self.records.as_slice();
@@ -154,6 +168,7 @@ impl Journal {
         returned_units::add_units(&mut self.returned_units, &last.what);
         returned_units::take_cancelled(&mut self.returned_units, records, &last.what);
         takers::note(self.takers.as_mut_slice(), &last.what, Some(number));
+        namers::note(self.namers.as_mut_slice(), &last.what, number);
         self.frozen = frozen;
         Ok(number)
     }
@@ -170,9 +185,25 @@ impl Journal {
         returned_units::take_units(&mut self.returned_units, &last.what);
         takers::note(self.takers.as_mut_slice(), &last.what, None);
         self.takers.truncate(index);
+        self.namers.truncate(index);
         heads::take_away(&mut self.master, heads::made_by(&last.what));
         self.frozen = freezing::frozen_without(self.frozen, &records[..index], &last.what);
         self.records.truncate(index);
+    }
+
+    // The first record in force that names a line of the one with this number, where none before this first one names any.
+    fn link_from(&self, first: RecordNo, number: RecordNo) -> Option<RecordNo>
+        requires { (k : ℕ) (item : Record) → record_at self.now k ≡ Some item → names_line_of number.0 item.what ≡ true → first.0 ≤ k }
+        ensures { result ≡ option_map record_number (first_link self.now number.0) }
+    {
+        let records = self.records.as_slice();
+        for index in first.0.saturating_sub(1) as usize..records.len() {
+            let by = RecordNo(index as u32 + 1);
+            if self.is_live(by) && cancelling::names_line_of(number, &records[index].what) {
+                return Some(by);
+            }
+        }
+        None
     }
 
     // The number of the next record.

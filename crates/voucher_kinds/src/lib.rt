@@ -7,6 +7,7 @@ pub use stock_model::vouchers::{ReceiptLine, What};
 
 mod heads;
 pub mod journal;
+mod namers;
 mod returned_units;
 mod sending;
 mod takers;

@@ -18,5 +18,5 @@ returns c =
     let n = c.args.number.0 in
     turned (is_some c.taker.result) c.is_none.result c.is_none.ensures
     ∙ ap is_none (c.taker.ensures ∙ ap (λ takers. taker takers n) c.as_slice.ensures.value)
-    ∙ taker-live c.self.inside.records.items c.self.inside.takers.items n c.self.invariant.takers_are
+    ∙ taker-live c.self.inside.records.items c.self.inside.takers.items n c.self.invariant.0.takers_are
     ∙ ap (λ (records : List Record). is_live records n) c.self.view_is
