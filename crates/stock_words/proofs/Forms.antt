@@ -1,11 +1,11 @@
 -- The commands begin with bytes of their own, so no words are two of the program's forms; and those of a load tell one number, those
--- of a batch over a file one path.
+-- of a batch over a file one path, and so do those of an import.
 use Rattle.std.proofs.Common.{◌≡◌, ℕ, List, [], ◌∷◌, get_or, inl, inr, sym, ap, ◌∙◌}
 use Rattle.std.proofs.lemmas.List.{append_cancel_left}
 use Rattle.std.specs.Prelude.{codes}
 use Rattle.std.specs.Str.Parse.{digits_value}
 use Rattle.stock_words.specs.ServeWords.{SpellsServe}
-use Rattle.stock_words.specs.Words.{SpellsBatchOver, SpellsLoad}
+use Rattle.stock_words.specs.Words.{SpellsOver, SpellsBatchOver, SpellsImport, SpellsLoad}
 
 -- the first byte of the first of some words
 abbrev pub initial : List (List ℕ) → ℕ
@@ -18,6 +18,10 @@ batch_begins words batch = ap initial batch
 pub over_begins : (words : List (List ℕ)) (path : List ℕ) → SpellsBatchOver words path → initial words ≡ 98
 over_begins words path (inl two) = ap initial two.0
 over_begins words path (inr one) = ap initial one.0
+
+pub import_begins : (words : List (List ℕ)) (path : List ℕ) → SpellsImport words path → initial words ≡ 105
+import_begins words path (inl two) = ap initial two.0
+import_begins words path (inr one) = ap initial one.0
 
 pub load_begins : (words : List (List ℕ)) (n : ℕ) → SpellsLoad words n → initial words ≡ 108
 load_begins words n load = ap initial load.1
@@ -52,14 +56,21 @@ behind_two [] = []
 behind_two (word ∷ []) = []
 behind_two (word ∷ next ∷ words) = words
 
--- a batch over a file tells one path
-pub one_path : (words : List (List ℕ)) (path path' : List ℕ) → SpellsBatchOver words path → SpellsBatchOver words path' → path ≡ path'
-one_path words path path' (inl two) (inl other) = sym (ap third_word two.0) ∙ ap third_word other.0
-one_path words path path' (inl two) (inr other) =
+-- a command over a file tells one path
+one_path_of : (command : List ℕ) (words : List (List ℕ)) (path path' : List ℕ) → SpellsOver command words path
+    → SpellsOver command words path' → path ≡ path'
+one_path_of command words path path' (inl two) (inl other) = sym (ap third_word two.0) ∙ ap third_word other.0
+one_path_of command words path path' (inl two) (inr other) =
     let same : path ∷ [] ≡ [] = sym (ap behind_two two.0) ∙ ap behind_two other.0 in
     cc
-one_path words path path' (inr one) (inl other) =
+one_path_of command words path path' (inr one) (inl other) =
     let same : [] ≡ path' ∷ [] = sym (ap behind_two one.0) ∙ ap behind_two other.0 in
     cc
-one_path words path path' (inr one) (inr other) =
+one_path_of command words path path' (inr one) (inr other) =
     append_cancel_left (codes "--file=") path path' (sym (ap second_word one.0) ∙ ap second_word other.0)
+
+pub one_path : (words : List (List ℕ)) (path path' : List ℕ) → SpellsBatchOver words path → SpellsBatchOver words path' → path ≡ path'
+one_path = one_path_of (codes "batch")
+
+pub one_import_path : (words : List (List ℕ)) (path path' : List ℕ) → SpellsImport words path → SpellsImport words path' → path ≡ path'
+one_import_path = one_path_of (codes "import")

@@ -6,7 +6,7 @@ use Rattle.stock_words.specs.NumberWords.{IsNumber, IsNoNumber}
 pub use Rattle.stock_words.specs.Paths.{IsPath}
 use Rattle.stock_words.specs.ServeWords.{SpellsServe, SpellsNoService}
 use Rattle.stock_words.specs.declared.words.Asked.{Asked}
-use Rattle.stock_words.specs.declared.words.Asked.TheVariants.{Batch, BatchOver, Load, Serve}
+use Rattle.stock_words.specs.declared.words.Asked.TheVariants.{Batch, BatchOver, ImportInto, Load, Serve}
 use Rattle.stock_words.specs.declared.words.WordsFault.{WordsFault}
 use Rattle.stock_words.specs.declared.words.WordsFault.TheVariants.{Unknown, NoMemory}
 
@@ -14,10 +14,18 @@ use Rattle.stock_words.specs.declared.words.WordsFault.TheVariants.{Unknown, NoM
 abbrev pub IsFileOption : List ℕ → List ℕ → Type 0
 IsFileOption word path = (word ≡ codes "--file=" ++ path) × (path ≢ [])
 
--- the words are `batch`, `--file` and the path, or `batch` and one word for both
+-- the words are the command, `--file` and the path, or the command and one word for both
+abbrev pub SpellsOver : List ℕ → List (List ℕ) → List ℕ → Type 0
+SpellsOver command words path = ((words ≡ command ∷ codes "--file" ∷ path ∷ []) × IsPath path)
+    ⊎ ((words ≡ command ∷ (codes "--file=" ++ path) ∷ []) × (path ≢ []))
+
+-- the words are `batch` over the file at the path
 abbrev pub SpellsBatchOver : List (List ℕ) → List ℕ → Type 0
-SpellsBatchOver words path = ((words ≡ codes "batch" ∷ codes "--file" ∷ path ∷ []) × IsPath path)
-    ⊎ ((words ≡ codes "batch" ∷ (codes "--file=" ++ path) ∷ []) × (path ≢ []))
+SpellsBatchOver words path = SpellsOver (codes "batch") words path
+
+-- the words are `import` into the file at the path
+abbrev pub SpellsImport : List (List ℕ) → List ℕ → Type 0
+SpellsImport words path = SpellsOver (codes "import") words path
 
 -- the word tells a number of vouchers, from 1 to 40,000
 abbrev pub IsCount : List ℕ → ℕ → Type 0
@@ -34,22 +42,24 @@ SpellsLoad words n = (word : List ℕ) × (words ≡ codes "load" ∷ word ∷ [
 abbrev pub Spells : List (List ℕ) → Asked → Type 0
 Spells words Batch = words ≡ codes "batch" ∷ []
 Spells words (BatchOver path) = SpellsBatchOver words path.now
+Spells words (ImportInto path) = SpellsImport words path.now
 Spells words (Load n) = SpellsLoad words n
 Spells words (Serve asked) = SpellsServe words asked.path.now asked.port asked.desks
 
 -- the words are no form that the program knows
 abbrev pub SpellsNothing : List (List ℕ) → Type 0
 SpellsNothing words = (words ≢ codes "batch" ∷ []) × ((path : List ℕ) → SpellsBatchOver words path → ⊥)
-    × ((n : ℕ) → SpellsLoad words n → ⊥) × SpellsNoService words
+    × ((path : List ℕ) → SpellsImport words path → ⊥) × ((n : ℕ) → SpellsLoad words n → ⊥) × SpellsNoService words
 
--- the words ask for a batch or a load
-abbrev pub SpellsBatchOrLoad : List (List ℕ) → Type 0
-SpellsBatchOrLoad words = (words ≡ codes "batch" ∷ []) ⊎ ((path : List ℕ) × SpellsBatchOver words path) ⊎ ((n : ℕ) × SpellsLoad words n)
+-- the words ask for a batch, an import or a load
+abbrev pub SpellsNoServe : List (List ℕ) → Type 0
+SpellsNoServe words = (words ≡ codes "batch" ∷ []) ⊎ ((path : List ℕ) × SpellsBatchOver words path)
+    ⊎ ((path : List ℕ) × SpellsImport words path) ⊎ ((n : ℕ) × SpellsLoad words n)
 
--- why nothing can be done for the words: they are no form, or memory was wanting to read a batch or a load
+-- why nothing can be done for the words: they are no form, or memory was wanting to read a batch, an import or a load
 abbrev pub IsFaultOf : List (List ℕ) → WordsFault → Type 0
 IsFaultOf words Unknown = SpellsNothing words
-IsFaultOf words NoMemory = SpellsBatchOrLoad words
+IsFaultOf words NoMemory = SpellsNoServe words
 
 -- the words are exactly the one word `batch`
 abbrev pub IsBatch : List (String Global) → Type 0
@@ -58,6 +68,10 @@ IsBatch words = map string_bytes words ≡ codes "batch" ∷ []
 -- `batch` over the file at this path
 abbrev pub IsBatchOver : List (String Global) → List ℕ → Type 0
 IsBatchOver words path = SpellsBatchOver (map string_bytes words) path
+
+-- `import` into the file at this path
+abbrev pub IsImport : List (String Global) → List ℕ → Type 0
+IsImport words path = SpellsImport (map string_bytes words) path
 
 -- `load` with this number of vouchers
 abbrev pub IsLoad : List (String Global) → ℕ → Type 0

@@ -1,19 +1,19 @@
-//! The commands `batch` and `load`, as the kit's `clap` reads them.
+//! The commands `batch`, `import` and `load`, as the kit's `clap` reads them.
 ghost use Rattle.std.specs.Prelude.{◌≡◌, false, IfOk, IfErr, MatchOption, map, string_bytes};
 ghost use Rattle.clap.specs.declared.builder.command.Command.TheViews.{out-Command};
 ghost use Rattle.clap.specs.Words.{app_of, found_of, kind_of, rows_of, subcommand_of, subcommand_rows_of};
-ghost use Rattle.stock_words.specs.Commands.{AsksFor, AsksForNothing, IsBatchFor, IsLoadFor, IsLoadForNothing, batch_command, load_command, program};
-ghost use Rattle.stock_words.specs.Words.{SpellsBatchOrLoad};
+ghost use Rattle.stock_words.specs.Commands.{AsksFor, AsksForNothing, IsBatchFor, IsImportFor, IsImportForNothing, IsLoadFor, IsLoadForNothing, file_command, load_command, program};
+ghost use Rattle.stock_words.specs.Words.{SpellsNoServe};
 
 use crate::words::{Asked, load_count};
 use clap::error::ErrorKind;
 use clap::{Arg, ArgMatches, Command, Error};
 use std::alloc::{AllocError, Global};
 
-/// What stands in the words, which are a batch or a load.
+/// What stands in the words, which are a batch, an import or a load.
 /// `Error`: memory was wanting.
 pub(crate) fn matches_of<'a>(alloc: Global, words: &'a [String]) -> Result<ArgMatches<'a>, Error>
-    requires { SpellsBatchOrLoad (map string_bytes words.now) }
+    requires { SpellsNoServe (map string_bytes words.now) }
     ensures found { IfOk result (λ matches.
         subcommand_rows_of matches ≡ subcommand_of program (map string_bytes words.now)) }
     ensures memory { IfErr result (λ error. kind_of error ≡ ErrorKind.OutOfMemory) }
@@ -25,19 +25,22 @@ pub(crate) fn matches_of<'a>(alloc: Global, words: &'a [String]) -> Result<ArgMa
 fn program<'a>(alloc: Global) -> Result<Command<'a>, AllocError>
     ensures { IfOk result (λ command. app_of command ≡ program) }
 {
-    let batch = batch_command(alloc)?;
+    let batch = file_command(alloc, "batch")?;
+    let import = file_command(alloc, "import")?;
     let load = load_command(alloc)?;
     let named = Command::new(alloc, "stockd").no_binary_name(true);
     let answering = named.subcommand(batch)?;
-    answering.subcommand(load)
+    let importing = answering.subcommand(import)?;
+    importing.subcommand(load)
 }
 
-fn batch_command<'a>(alloc: Global) -> Result<Command<'a>, AllocError>
-    ensures app { IfOk result (λ command. app_of command ≡ batch_command) }
+/// A command with `--file`.
+fn file_command<'a>(alloc: Global, name: &'a str) -> Result<Command<'a>, AllocError>
+    ensures app { IfOk result (λ command. app_of command ≡ file_command name.now) }
     ensures local { IfOk result (λ command. (out-Command command).has_globals ≡ false) }
 {
     let file = Arg::new(alloc, "file").long("file");
-    Command::new(alloc, "batch").arg(file)
+    Command::new(alloc, name).arg(file)
 }
 
 fn load_command<'a>(alloc: Global) -> Result<Command<'a>, AllocError>
@@ -55,6 +58,7 @@ pub(crate) fn asked_in<'a>(matches: &ArgMatches<'a>) -> Option<Asked<'a>>
 {
     match matches.subcommand()? {
         ("batch", batch) => Some(batch_asked(batch)),
+        ("import", import) => import_asked(import),
         ("load", load) => load_asked(load),
         _ => None,
     }
@@ -68,6 +72,15 @@ fn batch_asked<'a>(batch: &ArgMatches<'a>) -> Asked<'a>
         Some(path) => Asked::BatchOver(path),
         None => Asked::Batch,
     }
+}
+
+/// What `import` asks for, if a file is named.
+fn import_asked<'a>(import: &ArgMatches<'a>) -> Option<Asked<'a>>
+    ensures { MatchOption result (IsImportForNothing (rows_of (found_of import.now)))
+        (IsImportFor (rows_of (found_of import.now))) }
+{
+    let path = import.get_str("file")?;
+    Some(Asked::ImportInto(path))
 }
 
 /// What `load` asks for, if it is a number of vouchers.

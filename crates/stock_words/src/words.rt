@@ -1,6 +1,6 @@
 //! What the words of the program ask for.
 ghost use Rattle.std.specs.Prelude.{◌≡◌, ◌↔◌, ℕ, List, ◌∷◌, IsTrue, IfOk, IfErr, MatchOption, map, codes, string_bytes};
-ghost use Rattle.stock_words.specs.Words.{Spells, SpellsBatchOrLoad, IsFaultOf, IsPath, IsFileOption, IsCount, IsNoCount};
+ghost use Rattle.stock_words.specs.Words.{Spells, SpellsNoServe, IsFaultOf, IsPath, IsFileOption, IsCount, IsNoCount};
 
 use crate::commands::{asked_in, matches_of};
 use crate::number_words::number_in;
@@ -17,6 +17,8 @@ pub enum Asked<'a> {
     Batch,
     /// `batch --file P`: over the ledger in the file at this path.
     BatchOver(&'a str),
+    /// `import --file P`: a sheet of vouchers, into the ledger in the file at this path.
+    ImportInto(&'a str),
     /// `load N`: a script of so many vouchers, over a new ledger that is kept nowhere.
     Load(u32),
     /// `serve`: desks over the ledger in a file.
@@ -28,7 +30,7 @@ pub enum Asked<'a> {
 pub enum WordsFault {
     /// They are no form that the program knows.
     Unknown,
-    /// Memory was wanting to read them. They are a batch or a load, since to tell that takes none.
+    /// Memory was wanting to read them. They are a batch, an import or a load, since to tell that takes none.
     NoMemory,
 }
 
@@ -44,7 +46,7 @@ pub fn asked_by(alloc: Global, words: &[String]) -> Result<Asked<'_>, WordsFault
     if let Some(asked) = serve_words(words) {
         return Ok(Asked::Serve(asked));
     }
-    if !is_batch_or_load(words) {
+    if !is_no_serve(words) {
         return Err(WordsFault::Unknown);
     }
     let Ok(matches) = matches_of(alloc, words) else {
@@ -56,15 +58,23 @@ pub fn asked_by(alloc: Global, words: &[String]) -> Result<Asked<'_>, WordsFault
     }
 }
 
-/// Whether the words are a batch or a load. The parser alone would take more: `--`, and a path of no bytes.
-fn is_batch_or_load(words: &[String]) -> bool
-    ensures { IsTrue result ↔ SpellsBatchOrLoad (map string_bytes words.now) }
+/// Whether the words are a batch, an import or a load. The parser alone would take more: `--`, and a path of no bytes.
+fn is_no_serve(words: &[String]) -> bool
+    ensures { IsTrue result ↔ SpellsNoServe (map string_bytes words.now) }
 {
     let Some((command, options)) = words.split_first() else {
         return false;
     };
-    match command.as_str() {
+    is_no_serve_after(command.as_str(), options)
+}
+
+/// Whether the command and the words after it are a batch, an import or a load.
+fn is_no_serve_after(command: &str, options: &[String]) -> bool
+    ensures { IsTrue result ↔ SpellsNoServe (command.now ∷ map string_bytes options.now) }
+{
+    match command {
         "batch" => are_batch_options(options),
+        "import" => is_import_file(options),
         "load" => is_load_count(options),
         _ => false,
     }
@@ -72,10 +82,21 @@ fn is_batch_or_load(words: &[String]) -> bool
 
 /// Whether the words after `batch` are none, or `--file` and a path, as two words or one.
 fn are_batch_options(options: &[String]) -> bool
-    ensures { IsTrue result ↔ SpellsBatchOrLoad (codes "batch" ∷ map string_bytes options.now) }
+    ensures { IsTrue result ↔ SpellsNoServe (codes "batch" ∷ map string_bytes options.now) }
 {
     match options {
         [] => true,
+        [option] => is_file_option(option.as_str()),
+        [option, path] => is_file(option.as_str()) && is_path(path.as_str()),
+        _ => false,
+    }
+}
+
+/// Whether the words after `import` are `--file` and a path, as two words or one.
+fn is_import_file(options: &[String]) -> bool
+    ensures { IsTrue result ↔ SpellsNoServe (codes "import" ∷ map string_bytes options.now) }
+{
+    match options {
         [option] => is_file_option(option.as_str()),
         [option, path] => is_file(option.as_str()) && is_path(path.as_str()),
         _ => false,
@@ -109,7 +130,7 @@ fn is_file_option(word: &str) -> bool
 
 /// Whether the words after `load` are one, a number of vouchers.
 fn is_load_count(rest: &[String]) -> bool
-    ensures { IsTrue result ↔ SpellsBatchOrLoad (codes "load" ∷ map string_bytes rest.now) }
+    ensures { IsTrue result ↔ SpellsNoServe (codes "load" ∷ map string_bytes rest.now) }
 {
     match rest {
         [word] => load_count(word.as_str()).is_some(),
