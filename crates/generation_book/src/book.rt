@@ -386,6 +386,13 @@ impl<K: Keeper> Book<K> {
         })
     }
 
+    /// The accepted records, in the order of their numbers, covered or not. It takes no memory.
+    pub fn journal(&self) -> &Journal
+        ensures { result.now ≡ history.records self.now.history }
+    {
+        &self.journal
+    }
+
     /// The accepted record with this number. None exactly where the number is 0 or above accepted. It
     /// takes no memory.
     pub fn at(&self, number: RecordNo) -> Option<&Record>
