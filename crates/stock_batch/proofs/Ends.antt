@@ -9,7 +9,7 @@ use Rattle.stock_model.specs.History.{IsLegal}
 use Rattle.stock_model.specs.InputLines.{lines_of, whole_lines_of}
 use Rattle.stock_batch.specs.declared.batch.Batch.{Batch}
 use Rattle.stock_ends.specs.declared.end.End.{End}
-use Rattle.stock_ends.specs.declared.end.End.TheVariants.{Done, NoMemory, ReadFailed, WriteFailed, TooLong, StoreFailed, ListenFailed, Damaged}
+use Rattle.stock_ends.specs.declared.end.End.TheVariants.{Done, NoMemory, ReadFailed, WriteFailed, TooLong, StoreFailed, ListenFailed, BadSheet, Damaged}
 use Rattle.repost_worker.specs.Paces.{Pace}
 use Rattle.stock_batch.specs.Endings.{HasCause, IsReadToEnd, max_input}
 use Rattle.stock_batch.specs.Replies.{Answered, RunsShort}
@@ -116,6 +116,7 @@ HasCause-output WriteFailed read_before read_after before now after taken most r
 HasCause-output TooLong read_before read_after before now after taken most reads kept cause = absurd cause
 HasCause-output StoreFailed read_before read_after before now after taken most reads kept cause = absurd cause
 HasCause-output ListenFailed read_before read_after before now after taken most reads kept cause = absurd cause
+HasCause-output BadSheet read_before read_after before now after taken most reads kept cause = absurd cause
 HasCause-output (Damaged damage) read_before read_after before now after taken most reads kept cause = absurd cause
 
 HasCause-last : (end : End) (read_before read_after before now after taken : ℕ) → taken < max_input → read_after ≡ read_before → now ≡ before → IsLastEnd now after end
@@ -127,6 +128,7 @@ HasCause-last WriteFailed read_before read_after before now after taken few read
 HasCause-last TooLong read_before read_after before now after taken few reads kept cause = absurd cause
 HasCause-last StoreFailed read_before read_after before now after taken few reads kept cause = absurd cause
 HasCause-last ListenFailed read_before read_after before now after taken few reads kept cause = absurd cause
+HasCause-last BadSheet read_before read_after before now after taken few reads kept cause = absurd cause
 HasCause-last (Damaged damage) read_before read_after before now after taken few reads kept cause = absurd cause
 
 -- what was taken up to the end of a source is all that it had

@@ -4,7 +4,7 @@ use Rattle.stock_io.specs.Counts.{Rose}
 use Rattle.stock_model.specs.InputLines.{lines_of, whole_lines_of}
 use Rattle.repost_worker.specs.Paces.{Pace}
 use Rattle.stock_ends.specs.declared.end.End.{End}
-use Rattle.stock_ends.specs.declared.end.End.TheVariants.{Done, NoMemory, ReadFailed, WriteFailed, TooLong, StoreFailed, ListenFailed, Damaged}
+use Rattle.stock_ends.specs.declared.end.End.TheVariants.{Done, NoMemory, ReadFailed, WriteFailed, TooLong, StoreFailed, ListenFailed, BadSheet, Damaged}
 use Rattle.stock_batch.specs.Replies.{Answered, RunsShort}
 
 -- how many bytes a run takes at most
@@ -34,6 +34,7 @@ Says WriteFailed first last left taken text =
 -- these come before the first read, or to no run over lines
 Says StoreFailed first last left taken text = ⊥
 Says ListenFailed first last left taken text = ⊥
+Says BadSheet first last left taken text = ⊥
 Says (Damaged damage) first last left taken text = ⊥
 
 -- Each end comes only with its cause, and the first fault ends a run: no other end has a count that rose.
@@ -50,4 +51,5 @@ HasCause TooLong read_before read_after write_before write_after taken =
     (taken ≡ max_input) × (read_after ≡ read_before) × (write_after ≡ write_before)
 HasCause StoreFailed read_before read_after write_before write_after taken = ⊥
 HasCause ListenFailed read_before read_after write_before write_after taken = ⊥
+HasCause BadSheet read_before read_after write_before write_after taken = ⊥
 HasCause (Damaged damage) read_before read_after write_before write_after taken = ⊥

@@ -3,7 +3,7 @@ use Rattle.std.specs.Prelude.{ℕ, ◌≡◌, ◌+◌, Option, List, [], ◌++�
 use Rattle.std.specs.Io.KnownBytes.{Appends, Consumes}
 use Rattle.stock_io.specs.Counts.{Rose, NeverFalls}
 use Rattle.stock_ends.specs.declared.end.End.{End}
-use Rattle.stock_ends.specs.declared.end.End.TheVariants.{Done, NoMemory, ReadFailed, WriteFailed, TooLong, StoreFailed, ListenFailed, Damaged}
+use Rattle.stock_ends.specs.declared.end.End.TheVariants.{Done, NoMemory, ReadFailed, WriteFailed, TooLong, StoreFailed, ListenFailed, BadSheet, Damaged}
 use Rattle.repost_worker.specs.Paces.{Pace}
 use Rattle.stock_batch.specs.declared.batch.Batch.{Batch}
 use Rattle.stock_batch.specs.Batches.{StandsFor}
@@ -69,6 +69,7 @@ IsOutputEnd before after WriteFailed = Rose before after
 IsOutputEnd before after TooLong = ⊥
 IsOutputEnd before after StoreFailed = ⊥
 IsOutputEnd before after ListenFailed = ⊥
+IsOutputEnd before after BadSheet = ⊥
 IsOutputEnd before after (Damaged damage) = ⊥
 
 -- an end at the end of the source
@@ -80,4 +81,5 @@ IsLastEnd before after WriteFailed = Rose before after
 IsLastEnd before after TooLong = ⊥
 IsLastEnd before after StoreFailed = ⊥
 IsLastEnd before after ListenFailed = ⊥
+IsLastEnd before after BadSheet = ⊥
 IsLastEnd before after (Damaged damage) = ⊥

@@ -79,7 +79,12 @@ fn answer<K: Keeper>(
     }
 }
 
-fn post<K: Keeper>(
+/// Posts a record of desk 0 that says this.
+///
+/// # Errors
+///
+/// `NoMemory`: the record was not accepted.
+pub fn post<K: Keeper>(
     alloc: Global,
     book: &mut RevaluedBook<K>,
     what: What,
@@ -123,7 +128,11 @@ fn work<K: Keeper>(
 }
 
 /// Makes all turns that there are.
-fn settle<K: Keeper>(alloc: Global, book: &mut RevaluedBook<K>) -> Result<Answer, NoMemory>
+///
+/// # Errors
+///
+/// `NoMemory`: what turns had published by then stands.
+pub fn settle<K: Keeper>(alloc: Global, book: &mut RevaluedBook<K>) -> Result<Answer, NoMemory>
     ensures answers { IfOk result (λ answer. IsAnswerTo book.old.history Request.Settle answer book.new.history) }
     ensures pace { IfOk result (λ answer. KeepsPace book.old Request.Settle answer book.new) }
     ensures calls { IfOk result (λ answer. CallsKeeper book.old answer book.new) }

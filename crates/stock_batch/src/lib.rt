@@ -1,12 +1,12 @@
 //! A batch: the lines of an input answered over a book.
 #![tactic(auto)]
 
-mod answering;
+pub mod answering;
 pub mod batch;
 mod blank;
 pub mod filed;
 pub mod open_line;
 pub mod running;
 mod split;
-mod waiting;
+pub mod waiting;
 pub mod work_laws;

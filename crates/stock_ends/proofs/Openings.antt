@@ -12,7 +12,7 @@ use Rattle.repost_worker.specs.Openings.{state_of, opened_history, IsLoaded}
 use Rattle.repost_worker.specs.Paces.{Pace, IsAtRest}
 use Rattle.stock_ends.specs.Openings.{end_of_refusal, HasFirst, IsUnopened, IsUnbegunFor, IsOpenedAs}
 use Rattle.stock_ends.specs.declared.end.End.{End}
-use Rattle.stock_ends.specs.declared.end.End.TheVariants.{Done, NoMemory, ReadFailed, WriteFailed, TooLong, StoreFailed, ListenFailed, Damaged}
+use Rattle.stock_ends.specs.declared.end.End.TheVariants.{Done, NoMemory, ReadFailed, WriteFailed, TooLong, StoreFailed, ListenFailed, BadSheet, Damaged}
 
 -- the keeper has the plan that the shelf told
 pub opened-plan : (told kept first : Option (List ℕ)) → IfSome told (λ numbers. kept ≡ Some numbers) → first ≡ kept
@@ -68,6 +68,7 @@ unopened kept_tells keeper told same ReadFailed plan faults faults' old new back
 unopened kept_tells keeper told same WriteFailed plan faults faults' old new back fresh is planned uncalled cause = absurd cause
 unopened kept_tells keeper told same TooLong plan faults faults' old new back fresh is planned uncalled cause = absurd cause
 unopened kept_tells keeper told same ListenFailed plan faults faults' old new back fresh is planned uncalled cause = absurd cause
+unopened kept_tells keeper told same BadSheet plan faults faults' old new back fresh is planned uncalled cause = absurd cause
 
 -- the shelf refused to open a keeper
 pub unopened-refused : {Kt : Type 0} (kept_tells : Kt → Tables → Type 0) (told : Tables → Type 0) (plan : Option (List ℕ))

@@ -5,7 +5,7 @@ use Rattle.stock_io.specs.Counts.{Rose}
 use Rattle.stock_io.specs.Streams.{AppendsFront}
 use Rattle.stock_ends.specs.Damages.{damage_note}
 use Rattle.stock_ends.specs.declared.end.End.{End}
-use Rattle.stock_ends.specs.declared.end.End.TheVariants.{Done, NoMemory, ReadFailed, WriteFailed, TooLong, StoreFailed, ListenFailed, Damaged}
+use Rattle.stock_ends.specs.declared.end.End.TheVariants.{Done, NoMemory, ReadFailed, WriteFailed, TooLong, StoreFailed, ListenFailed, BadSheet, Damaged}
 
 -- the status that tells this end
 abbrev pub status_of : End → ℕ
@@ -16,6 +16,7 @@ status_of WriteFailed = 5
 status_of TooLong = 8
 status_of StoreFailed = 6
 status_of ListenFailed = 9
+status_of BadSheet = 10
 status_of (Damaged damage) = 7
 
 -- the line that notes this end; a run that is done needs none
@@ -27,6 +28,7 @@ note_text WriteFailed = codes "stockd: write failed\n"
 note_text TooLong = codes "stockd: input too long\n"
 note_text StoreFailed = codes "stockd: store failed\n"
 note_text ListenFailed = codes "stockd: listen failed\n"
+note_text BadSheet = codes "stockd: sheet\n"
 note_text (Damaged damage) = damage_note damage
 
 -- the end that is told: the same, or want of memory where a damage could not be noted for want of it
@@ -41,7 +43,7 @@ IsNote end text = text ≡ note_text end
 
 -- the line that notes other words
 abbrev pub usage_text : List ℕ
-usage_text = codes "stockd: words: batch [--file P] | serve --file P --port N --desks D | load N\n"
+usage_text = codes "stockd: words: batch [--file P] | serve --file P --port N --desks D | load N | import --file P\n"
 
 -- the text was written and no fault counted, or a front of it was and the count of faults rose
 abbrev pub WritesOrFails : {N : Type 0} → (N → Option (List ℕ)) → (N → ℕ) → N → N → List ℕ → Type 0

@@ -10,7 +10,7 @@ use stock_io::sink::{Sink, write_all};
 
 /// What is noted where the words are none that the program knows.
 const USAGE: &str =
-    "stockd: words: batch [--file P] | serve --file P --port N --desks D | load N\n";
+    "stockd: words: batch [--file P] | serve --file P --port N --desks D | load N | import --file P\n";
 
 /// What is noted where memory is wanting.
 const MEMORY: &str = "stockd: memory\n";
@@ -76,6 +76,7 @@ fn note_of(end: End) -> &'static str
         End::TooLong => "stockd: input too long\n",
         End::StoreFailed => "stockd: store failed\n",
         End::ListenFailed => "stockd: listen failed\n",
+        End::BadSheet => "stockd: sheet\n",
     }
 }
 
@@ -98,6 +99,7 @@ fn status_of(end: End) -> u8
         End::TooLong => 8,
         End::StoreFailed => 6,
         End::ListenFailed => 9,
+        End::BadSheet => 10,
         End::Damaged(_) => 7,
     }
 }

@@ -2,7 +2,7 @@
 use Rattle.std.proofs.Common.{◌≡◌, ◌⊎◌, ℕ, List, Option, inl, inr, sym, subst, refl, arith}
 use Rattle.stock_ends.specs.Statuses.{status_of, IsToldAs, CountsNoFault}
 use Rattle.stock_ends.specs.declared.end.End.{End}
-use Rattle.stock_ends.specs.declared.end.End.TheVariants.{Done, NoMemory, ReadFailed, WriteFailed, TooLong, StoreFailed, ListenFailed, Damaged}
+use Rattle.stock_ends.specs.declared.end.End.TheVariants.{Done, NoMemory, ReadFailed, WriteFailed, TooLong, StoreFailed, ListenFailed, BadSheet, Damaged}
 use Rattle.stock_load.specs.Loads.{IsLoaded}
 
 module _ {O : Type 0} (written : O → Option (List ℕ)) (faults : O → ℕ) (before after : O) (n : ℕ) where
@@ -15,6 +15,7 @@ module _ {O : Type 0} (written : O → Option (List ℕ)) (faults : O → ℕ) (
   loaded-told TooLong told is loaded = absurd loaded
   loaded-told StoreFailed told is loaded = absurd loaded
   loaded-told ListenFailed told is loaded = absurd loaded
+  loaded-told BadSheet told is loaded = absurd loaded
   loaded-told (Damaged damage) told is loaded = absurd loaded
 
   -- without a fault it is done, or memory was wanting
@@ -29,4 +30,5 @@ module _ {O : Type 0} (written : O → Option (List ℕ)) (faults : O → ℕ) (
   loaded-complete TooLong loaded none = absurd loaded
   loaded-complete StoreFailed loaded none = absurd loaded
   loaded-complete ListenFailed loaded none = absurd loaded
+  loaded-complete BadSheet loaded none = absurd loaded
   loaded-complete (Damaged damage) loaded none = absurd loaded

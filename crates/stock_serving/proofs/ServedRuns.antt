@@ -15,7 +15,7 @@ use Rattle.stock_ends.specs.Statuses.{status_of, IsToldAs, CountsNoFault}
 use Rattle.stock_serving.specs.Serving.{summary_text, IsSettled, IsServedThen, Stops, ServesTo, Leaves, LeavesKept, IsWritten, Tells, IsUnbegunKeeper, IsBegun, IsServedOver, ServesOverShelf}
 use Rattle.stock_ends.specs.declared.damage.Damage.{Damage}
 use Rattle.stock_ends.specs.declared.end.End.{End}
-use Rattle.stock_ends.specs.declared.end.End.TheVariants.{Done, NoMemory, ReadFailed, WriteFailed, TooLong, StoreFailed, ListenFailed, Damaged}
+use Rattle.stock_ends.specs.declared.end.End.TheVariants.{Done, NoMemory, ReadFailed, WriteFailed, TooLong, StoreFailed, ListenFailed, BadSheet, Damaged}
 use Rattle.stock_ends.proofs.Openings.{opened-as, opened-plan, unopened}
 use Rattle.stock_serving.proofs.Later.{failed-later}
 
@@ -35,6 +35,7 @@ module _ {P O : Type 0} (written : O → Option (List ℕ)) (write_faults : O �
   told-written NoMemory text is wrote served = absurd wrote
   told-written ReadFailed text is wrote served = absurd wrote
   told-written TooLong text is wrote served = absurd wrote
+  told-written BadSheet text is wrote served = absurd wrote
   told-written StoreFailed text is wrote served = absurd wrote
   told-written ListenFailed text is wrote served = absurd wrote
   told-written (Damaged damage) text is wrote served = absurd wrote
@@ -46,6 +47,7 @@ module _ {P O : Type 0} (written : O → Option (List ℕ)) (write_faults : O �
   told-stopped NoMemory stops same = (stops, same)
   told-stopped ReadFailed stops same = absurd stops
   told-stopped TooLong stops same = absurd stops
+  told-stopped BadSheet stops same = absurd stops
   told-stopped StoreFailed stops same = (stops, same)
   told-stopped ListenFailed stops same = (stops, same)
   told-stopped (Damaged damage) stops same = absurd stops
@@ -69,6 +71,7 @@ module _ {P : Type 0} (serves : ℕ → ℕ → ℕ → List Deed → List Deed 
   stopped-legal ReadFailed stops = absurd stops
   stopped-legal WriteFailed stops = absurd stops
   stopped-legal TooLong stops = absurd stops
+  stopped-legal BadSheet stops = absurd stops
   stopped-legal (Damaged damage) stops = absurd stops
 
   leaves-legal : (summary : Result (String Global) End) → Leaves serves is_fresh desks summary first last old new → IsLegal last.history
@@ -173,6 +176,7 @@ module _ {H Kt L P O : Type 0} (kept_tells : Kt → Tables → Type 0) (tells : 
   served-told ReadFailed told is served = subst ServesBy (sym is) served
   served-told WriteFailed told is served = subst ServesBy (sym is) served
   served-told TooLong told is served = subst ServesBy (sym is) served
+  served-told BadSheet told is served = subst ServesBy (sym is) served
   served-told StoreFailed told is served = subst ServesBy (sym is) served
   served-told ListenFailed told is served = subst ServesBy (sym is) served
 
@@ -193,6 +197,7 @@ unopened-complete kept_tells NoMemory told plan before after kept cause shelf ke
 unopened-complete kept_tells ReadFailed told plan before after kept cause shelf keeper = absurd cause
 unopened-complete kept_tells WriteFailed told plan before after kept cause shelf keeper = absurd cause
 unopened-complete kept_tells TooLong told plan before after kept cause shelf keeper = absurd cause
+unopened-complete kept_tells BadSheet told plan before after kept cause shelf keeper = absurd cause
 unopened-complete kept_tells StoreFailed told plan before after kept (inl rose) shelf keeper = absurd (no-fault-rose before after shelf rose)
 unopened-complete kept_tells StoreFailed told plan before after kept (inr failed) shelf keeper = absurd (no-fault-rose 0 kept keeper failed.0)
 unopened-complete kept_tells ListenFailed told plan before after kept cause shelf keeper = absurd cause
@@ -210,6 +215,7 @@ module _ {P O : Type 0} (written : O → Option (List ℕ)) (write_faults : O �
   run-complete WriteFailed served told keeper listener output =
       absurd (no-fault-rose (write_faults before) (write_faults after) output told.1)
   run-complete TooLong served told keeper listener output = absurd served
+  run-complete BadSheet served told keeper listener output = absurd served
   run-complete StoreFailed served told keeper listener output =
       absurd (no-fault-rose 0 last.keeper.faults keeper served.then.1)
   run-complete ListenFailed (inl unheard) told keeper listener output =

@@ -15,7 +15,7 @@ use Rattle.desk_service.specs.Service.{IsService}
 use Rattle.stock_ends.specs.Openings.{end_of_refusal}
 use Rattle.stock_serving.specs.Serving.{Settles, IsRefusedFor, IsUnsettledFor, CallsEach, IsCutShort, Leaves, LeavesKept, IsBegun}
 use Rattle.stock_ends.specs.declared.end.End.{End}
-use Rattle.stock_ends.specs.declared.end.End.TheVariants.{Done, NoMemory, ReadFailed, WriteFailed, TooLong, StoreFailed, ListenFailed, Damaged}
+use Rattle.stock_ends.specs.declared.end.End.TheVariants.{Done, NoMemory, ReadFailed, WriteFailed, TooLong, StoreFailed, ListenFailed, BadSheet, Damaged}
 
 -- all of it is heard as it was
 pub heard-same : {P : Type 0} (old new : Heard P) → new.waiting ≡ old.waiting → new.hung_up ≡ old.hung_up → new.accepts ≡ old.accepts
@@ -70,6 +70,7 @@ module _ {P : Type 0} (serves : ℕ → ℕ → ℕ → List Deed → List Deed 
   leaves-settled (Err ReadFailed) first served last old new service calls settles legal = absurd settles
   leaves-settled (Err WriteFailed) first served last old new service calls settles legal = absurd settles
   leaves-settled (Err TooLong) first served last old new service calls settles legal = absurd settles
+  leaves-settled (Err BadSheet) first served last old new service calls settles legal = absurd settles
   leaves-settled (Err ListenFailed) first served last old new service calls settles legal = absurd settles
   leaves-settled (Err (Damaged damage)) first served last old new service calls settles legal = absurd settles
 
