@@ -27,7 +27,7 @@ module _ {E : Type 0} where
 module _ {B E : Type 0} (history : B → List (ℕ × E)) (faults : B → ℕ) (start : B → Start) (follows : Start → B → Type 0) (about : B) where
   pub with_give : (s : State (Option B) (View E)) (r : TakesTurns history faults start follows about s) (id : ℕ) (v : View E) (b : B) (more : List (ℕ × E)) (stop rise : ℕ) (words' : List ℕ) (homes' : List (maybe.Option (Option B)))
       → get_elem? s.views id ≡ some v → 0 < v.passes → HasTicket v.turn r.serving → tickets v.turn ≡ 1
-      → words' ≡ r.ticket ∷ (r.serving + 1) ∷ [] → homes' ≡ some (Some b) ∷ []
+      → words' ≡ r.ticket ∷ (r.serving + 1) ∷ r.bells → homes' ≡ some (Some b) ∷ []
       → BeginsWith (history b) r.log → more ≡ past r.log (history b) → made_by id more ≡ more → rise + r.count ≡ faults b → follows (start about) b
       → TakesTurns history faults start follows about record { words = words'; homes = homes'; views = set s.views id (record v { seen = history b; seen_faults = faults b; made = v.made ++ more; stops = v.stops ++ stop ∷ []; faults = v.faults + rise; turn = Rest }) }
   with_give s r id v b more stop rise words' homes' at lives has one words slot grown is_more own_more rises kept =
@@ -48,6 +48,7 @@ module _ {B E : Type 0} (history : B → List (ℕ × E)) (faults : B → ℕ) (
         count = faults b;
         ticket = r.ticket;
         serving = r.serving + 1;
+        bells = r.bells;
         home = some (Some b);
         words = words;
         slot = slot;

@@ -1,5 +1,5 @@
 -- Each step of a turn keeps the rule, and tells what it is said to tell.
-use Rattle.std.proofs.Common.{◌≡◌, ℕ, ◌+◌, ◌-◌, ◌*◌, ◌^◌, ◌%◌, ◌<◌, ◌≤◌, List, [], ◌∷◌, ◌++◌, length, get_or, set, eqb, sym, refl, ap, ◌∙◌, subst, arith, eq-eqb}
+use Rattle.std.proofs.Common.{◌≡◌, ℕ, suc, ◌+◌, ◌-◌, ◌*◌, ◌^◌, ◌%◌, ◌<◌, ◌≤◌, List, [], ◌∷◌, ◌++◌, length, get_or, set, eqb, sym, refl, ap, ◌∙◌, subst, arith, eq-eqb}
 use Rattle.std.proofs.Math.Nat.{mod-eq_of_lt}
 use Rattle.std.proofs.lemmas.List.{set-get_or}
 use Rattle.std.specs.Prelude.{All, Option, Some, None}
@@ -19,7 +19,7 @@ use Rattle.turn_lock.specs.declared.view.Turn.TheVariants.{Rest, Drawn, Served}
 use Rattle.turn_lock.specs.Histories.{BeginsWith, past, made_by}
 use Rattle.turn_lock.specs.Views.{HasTicket, IsServed, tickets, ticket_of, taken_of, taken_faults_of, all_turns, joined_made, spent, drawn, served, given}
 use Rattle.turn_lock.specs.Rule.{InTurn, TakesTurns}
-use Rattle.turn_lock.specs.Steps.{KeepsLast, looked, drew, came, raised, checked}
+use Rattle.turn_lock.specs.Steps.{KeepsLast, looked, drew, came, raised, rang, checked}
 use Rattle.turn_lock.proofs.Lists.{at_below, at_one, sums_within, begins_through, made_through_two, made_in_first, made_by_all}
 use Rattle.turn_lock.proofs.Turning.{with_turn}
 use Rattle.turn_lock.proofs.Giving.{with_give}
@@ -219,6 +219,44 @@ module _ {B E : Type 0} (history : B → List (ℕ × E)) (faults : B → ℕ) (
       let rose' : taken_faults_of v.turn ≤ faults b = subst (λ (x : B × ℕ). x.1 ≤ faults x.0) (λ i. (sym same i, sym tf i)) rose in
       let kept' : follows v.start b = subst (λ (x : B × Start). follows x.1 x.0) (λ i. (sym same i, sym st i)) kept in
       subst P (sym now) (gives_back n id (v, (0, Some b) ∷ rest carried) b is lives (λ i. (0, Some b) ∷ rest (had i)) grown' own' rose' kept')
+
+  -- what becomes of a bell changes nothing else
+  with_bells : (s : State (Option B) (View E)) (r : TakesTurns history faults start follows about s) (words' bells' : List ℕ) → words' ≡ r.ticket ∷ r.serving ∷ bells'
+      → TakesTurns history faults start follows about record { words = words'; homes = s.homes; views = s.views }
+  with_bells s r words' bells' are = record {
+    log = r.log;
+    count = r.count;
+    ticket = r.ticket;
+    serving = r.serving;
+    bells = bells';
+    home = r.home;
+    words = are;
+    slot = r.slot;
+    fits = r.fits;
+    joined_is_spent = r.joined_is_spent;
+    zero_fits = r.zero_fits;
+    all_passes_are = r.all_passes_are;
+    few = r.few;
+    apart = r.apart;
+    all_turns_are = r.all_turns_are;
+    all_tickets_are = r.all_tickets_are;
+    latest = r.latest;
+    later = r.later;
+    at_home = r.at_home;
+    none_unmade = r.none_unmade;
+    all_faults_are = r.all_faults_are;
+  }
+
+  pub rings : (n id : ℕ) (me : Me (Option B) (View E)) (k j : ℕ) → k ≡ suc (suc j) → Allows (TakesTurns history faults start follows about) n id me k (λ x. (x + 1) % 2 ^ 64) (rang history faults follows (step n k 1 0 none) me)
+  rings n id me k j is s r wide at _ =
+      let y : ℕ = (get_or s.words k 0 + 1) % 2 ^ 64 in (
+        me.0,
+        keeps,
+        tt,
+        subst (λ (x : List (View E)). TakesTurns history faults start follows about record { words = set s.words k y; homes = s.homes; views = x }) (sym (set_again s.views id me.0 at))
+            (with_bells s r (set s.words k y) (set r.bells j y) (ap (λ (i : ℕ). set s.words i y) is ∙ ap (λ (ws : List ℕ). set ws (suc (suc j)) y) r.words)),
+        refl,
+      )
 
   -- after a join
   pub checks : (n id : ℕ) (me : Me (Option B) (View E)) → me.0.number ≡ 0 → 0 < me.0.passes → Allows (TakesTurns history faults start follows about) n id me 0 (λ x. x) (checked history faults follows (step n 0 0 0 none) me)

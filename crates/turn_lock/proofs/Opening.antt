@@ -17,14 +17,15 @@ one_of a b zero e = (refl, some-injective a b e)
 one_of a b (suc j) e = absurd (some-ne-none b (sym e))
 
 module _ {B E : Type 0} (history : B → List (ℕ × E)) (faults : B → ℕ) (start : B → Start) (follows : Start → B → Type 0) (about : B) where
-  pub opens : follows (start about) about → TakesTurns history faults start follows about (opening (0 ∷ 0 ∷ []) (Some about ∷ []) (opened (history about) (faults about) (start about)))
-  opens kept = let log : List (ℕ × E) = history about in let v : View E = opened log (faults about) (start about) in
+  pub opens : (bells : List ℕ) → follows (start about) about → TakesTurns history faults start follows about (opening (0 ∷ 0 ∷ bells) (Some about ∷ []) (opened (history about) (faults about) (start about)))
+  opens bells kept = let log : List (ℕ × E) = history about in let v : View E = opened log (faults about) (start about) in
       let each : (P : ℕ → View E → Type 0) → P 0 v → (j : ℕ) (u : View E) → get_elem? (v ∷ []) j ≡ some u → P j u = λ P here j u at. let o = one_of v u j at in subst (λ (x : View E). P j x) o.1 (subst (λ (k : ℕ). P k v) (sym o.0) here) in
       record {
         log = log;
         count = faults about;
         ticket = 0;
         serving = 0;
+        bells = bells;
         home = some (Some about);
         words = refl;
         slot = refl;
@@ -45,6 +46,9 @@ module _ {B E : Type 0} (history : B → List (ℕ × E)) (faults : B → ℕ) (
         all_faults_are = omega arith;
       }
 
-pub opens_with : {B E : Type 0} (history : B → List (ℕ × E)) (faults : B → ℕ) (start : B → Start) (follows : Start → B → Type 0) (about book : B) (items : List (Option B)) → items ≡ Some book ∷ [] → about ≡ book → follows (start about) about
-    → TakesTurns history faults start follows about (opening (0 ∷ 0 ∷ []) items (opened (history about) (faults about) (start about)))
-opens_with {B} {E} history faults start follows about book items is same kept = subst (λ (xs : List (Option B)). TakesTurns history faults start follows about (opening (0 ∷ 0 ∷ []) xs (opened (history about) (faults about) (start about)))) (sym (is ∙ ap (λ (b : B). Some b ∷ []) (sym same))) (opens history faults start follows about kept)
+pub opens_with : {B E : Type 0} (history : B → List (ℕ × E)) (faults : B → ℕ) (start : B → Start) (follows : Start → B → Type 0) (about book : B) (words bells : List ℕ) (items : List (Option B)) → words ≡ 0 ∷ 0 ∷ bells → items ≡ Some book ∷ [] → about ≡ book → follows (start about) about
+    → TakesTurns history faults start follows about (opening words items (opened (history about) (faults about) (start about)))
+opens_with {B} {E} history faults start follows about book words bells items are is same kept =
+    subst (λ (ws : List ℕ). TakesTurns history faults start follows about (opening ws items (opened (history about) (faults about) (start about)))) (sym are)
+    (subst (λ (xs : List (Option B)). TakesTurns history faults start follows about (opening (0 ∷ 0 ∷ bells) xs (opened (history about) (faults about) (start about)))) (sym (is ∙ ap (λ (b : B). Some b ∷ []) (sym same)))
+    (opens history faults start follows about bells kept))

@@ -46,6 +46,7 @@ module _ {B E : Type 0} (history : B → List (ℕ × E)) (faults : B → ℕ) (
         count = r.count;
         ticket = r.ticket;
         serving = r.serving;
+        bells = r.bells;
         home = r.home;
         words = r.words;
         slot = r.slot;

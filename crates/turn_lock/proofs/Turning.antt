@@ -46,7 +46,7 @@ module _ {E : Type 0} where
 
 module _ {B E : Type 0} (history : B → List (ℕ × E)) (faults : B → ℕ) (start : B → Start) (follows : Start → B → Type 0) (about : B) where
   pub with_turn : (s : State (Option B) (View E)) (r : TakesTurns history faults start follows about s) (id : ℕ) (v : View E) (t' : Turn E) (ticket' : ℕ) (home' : maybe.Option (Option B)) (words' : List ℕ) (homes' : List (maybe.Option (Option B)))
-      → get_elem? s.views id ≡ some v → 0 < v.passes → words' ≡ ticket' ∷ r.serving ∷ [] → homes' ≡ home' ∷ []
+      → get_elem? s.views id ≡ some v → 0 < v.passes → words' ≡ ticket' ∷ r.serving ∷ r.bells → homes' ≡ home' ∷ []
       → r.ticket ≤ ticket' → ticket' + tickets v.turn ≡ r.ticket + tickets t' → length v.stops + tickets t' ≤ 2 ^ 57 → InTurn r.log r.count ticket' r.serving t'
       → ((t : ℕ) → HasTicket t' t → (j : ℕ) (u : View E) → j ≢ id → get_elem? s.views j ≡ some u → ¬ HasTicket u.turn t)
       → (((j : ℕ) (u : View E) → get_elem? (set s.views id (record v { turn = t' })) j ≡ some u → ¬ IsServed u.turn) → (b : B) × (home' ≡ some (Some b)) × (history b ≡ r.log) × (faults b ≡ r.count) × follows (start about) b)
@@ -60,6 +60,7 @@ module _ {B E : Type 0} (history : B → List (ℕ × E)) (faults : B → ℕ) (
         count = r.count;
         ticket = ticket';
         serving = r.serving;
+        bells = r.bells;
         home = home';
         words = words;
         slot = slot;

@@ -1,4 +1,5 @@
--- The rule of the lock: what holds between any two steps, of the two words, the slot and the views of all passes. It has six parts.
+-- The rule of the lock: what holds between any two steps, of the first two words, the slot and the views of all passes. Of the other
+-- words, the bells on which passes wait, it says nothing. It has six parts.
 --
 -- 1. Tickets. Serving is the number of turns that all passes have ended, joined ones included. The passes with a ticket have different ones, all from serving
 --    to below the next ticket, and there are as many as lie between. A pass has ended at most 2^57 turns, and fewer while it has a ticket, and there are at most
@@ -68,8 +69,9 @@ module _ {B E : Type 0} (history : B → List (ℕ × E)) (faults : B → ℕ) (
     pub count : ℕ
     pub ticket : ℕ
     pub serving : ℕ
+    pub bells : List ℕ
     pub home : maybe.Option (Option B)
-    pub words : s.words ≡ ticket ∷ serving ∷ []
+    pub words : s.words ≡ ticket ∷ serving ∷ bells
     pub slot : s.homes ≡ home ∷ []
     -- of each pass
     pub fits : (j : ℕ) (v : View E) → get_elem? s.views j ≡ some v → 0 < v.passes → FitsPass (history first) (faults first) (start first) log count ticket serving j v

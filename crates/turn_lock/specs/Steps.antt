@@ -11,6 +11,7 @@
 -- | exchange out | the slot, which is out              | none                                                            | goes into the hand        |
 -- | exchange in  | the slot, which is out              | none                                                            | comes back, with its rise |
 -- | raise        | word 1, from t to t + 1             | its own, which notes what the value has: raised                 | home again                |
+-- | ring         | a bell, from t to t + 1             | none: rang                                                      | stays                     |
 use Rattle.std.specs.Prelude.{◌≡◌, ◌≢◌, ℕ, ◌^◌, ◌<◌, ◌≤◌, List, [], ◌∷◌, ◌++◌, Option, Some}
 use Rattle.atomic_table.specs.Table.{Me, Step}
 use Rattle.turn_lock.specs.declared.view.Start.{Start}
@@ -55,3 +56,7 @@ module _ {B E : Type 0} (history : B → List (ℕ × E)) (faults : B → ℕ) (
   -- pass 0 looks, after a join
   abbrev pub checked : Step (Option B) → Me (Option B) (View E) → ℕ → Me (Option B) (View E) → Type 0
   checked st m n m' = (m' ≡ m) × KeepsLast m.0 m.0.joined × (made_by m.0.number (past m.0.first m.0.seen) ≡ m.0.made)
+
+  -- a bell is rung, which tells nothing
+  abbrev pub rang : Step (Option B) → Me (Option B) (View E) → ℕ → Me (Option B) (View E) → Type 0
+  rang st m n m' = m' ≡ m

@@ -7,7 +7,7 @@ ghost use Rattle.turn_lock.specs.Steps.{Learns};
 use crate::held::{Hand, Held};
 use crate::logged::Logged;
 use crate::pass::Pass;
-use crate::plays::{Check, Come, Cut, Draw, Look, Merge, Raise};
+use crate::plays::{Check, Come, Cut, Draw, Look, Merge, Raise, Ring};
 use crate::rule::{TurnSeat, TurnTable};
 use atomic_table::{Refused, Table};
 use std::alloc::Global;
@@ -20,9 +20,16 @@ const TICKET: usize = 0;
 
 const SERVING: usize = 1;
 
+const FIRST_BELL: usize = 2;
+
+// There are more bells than passes, so that no two of those that wait have the same.
+const BELLS: u64 = 32;
+
+const WORDS: usize = 34;
+
 const SLOT: usize = 0;
 
-// How often a pass looks in vain before it parks.
+// How often the pass that is next looks in vain before it parks.
 const SPINS: u32 = 2_000;
 
 // The part of a word that parking looks at.
@@ -42,7 +49,7 @@ impl<B: Logged> Model for TurnLock<B> {
 
     ghost view = { λ l. record { lock = l.table.shared.table_id; seats = l.seats } };
 
-    ghost invariant = { λ l. (l.seats ≤ 17) × (l.table.shared.table_id.words ≡ 2) × (l.table.shared.table_id.slots ≡ 1) };
+    ghost invariant = { λ l. (l.seats ≤ 17) × (l.table.shared.table_id.words ≡ 34) × (l.table.shared.table_id.slots ≡ 1) };
 }
 
 /// There was no memory for a lock. The value comes back.
@@ -74,7 +81,7 @@ impl<B: Logged> TurnLock<B> {
                 None => unreachable!(),
             };
         }
-        match Table::new(alloc, &[0, 0], slots, &about) {
+        match Table::new(alloc, &[0; WORDS], slots, &about) {
             Ok((table, seat)) => Ok((TurnLock { table, seats }, Pass { seat, gives: 0 })),
             Err(Refused { slots }) => Err(NotMade { book: only(slots) }),
         }
@@ -142,7 +149,8 @@ impl<B: Logged> TurnLock<B> {
         unreachable!()
     }
 
-    // Looks until the ticket is served, and takes the value out of the slot.
+    // Looks until the ticket is served, and takes the value out of the slot. It hears its bell before it looks, so that no ring is
+    // missed.
     fn wait<R: Wait>(&self, rt: &R, seat: &mut TurnSeat<B>, ticket: u64) -> B
         requires same_lock { seat.old.table_id ≡ self.now.lock }
         requires drawn { (seat.old.me.0.turn ≡ Drawn ticket) × (0 < seat.old.me.0.passes) × (seat.old.me.1 ≡ []) }
@@ -152,8 +160,10 @@ impl<B: Logged> TurnLock<B> {
         ensures follows { B.follows seat.old.me.0.start result }
     {
         let words = &self.table.shared;
+        let bell = bell_of(ticket);
         let mut looks = 0;
         for _ in rt.forever() {
+            let heard = words.peek(bell);
             let found = words.load::<Come>(seat, SERVING);
             if found == ticket {
                 match words.exchange(seat, SLOT, None) {
@@ -161,11 +171,11 @@ impl<B: Logged> TurnLock<B> {
                     None => unreachable!(),
                 }
             }
-            if looks < SPINS {
+            if looks < SPINS && found.wrapping_add(1) == ticket {
                 looks += 1;
                 hint::spin_loop();
             } else {
-                words.park(rt, SERVING, (found & LOW_BITS) as u32);
+                words.park(rt, bell, (heard & LOW_BITS) as u32);
             }
         }
         unreachable!()
@@ -194,8 +204,11 @@ impl<B: Logged> TurnLock<B> {
             Some(_) => unreachable!(),
         }
         let served = words.fetch_add::<Raise>(&mut seat, SERVING, 1);
-        if words.peek(TICKET) != served.wrapping_add(1) {
-            words.wake_all(SERVING);
+        let next = served.wrapping_add(1);
+        if words.peek(TICKET) != next {
+            let bell = bell_of(next);
+            words.fetch_add::<Ring>(&mut seat, bell, 1);
+            words.wake_all(bell);
         }
         Pass {
             seat,
@@ -247,6 +260,13 @@ impl<B: Logged> TurnLock<B> {
             None => unreachable!(),
         }
     }
+}
+
+// The word on which the pass with this ticket waits.
+fn bell_of(ticket: u64) -> usize
+    ensures { (1 < result) × (result < 34) }
+{
+    FIRST_BELL + (ticket % BELLS) as usize
 }
 
 // The one value in the slots.

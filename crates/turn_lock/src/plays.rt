@@ -35,6 +35,14 @@ impl<B: Logged> Play<Option<B>, View<B::Event>> for Raise {
     ghost then = { raised B.history B.faults B.follows };
 }
 
+pub(crate) struct Ring;
+
+impl<B: Logged> Play<Option<B>, View<B::Event>> for Ring {
+    ghost use Rattle.turn_lock.specs.Steps.{rang};
+
+    ghost then = { rang B.history B.faults B.follows };
+}
+
 pub(crate) struct Check;
 
 impl<B: Logged> Play<Option<B>, View<B::Event>> for Check {

@@ -1,4 +1,5 @@
-//! The table under the lock: word 0 is the next ticket, word 1 the ticket that is served, and the slot has the value.
+//! The table under the lock: word 0 is the next ticket, word 1 the ticket that is served, each further word a bell on which a pass
+//! waits, and the slot has the value.
 use crate::logged::Logged;
 use crate::view::View;
 use atomic_table::{Seat, Table, TableRule};
