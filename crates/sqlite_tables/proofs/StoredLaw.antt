@@ -56,6 +56,11 @@ module _ {S : Type 0} (store : Ghosts S) (old new : Held S) (ready : Bool) (sett
     loaded_tables (Ok copy) read = λ t told. read_told store old new (settled.telling told.0) _ survives undone copy read t told.1
     loaded_tables (Err e) read = tt
 
+    pub loaded_left : {E : Type 0} (r : Result Tables E) → IfOk r (HasRead store old new)
+        → IfOk r (λ copy. (t : Tables) → TellsTables store (base old ready) t → MayLeaveTables store (base new ready) t → copy ≡ t)
+    loaded_left (Ok copy) read = λ t told left. read left.1.clean t told.1.stands
+    loaded_left (Err e) read = tt
+
     pub loaded_kept : Within (TellsTables store (base old ready)) (TellsTables store (base new ready))
     loaded_kept t told = (told.0, undone_told store old new (settled.telling told.0) _ survives undone t told.1)
 

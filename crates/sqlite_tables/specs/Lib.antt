@@ -7,3 +7,4 @@ pub mod Stored
 pub mod Turning
 pub mod Reading
 pub mod Making
+pub mod Finding

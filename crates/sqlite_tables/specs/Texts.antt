@@ -1,10 +1,7 @@
 -- The texts of the statements. A number after a question mark is the place of a parameter.
 use Rattle.std.specs.Prelude.{ℕ, List, codes}
 
--- they tell what is in a database: all names, and the tables less those of SQLite's own
-abbrev pub select_names : List ℕ
-select_names = codes "SELECT name FROM sqlite_schema"
-
+-- it tells the tables of a database, less those of SQLite's own
 abbrev pub select_tables : List ℕ
 select_tables = codes "SELECT name FROM sqlite_schema WHERE type = 'table' AND name NOT LIKE 'sqlite_%' ORDER BY name"
 

@@ -1,6 +1,7 @@
 //! The ledger's tables in a database of SQLite, and what each statement makes of them.
 #![tactic(auto)]
 
+mod finding;
 pub mod making;
 mod parsing;
 pub mod reading;

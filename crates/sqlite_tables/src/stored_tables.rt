@@ -1,14 +1,17 @@
 //! Tables in a database, which are told: what a keeper over a database needs to say of them.
-ghost use Rattle.std.specs.Prelude.{◌≡◌, false, IsTrue, OnOk, OnErr, IfOk, IfErr};
-ghost use Rattle.stock_keeper.specs.Changed.{new_tables, appended, published, Follows};
-ghost use Rattle.stock_keeper.specs.Keeping.{Within, Makes, MayMake};
+ghost use Rattle.std.specs.Prelude.{◌≡◌, false, OnOk, OnErr, IfOk};
+ghost use Rattle.stock_keeper.specs.Changed.{appended, published, Follows};
+ghost use Rattle.stock_keeper.specs.Keeping.{Within, Makes, MayMake, HoldsOfNone};
 ghost use Rattle.stock_keeper.specs.Worths.{AreInOrder};
 ghost use Rattle.stock_keeper.specs.declared.tables.Tables.{Tables};
+ghost use Rattle.sqlite.specs.State.{Survives};
 ghost use Rattle.sqlite.specs.Held.{state};
-ghost use Rattle.sqlite_tables.specs.Making.{IsBlank};
+ghost use Rattle.sqlite_tables.specs.Finding.{IsPrepared};
+ghost use Rattle.sqlite_tables.specs.Making.{LeavesNew};
 ghost use Rattle.sqlite_tables.specs.Stored.{TellsTables, MayLeaveTables};
+ghost use Rattle.sqlite_tables.specs.Turning.{HasUndone};
 
-use crate::{making, reading, writing};
+use crate::{finding, making, reading, writing};
 use sqlite::{Alter, Connection, Error};
 use std::alloc::Global;
 use std::marker::Model;
@@ -53,23 +56,28 @@ impl<S: Alter> StoredTables<S> {
         self.conn
     }
 
-    /// The tables that are made in a database with nothing in it, in one transaction. They are told from then on.
+    /// Makes the tables in a database with nothing in it, in one transaction, and tells them from then on. A database that has these
+    /// tables and no others stays as it is, whatever their columns, and nothing is told of it: a load refuses those that it can't
+    /// read.
     ///
     /// # Errors
     ///
-    /// Those of the database, which is given back: there are no tables then, but a crash may leave them all.
-    pub fn make(mut conn: Connection<S>) -> Result<StoredTables<S>, (Error, Connection<S>)>
-        requires settled { conn.in_transaction ≡ false }
-        requires blank { IsBlank (state S.Store conn).now }
-        ensures made { IfOk result (λ s. Within (λ t. t ≡ new_tables) (TellsTables S.Store s)) }
-        ensures durable { IfOk result (λ s. Within (TellsTables S.Store s) (MayLeaveTables S.Store s)) }
-        ensures ready { IfOk result (λ s. IsTrue s.ready) }
-        ensures ended { IfErr result (λ refused. refused.1.in_transaction ≡ false) }
+    /// `NotADatabase` where the database has something in it, and not exactly these tables. All others are those of the database. It
+    /// stays as it is and nothing is told, but a crash may leave all of the tables in one that had nothing in it.
+    pub fn prepare(&mut self) -> Result<(), Error>
+        ensures prepared { OnOk result (IsPrepared S.Store self.old self.new) }
+        ensures durable { OnOk result (Within (TellsTables S.Store self.new) (MayLeaveTables S.Store self.new)) }
+        ensures untold { OnErr result (HoldsOfNone (TellsTables S.Store self.new)) }
+        ensures undone { OnErr result (HasUndone S.Store self.old.conn self.new.conn) }
+        ensures crash { Survives (state S.Store self.old.conn) (state S.Store self.new.conn) (LeavesNew (state S.Store self.old.conn)) }
     {
-        match making::make_tables(&mut conn) {
-            Ok(()) => Ok(StoredTables { conn, ready: true }),
-            Err(error) => Err((error, conn)),
+        self.ready = false;
+        if finding::is_blank(self.conn.schema()) {
+            making::make_tables(&mut self.conn)?;
+            self.ready = true;
+            return Ok(());
         }
+        finding::find_ledger(&mut self.conn)
     }
 
     /// Adds a record.
@@ -103,7 +111,8 @@ impl<S: Alter> StoredTables<S> {
         writing::publish(&mut self.conn, covered, changes)
     }
 
-    /// A copy of the tables. They stay as they are. Where they are told after it, they are what was copied.
+    /// A copy of the tables. They stay as they are. Where they are told after it, or were before it and a crash may leave them then,
+    /// they are what was copied.
     ///
     /// # Errors
     ///
@@ -112,6 +121,7 @@ impl<S: Alter> StoredTables<S> {
     /// others are those of the database.
     pub fn load(&mut self, alloc: Global) -> Result<Tables, Error>
         ensures tables { IfOk result (λ copy. (t : Tables) → TellsTables S.Store self.new t → copy ≡ t) }
+        ensures left { IfOk result (λ copy. (t : Tables) → TellsTables S.Store self.old t → MayLeaveTables S.Store self.new t → copy ≡ t) }
         ensures in_order { IfOk result (λ copy. AreInOrder copy.worths) }
         ensures tables_kept { Within (TellsTables S.Store self.old) (TellsTables S.Store self.new) }
         ensures crash { Within (MayLeaveTables S.Store self.old) (MayLeaveTables S.Store self.new) }
