@@ -1,4 +1,1 @@
 pub mod Files
-pub mod Texts
-pub mod Rows
-pub mod Running

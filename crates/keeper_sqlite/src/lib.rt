@@ -1,12 +1,8 @@
 //! The ledger's tables in a database of SQLite, which any `sqlite3` opens.
 #![tactic(auto)]
 
-mod reading;
 mod refusing;
-mod schema;
 mod sending;
 pub mod sqlite_keeper;
 pub mod sqlite_shelf;
 mod standing;
-mod statements;
-mod writing;

@@ -1,14 +1,22 @@
-//! A keeper over a database. It tells no tables. Its own clauses say which statements a change ran in one transaction, and which
-//! queries showed the rows that a load has its tables from; what these do to a database is what the kit's says of their texts.
-ghost use Rattle.std.specs.Prelude.{◌≡◌, false, true, Err, IfOk, IfErr, OnOk};
+//! A keeper over a database. It tells its tables where it has made them: what they are then is what the statements of their texts
+//! mean, while the disk returns what was written and nobody else writes the database.
+ghost use Rattle.std.specs.Prelude.{◌≡◌, false, true, Err, IfOk, OnOk, OnErr};
 ghost use Rattle.stock_io.specs.Counts.{NeverFalls, raised};
-ghost use Rattle.stock_keeper.specs.declared.fault.KeepFault.TheVariants as fault;
+ghost use Rattle.stock_keeper.specs.Changed.{appended, published, Follows};
+ghost use Rattle.stock_keeper.specs.Keeping.{Within, Makes, MayMake, HoldsOfNone};
 ghost use Rattle.stock_keeper.specs.Worths.{AreInOrder};
-ghost use Rattle.keeper_sqlite.specs.Running.{HasAppended, HasPublished, HasLoaded, IsReady};
+ghost use Rattle.stock_keeper.specs.declared.fault.KeepFault.TheVariants as fault;
+ghost use Rattle.stock_keeper.specs.declared.tables.Tables.{Tables};
+ghost use Rattle.sqlite.specs.State.{Survives};
+ghost use Rattle.sqlite.specs.Held.{state};
+ghost use Rattle.sqlite_tables.specs.Finding.{IsPrepared};
+ghost use Rattle.sqlite_tables.specs.Making.{LeavesNew};
+ghost use Rattle.sqlite_tables.specs.Stored.{TellsTables, MayLeaveTables};
+ghost use Rattle.sqlite_tables.specs.Turning.{HasUndone};
 
-use crate::refusing::counted;
-use crate::{reading, schema, writing};
-use sqlite::{Alter, Connection, Error};
+use crate::refusing::refused;
+use sqlite::{Alter, Connection};
+use sqlite_tables::stored_tables::StoredTables;
 use std::alloc::Global;
 use stock_keeper::changes::Changes;
 use stock_keeper::fault::KeepFault;
@@ -16,51 +24,63 @@ use stock_keeper::keeper::Keeper;
 use stock_keeper::tables::Tables;
 use stock_nums::numbers::RecordNo;
 
-/// A keeper over a database, with a transaction for each call, whose commit is the last step of a change. What it
-/// tells are its faults: each refusal of the database other than want of memory is one. Of its tables nothing
-/// is told, and nothing is claimed of what a crash leaves. It has no plan.
+/// A keeper over a database, with a transaction for each call, whose commit is the last step of a change. Each refusal of the
+/// database other than want of memory is a fault. It tells its tables once it has made them, as long as the disk is clean and the
+/// connection open, and what a crash may leave is what the database's own contract says that one may. Of tables that were there
+/// before it tells nothing. It has no plan.
 #[derive(Drop)]
 pub struct SqliteKeeper<S: Alter> {
     alloc: Global,
-    conn: Connection<S>,
+    tables: StoredTables<S>,
     faults: u64,
-    ghost settled: { conn.in_transaction ≡ false },
-}
-
-impl<S: Alter + Drop> SqliteKeeper<S> {
-    /// A keeper over this database, which had no fault yet. Where the database has nothing in it, the tables are made, in one
-    /// transaction.
-    ///
-    /// # Errors
-    ///
-    /// `NotADatabase` where the database has something in it, and not exactly the tables of a ledger: nothing is changed. What
-    /// the database refuses else: the tables that weren't there still aren't. The database is given back, still open.
-    pub fn over(
-        alloc: Global,
-        mut conn: Connection<S>,
-    ) -> Result<SqliteKeeper<S>, (Error, Connection<S>)>
-        requires { conn.in_transaction ≡ false }
-        ensures fresh { IfOk result (λ keeper. keeper.faults ≡ 0) }
-        ensures ready { IfOk result (λ keeper. IsReady S.Store conn keeper.conn) }
-        ensures ended { IfErr result (λ refused. refused.1.in_transaction ≡ false) }
-    {
-        match schema::make_ready(&mut conn) {
-            Ok(()) => Ok(SqliteKeeper {
-                alloc,
-                conn,
-                faults: 0,
-            }),
-            Err(error) => Err((error, conn)),
-        }
-    }
 }
 
 impl<S: Alter> SqliteKeeper<S> {
+    /// A keeper over this database, which had no fault yet. It tells nothing before it is prepared.
+    pub fn over(alloc: Global, conn: Connection<S>) -> SqliteKeeper<S>
+        requires { conn.in_transaction ≡ false }
+        ensures fresh { result.faults ≡ 0 }
+        ensures tables { result.tables ≡ record { conn = conn; ready = false } }
+    {
+        SqliteKeeper {
+            alloc,
+            tables: StoredTables::over(conn),
+            faults: 0,
+        }
+    }
+
+    /// Makes the tables where the database has nothing in it, in one transaction, and tells them from then on. A database that has
+    /// the tables of a ledger stays as it is.
+    ///
+    /// # Errors
+    ///
+    /// `Failed` where the database has something in it, and not exactly the tables of a ledger, or refuses else: a fault was
+    /// counted. `NoMemory` for want of memory. The database stays as it is and nothing is told, but a crash may leave all of the
+    /// tables in one that had nothing in it.
+    pub fn prepare(&mut self) -> Result<(), KeepFault>
+        ensures prepared { OnOk result (IsPrepared S.Store self.old.tables self.new.tables) }
+        ensures durable { OnOk result (Within (TellsTables S.Store self.new.tables) (MayLeaveTables S.Store self.new.tables)) }
+        ensures untold { OnErr result (HoldsOfNone (TellsTables S.Store self.new.tables)) }
+        ensures undone { OnErr result (HasUndone S.Store self.old.tables.conn self.new.tables.conn) }
+        ensures crash { Survives (state S.Store self.old.tables.conn) (state S.Store self.new.tables.conn)
+            (LeavesNew (state S.Store self.old.tables.conn)) }
+        ensures faults_kept { OnOk result (self.new.faults ≡ self.old.faults) }
+        ensures fault { result ≡ Err fault.Failed → self.new.faults ≡ raised self.old.faults }
+        ensures free { result ≡ Err fault.NoMemory → self.new.faults ≡ self.old.faults }
+        ensures never_falls { NeverFalls self.old.faults self.new.faults }
+    {
+        match self.tables.prepare() {
+            Ok(()) => Ok(()),
+            Err(error) => Err(refused(error, &mut self.faults)),
+        }
+    }
+
     /// The database, for good.
     pub fn into_connection(self) -> Connection<S>
-        ensures { result.in_transaction ≡ false }
+        ensures same { result ≡ self.tables.conn }
+        ensures ended { result.in_transaction ≡ false }
     {
-        self.conn
+        self.tables.into_connection()
     }
 
     /// How many calls the database refused for another cause than want of memory. The count stays at `u64::MAX`.
@@ -73,11 +93,11 @@ impl<S: Alter> SqliteKeeper<S> {
 
 impl<S: Alter> Keeper for SqliteKeeper<S> {
     ghost use Rattle.std.specs.Prelude.{None};
+    ghost use Rattle.sqlite_tables.specs.Lasting.{stays_left};
 
-    // It holds of no tables, so each clause on those that are told says nothing.
-    ghost tells = { λ _ _. ⊥ };
+    ghost tells = { λ k t. TellsTables S.Store k.tables t };
 
-    ghost may_leave = { λ _ _. ⊥ };
+    ghost may_leave = { λ k t. MayLeaveTables S.Store k.tables t };
 
     ghost faults = { λ k. k.faults };
 
@@ -85,7 +105,7 @@ impl<S: Alter> Keeper for SqliteKeeper<S> {
 
     ghost calls = { λ _. 0 };
 
-    // It tells no tables, so this is its own clause that records are handed to it.
+    // Where it tells no tables, this is its own clause that records are handed to it.
     fn is_lasting(&self) -> bool
         ensures { result ≡ true }
     {
@@ -93,38 +113,59 @@ impl<S: Alter> Keeper for SqliteKeeper<S> {
     }
 
     fn append(&mut self, number: RecordNo, body: &[u8]) -> Result<(), KeepFault>
-        ensures appended { OnOk result (HasAppended S.Store number body.now self.old.conn self.new.conn) }
+        requires { (t : Tables) → TellsTables S.Store self.old.tables t → Follows t number }
+        ensures made { OnOk result
+            (Makes (appended number body.now) (TellsTables S.Store self.old.tables) (TellsTables S.Store self.new.tables)) }
+        ensures durable { OnOk result (Within (TellsTables S.Store self.new.tables) (MayLeaveTables S.Store self.new.tables)) }
+        ensures tables_kept { OnErr result (Within (TellsTables S.Store self.old.tables) (TellsTables S.Store self.new.tables)) }
+        ensures crash { OnErr result (MayMake (appended number body.now) (TellsTables S.Store self.old.tables)
+            (MayLeaveTables S.Store self.old.tables) (MayLeaveTables S.Store self.new.tables)) }
         ensures faults_kept { OnOk result (self.new.faults ≡ self.old.faults) }
         ensures fault { result ≡ Err fault.Failed → self.new.faults ≡ raised self.old.faults }
         ensures free { result ≡ Err fault.NoMemory → self.new.faults ≡ self.old.faults }
         ensures never_falls { NeverFalls self.old.faults self.new.faults }
     {
-        let done = writing::append(&mut self.conn, number, body);
-        counted(done, &mut self.faults)
+        match self.tables.append(number, body) {
+            Ok(()) => Ok(()),
+            Err(error) => Err(refused(error, &mut self.faults)),
+        }
     }
 
     fn publish(&mut self, covered: RecordNo, changes: &Changes) -> Result<(), KeepFault>
-        ensures published { OnOk result (HasPublished S.Store covered changes.now self.old.conn self.new.conn) }
+        ensures made { OnOk result
+            (Makes (published covered changes.now) (TellsTables S.Store self.old.tables) (TellsTables S.Store self.new.tables)) }
+        ensures durable { OnOk result (Within (TellsTables S.Store self.new.tables) (MayLeaveTables S.Store self.new.tables)) }
+        ensures tables_kept { OnErr result (Within (TellsTables S.Store self.old.tables) (TellsTables S.Store self.new.tables)) }
+        ensures crash { OnErr result (MayMake (published covered changes.now) (TellsTables S.Store self.old.tables)
+            (MayLeaveTables S.Store self.old.tables) (MayLeaveTables S.Store self.new.tables)) }
         ensures faults_kept { OnOk result (self.new.faults ≡ self.old.faults) }
         ensures fault { result ≡ Err fault.Failed → self.new.faults ≡ raised self.old.faults }
         ensures free { result ≡ Err fault.NoMemory → self.new.faults ≡ self.old.faults }
         ensures never_falls { NeverFalls self.old.faults self.new.faults }
     {
-        let done = writing::publish(&mut self.conn, covered, changes);
-        counted(done, &mut self.faults)
+        match self.tables.publish(covered, changes) {
+            Ok(()) => Ok(()),
+            Err(error) => Err(refused(error, &mut self.faults)),
+        }
     }
 
     fn load(&mut self) -> Result<Tables, KeepFault>
-        ensures loaded { IfOk result (HasLoaded S.Store self.old.conn self.new.conn) }
+        ensures tables { IfOk result (λ copy. (t : Tables) → TellsTables S.Store self.new.tables t → copy ≡ t) }
+        ensures left { IfOk result (λ copy. (t : Tables) → TellsTables S.Store self.old.tables t → MayLeaveTables S.Store self.new.tables t
+            → copy ≡ t) }
         ensures in_order { IfOk result (λ copy. AreInOrder copy.worths) }
+        ensures tables_kept { Within (TellsTables S.Store self.old.tables) (TellsTables S.Store self.new.tables) }
+        ensures crash { Within (MayLeaveTables S.Store self.old.tables) (MayLeaveTables S.Store self.new.tables) }
         ensures faults_kept { OnOk result (self.new.faults ≡ self.old.faults) }
         ensures fault { result ≡ Err fault.Failed → self.new.faults ≡ raised self.old.faults }
         ensures free { result ≡ Err fault.NoMemory → self.new.faults ≡ self.old.faults }
         ensures never_falls { NeverFalls self.old.faults self.new.faults }
     {
-        let loaded = reading::load(self.alloc, &mut self.conn);
-        counted(loaded, &mut self.faults)
+        match self.tables.load(self.alloc) {
+            Ok(tables) => Ok(tables),
+            Err(error) => Err(refused(error, &mut self.faults)),
+        }
     }
 
-    ghost stays = { λ _ _ told. told };
+    ghost stays = { λ k t told. (told.0, stays_left _ S.Store.stays k.tables.conn t told.1) };
 }

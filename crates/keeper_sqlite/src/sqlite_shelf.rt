@@ -1,10 +1,14 @@
 //! A shelf whose keepers are files.
-ghost use Rattle.std.specs.Prelude.{◌≡◌, false, IfOk};
+ghost use Rattle.std.specs.Prelude.{◌≡◌, false, Err, IfOk, OnOk};
+ghost use Rattle.stock_io.specs.Counts.{NeverFalls, raised};
+ghost use Rattle.stock_keeper.specs.Keeping.{Within};
+ghost use Rattle.stock_keeper.specs.declared.fault.KeepFault.TheVariants as fault;
+ghost use Rattle.sqlite_tables.specs.Stored.{TellsTables, MayLeaveTables};
 
-use crate::refusing::counted;
+use crate::refusing::{counted, refused};
 use crate::sqlite_keeper::SqliteKeeper;
 use crate::standing;
-use sqlite::{Alter, Connection, Error, File, FileStore, Unknown};
+use sqlite::{Alter, Connection, File, FileStore, Unknown};
 use stock_keeper::fault::KeepFault;
 use stock_keeper::opened_path::OpenedPath;
 use stock_keeper::shelf::Shelf;
@@ -75,7 +79,19 @@ impl Shelf for SqliteShelf {
     fn open_keeper(&mut self, path: &str) -> Result<SqliteKeeper<FileStore<File>>, KeepFault> {
         self.opened = Some(OpenedPath::of(path));
         self.openings = self.openings.saturating_add(1);
-        counted(opened(&self.rt, path), &mut self.faults)
+        let log = match standing::log_to_add(&self.rt, path) {
+            Ok(log) => log,
+            Err(error) => return Err(refused(error, &mut self.faults)),
+        };
+        match Connection::open_from(&self.rt, path, false, Unknown) {
+            Ok(conn) => kept_in(&self.rt, conn, &log, &mut self.faults),
+            Err((error, left)) => {
+                if left.is_some() {
+                    standing::take_away(&self.rt, &log);
+                }
+                Err(refused(error, &mut self.faults))
+            }
+        }
     }
 
     // What was committed stays in the file and its log beside it, so it is there at the next opening also where
@@ -86,37 +102,27 @@ impl Shelf for SqliteShelf {
     }
 }
 
-// A keeper over the file, which is made if it isn't there. A refusal leaves no file that wasn't there.
-fn opened(rt: &HostRuntime, path: &str) -> Result<SqliteKeeper<FileStore<File>>, Error>
-    ensures fresh { IfOk result (λ keeper. keeper.faults ≡ 0) }
-{
-    let log = standing::log_to_add(rt, path)?;
-    match Connection::open_from(rt, path, false, Unknown) {
-        Ok(conn) => kept_in(rt, conn, &log),
-        Err((error, left)) => {
-            if left.is_some() {
-                standing::take_away(rt, &log);
-            }
-            Err(error)
-        }
-    }
-}
-
 // A keeper over an open file. The log that the opening added goes while the file is locked, where the keeper is refused.
 fn kept_in<S: Alter + Drop>(
     rt: &HostRuntime,
     conn: Connection<S>,
     log: &Option<String>,
-) -> Result<SqliteKeeper<S>, Error>
+    faults: &mut u64,
+) -> Result<SqliteKeeper<S>, KeepFault>
     requires { conn.in_transaction ≡ false }
     ensures fresh { IfOk result (λ keeper. keeper.faults ≡ 0) }
+    ensures durable { IfOk result (λ keeper. Within (TellsTables S.Store keeper.tables) (MayLeaveTables S.Store keeper.tables)) }
+    ensures faults_kept { OnOk result (faults.new ≡ faults.old) }
+    ensures fault { result ≡ Err fault.Failed → faults.new ≡ raised faults.old }
+    ensures never_falls { NeverFalls faults.old faults.new }
 {
-    match SqliteKeeper::over(rt.alloc(), conn) {
-        Ok(keeper) => Ok(keeper),
-        Err((error, conn)) => {
+    let mut keeper = SqliteKeeper::over(rt.alloc(), conn);
+    match keeper.prepare() {
+        Ok(()) => Ok(keeper),
+        Err(fault) => {
             standing::take_away(rt, log);
-            drop(conn);
-            Err(error)
+            drop(keeper);
+            Err(counted(fault, faults))
         }
     }
 }

@@ -1,11 +1,14 @@
 //! A keeper over SQLite loads what was written, and refuses what it cannot read, a disk that fails, and the databases of others.
 ghost use Rattle.std.specs.Prelude.{◌≡◌, false, IfSome, IsTrue};
+ghost use Rattle.stock_keeper.specs.Keeping.{HoldsOfNone};
+ghost use Rattle.sqlite_tables.specs.Stored.{TellsTables};
 
 use keeper_sqlite::sqlite_keeper::SqliteKeeper;
-use sqlite::{Alter, Connection, Error, ErrorCode, Files, Options};
+use sqlite::{Alter, Connection, Files, Options};
 use sqlite_disk::{Disk, Fuse, Memory};
 use std::alloc::Global;
 use stock_keeper::changes::{Changes, SpotWorth};
+use stock_keeper::fault::KeepFault;
 use stock_keeper::keeper::Keeper;
 use stock_keeper::tables::Tables;
 use stock_nums::entry::Worth;
@@ -73,8 +76,14 @@ fn lines_of<T: Copy>(alloc: Global, items: &[T]) -> Result<Lines<T>, NoMemory> {
     Ok(Lines::from_vec(items.to_vec(alloc)?))
 }
 
-fn adds<S: Alter>(keeper: &mut SqliteKeeper<S>, number: u32, body: &[u8]) -> bool {
-    keeper.append(RecordNo(number), body).is_ok()
+pub(crate) fn adds<K: Keeper>(keeper: &mut K, number: u32, body: &[u8]) -> bool
+    requires { HoldsOfNone (K.tells keeper.old) }
+    ensures { HoldsOfNone (K.tells keeper.new) }
+{
+    match keeper.append(RecordNo(number), body) {
+        Ok(()) => true,
+        Err(_) => false,
+    }
 }
 
 fn changes(alloc: Global, rows: &[SpotWorth], gone: &[Spot]) -> Option<Changes> {
@@ -84,16 +93,22 @@ fn changes(alloc: Global, rows: &[SpotWorth], gone: &[Spot]) -> Option<Changes> 
     })
 }
 
-fn publishes<S: Alter>(
+pub(crate) fn publishes<K: Keeper>(
     alloc: Global,
-    keeper: &mut SqliteKeeper<S>,
+    keeper: &mut K,
     covered: u32,
     rows: &[SpotWorth],
     gone: &[Spot],
-) -> bool {
-    match changes(alloc, rows, gone) {
-        Some(changes) => keeper.publish(RecordNo(covered), &changes).is_ok(),
-        None => false,
+) -> bool
+    requires { HoldsOfNone (K.tells keeper.old) }
+    ensures { HoldsOfNone (K.tells keeper.new) }
+{
+    let Some(changes) = changes(alloc, rows, gone) else {
+        return false;
+    };
+    match keeper.publish(RecordNo(covered), &changes) {
+        Ok(()) => true,
+        Err(_) => false,
     }
 }
 
@@ -114,13 +129,16 @@ fn are(tables: &Tables, number: i64, body: &[u8], covered: i64, worths: &[SpotWo
 }
 
 // The same of the tables that are loaded.
-fn loads<S: Alter>(
-    keeper: &mut SqliteKeeper<S>,
+fn loads<K: Keeper>(
+    keeper: &mut K,
     number: i64,
     body: &[u8],
     covered: i64,
     worths: &[SpotWorth],
-) -> bool {
+) -> bool
+    requires { HoldsOfNone (K.tells keeper.old) }
+    ensures { HoldsOfNone (K.tells keeper.new) }
+{
     match keeper.load() {
         Ok(tables) => are(&tables, number, body, covered, worths),
         Err(_) => false,
@@ -128,7 +146,9 @@ fn loads<S: Alter>(
 }
 
 // Whether two records and their worths are kept.
-fn keeps_two<S: Alter>(alloc: Global, keeper: &mut SqliteKeeper<S>) -> bool {
+fn keeps_two<K: Keeper>(alloc: Global, keeper: &mut K) -> bool
+    requires { HoldsOfNone (K.tells keeper.old) }
+{
     adds(keeper, 1, b"one")
         && publishes(alloc, keeper, 1, &[LATER, ENTERS, LEAVES], &[])
         && loads(keeper, 1, b"one", 1, &[LEAVES, ENTERS, LATER])
@@ -136,24 +156,37 @@ fn keeps_two<S: Alter>(alloc: Global, keeper: &mut SqliteKeeper<S>) -> bool {
         && publishes(alloc, keeper, 2, &[CHANGED], &[LATER.spot])
 }
 
+// A keeper over this database, once its tables are there. It is not prepared itself, and tells nothing, so that a test may append
+// what it likes.
+pub(crate) fn untold<S: Alter + Drop>(alloc: Global, conn: Connection<S>) -> Option<SqliteKeeper<S>>
+    requires { conn.in_transaction ≡ false }
+    ensures { IfSome result (λ keeper. HoldsOfNone (TellsTables S.Store keeper.tables)) }
+{
+    let mut keeper = SqliteKeeper::over(alloc, conn);
+    match keeper.prepare() {
+        Ok(()) => Some(SqliteKeeper::over(alloc, keeper.into_connection())),
+        Err(_) => None,
+    }
+}
+
 // Whether they are there where the database is opened again, as the next run would.
 fn are_kept<S: Alter + Drop>(alloc: Global, conn: Connection<S>) -> bool
     requires { conn.in_transaction ≡ false }
 {
-    match SqliteKeeper::over(alloc, conn) {
-        Ok(mut keeper) => loads(&mut keeper, 2, b"two", 2, &[LEAVES, CHANGED]),
-        Err(_) => false,
+    match untold(alloc, conn) {
+        Some(mut keeper) => loads(&mut keeper, 2, b"two", 2, &[LEAVES, CHANGED]),
+        None => false,
     }
 }
 
 fn keeps_for_good<S: Alter + Drop>(alloc: Global, conn: Connection<S>) -> bool
     requires { conn.in_transaction ≡ false }
 {
-    match SqliteKeeper::over(alloc, conn) {
-        Ok(mut keeper) => {
+    match untold(alloc, conn) {
+        Some(mut keeper) => {
             keeps_two(alloc, &mut keeper) && are_kept(alloc, keeper.into_connection())
         }
-        Err(_) => false,
+        None => false,
     }
 }
 
@@ -169,14 +202,14 @@ fn what_was_written_is_loaded_after_opening_again(rt: HostRuntime) {
 fn refuses_a_second<S: Alter + Drop>(alloc: Global, conn: Connection<S>) -> bool
     requires { conn.in_transaction ≡ false }
 {
-    match SqliteKeeper::over(alloc, conn) {
-        Ok(mut keeper) => {
+    match untold(alloc, conn) {
+        Some(mut keeper) => {
             adds(&mut keeper, 1, b"one")
                 && !adds(&mut keeper, 1, b"two")
                 && keeper.faults() == 1
                 && loads(&mut keeper, 1, b"one", 0, &[])
         }
-        Err(_) => false,
+        None => false,
     }
 }
 
@@ -202,9 +235,9 @@ fn after<S: Alter + Drop>(mut conn: Connection<S>, sql: &str) -> Option<Connecti
 fn is_loaded<S: Alter + Drop>(alloc: Global, conn: Connection<S>) -> bool
     requires { conn.in_transaction ≡ false }
 {
-    match SqliteKeeper::over(alloc, conn) {
-        Ok(mut keeper) => keeper.load().is_ok(),
-        Err(_) => false,
+    match untold(alloc, conn) {
+        Some(mut keeper) => keeper.load().is_ok(),
+        None => false,
     }
 }
 
@@ -212,10 +245,7 @@ fn is_loaded<S: Alter + Drop>(alloc: Global, conn: Connection<S>) -> bool
 fn made_ready<S: Alter + Drop>(alloc: Global, conn: Connection<S>) -> Option<Connection<S>>
     requires { conn.in_transaction ≡ false }
 {
-    match SqliteKeeper::over(alloc, conn) {
-        Ok(keeper) => Some(keeper.into_connection()),
-        Err(_) => None,
-    }
+    Some(untold(alloc, conn)?.into_connection())
 }
 
 // Whether tables are loaded after this statement has changed them.
@@ -241,8 +271,9 @@ fn rows_that_cannot_be_read_are_refused(rt: HostRuntime) {
 fn is_foreign<S: Alter + Drop>(alloc: Global, conn: Connection<S>) -> Option<Connection<S>>
     requires { conn.in_transaction ≡ false }
 {
-    match SqliteKeeper::over(alloc, conn) {
-        Err((Error::SqliteFailure(ErrorCode::NotADatabase), conn)) => Some(conn),
+    let mut keeper = SqliteKeeper::over(alloc, conn);
+    match keeper.prepare() {
+        Err(KeepFault::Failed) if keeper.faults() == 1 => Some(keeper.into_connection()),
         _ => None,
     }
 }
@@ -274,13 +305,9 @@ fn a_foreign_database_is_refused_and_keeps_its_tables(rt: HostRuntime) {
 fn added_to<S: Alter + Drop>(alloc: Global, conn: Connection<S>) -> Option<(bool, u64)>
     requires { conn.in_transaction ≡ false }
 {
-    match SqliteKeeper::over(alloc, conn) {
-        Ok(mut keeper) => {
-            let is_added = adds(&mut keeper, 1, b"one");
-            Some((is_added, keeper.faults()))
-        }
-        Err(_) => None,
-    }
+    let mut keeper = untold(alloc, conn)?;
+    let is_added = adds(&mut keeper, 1, b"one");
+    Some((is_added, keeper.faults()))
 }
 
 // The same of the database in these files.

@@ -1,8 +1,10 @@
 //! A shelf over files refuses what is no database, and leaves it as it was; and closes a database whose keeper is put back.
+ghost use Rattle.std.specs.Prelude.{◌≡◌, false};
 
 use keeper_sqlite::sqlite_keeper::SqliteKeeper;
 use keeper_sqlite::sqlite_shelf::SqliteShelf;
-use sqlite::Alter;
+use sqlite::{Alter, Connection};
+use std::alloc::Global;
 use std::fs;
 use std::test::Fail;
 use stock_keeper::keeper::Keeper;
@@ -50,16 +52,21 @@ const CLOSED_PATH: &str = "sqlite_closed_test/ledger";
 
 const BODY: &[u8] = b"a record that stands in the log until the database is closed";
 
-fn adds<S: Alter>(keeper: &mut SqliteKeeper<S>) -> bool {
-    keeper.append(RecordNo(1), BODY).is_ok()
+// The shelf tells no tables, so a keeper that it hands out may tell any: what is added here is added by one that tells none.
+fn adds<S: Alter + Drop>(alloc: Global, conn: Connection<S>) -> (bool, SqliteKeeper<S>)
+    requires { conn.in_transaction ≡ false }
+{
+    let mut keeper = SqliteKeeper::over(alloc, conn);
+    let is_added = keeper.append(RecordNo(1), BODY).is_ok();
+    (is_added, keeper)
 }
 
 // Whether a keeper of the file adds a record, which stands in the log then, and is put back.
 fn is_added(rt: &HostRuntime, path: &str) -> bool {
     let mut shelf = SqliteShelf::new(rt);
     match shelf.open_keeper(path) {
-        Ok(mut keeper) => {
-            let is_added = adds(&mut keeper);
+        Ok(keeper) => {
+            let (is_added, keeper) = adds(rt.alloc(), keeper.into_connection());
             shelf.put_back(keeper);
             is_added
         }
