@@ -1,0 +1,4 @@
+pub mod Posts
+pub mod Runs
+pub mod FiledImports
+pub mod ImportEnds
