@@ -1,5 +1,5 @@
 //! `stockd`: a stock ledger. `stockd batch` answers the lines of standard input on standard output, with `--file P` over the ledger
-//! that is kept in the file P. `stockd serve` answers requests over HTTP.
+//! that is kept in the file P. `stockd import` posts the vouchers of a sheet into it. `stockd serve` answers requests over HTTP.
 #![tactic(auto)]
 
 use keeper_sqlite::sqlite_shelf::SqliteShelf;

@@ -1,5 +1,5 @@
 -- Each command does what the words ask for, which is nothing else, and no end has the status of other words.
-use Rattle.std.proofs.Common.{◌≡◌, ℕ, List, map, inl, inr, refl, subst, sym, ◌∙◌, string_bytes, arith}
+use Rattle.std.proofs.Common.{ℕ, List, map, inl, inr, refl, subst, sym, ◌∙◌, string_bytes, arith}
 use Rattle.stock_io.specs.Listeners.{IsFresh}
 use Rattle.stock_keeper.specs.Keeping.{AsksAt, AsksAtMost}
 use Rattle.repost_worker.specs.Paces.{first_pace}
@@ -7,12 +7,13 @@ use Rattle.desk_service.specs.Listening.{heard}
 use Rattle.desk_service.specs.Service.{IsPeerServed}
 use Rattle.stock_words.specs.Words.{Spells, IsFaultOf}
 use Rattle.stock_words.proofs.ServeWords.{one_service, one_service_path, one_service_port}
-use Rattle.stock_words.proofs.Forms.{batch_begins, over_begins, load_begins, serve_begins, load_once, one_path}
+use Rattle.stock_words.proofs.Forms.{batch_begins, over_begins, import_begins, load_begins, serve_begins, load_once, one_path, one_import_path}
 use Rattle.stock_ends.specs.Statuses.{TellsEnd}
 use Rattle.stock_ends.specs.declared.end.End.{End}
 use Rattle.stock_ends.specs.declared.end.End.TheVariants.{NoMemory}
 use Rattle.stock_ends.proofs.Told.{status_not_2}
 use Rattle.stock_batch.proofs.Ends.{Ran-no_memory}
+use Rattle.stock_import.proofs.ImportEnds.{IsFaultless, import-faultless, import-no_memory, told-faultless}
 use Rattle.stock_load.specs.Loads.{IsLoaded}
 use Rattle.stock_load.proofs.LoadEnds.{loaded-told, loaded-complete}
 use Rattle.stock_serving.specs.Serving.{ServesOverShelf, ListensTo}
@@ -135,7 +136,7 @@ returns-in-Ok-Load-clause-words g c =
     let spells = subst (Spells words) c.in-Ok-Load.field-0-is c.in-Ok-Load.ensures.asked in
     let told = c.tell-status-in-Ok-Load.ensures.told in (
       (λ two. absurd (status_not_2 told.told (sym told.status_is ∙ two))),
-      (λ none. absurd (none.2 _ spells)),
+      (λ none. absurd (none.3 _ spells)),
     )
 
 pub returns-in-Ok-Load-clause-nothing_taken : goal.returns-in-Ok-Load-clause-nothing_taken
@@ -245,7 +246,7 @@ pub returns-in-Ok-Serve-clause-words : goal.returns-in-Ok-Serve-clause-words
 returns-in-Ok-Serve-clause-words g c =
     let words = map string_bytes c.args.words.now in
     let spells = subst (Spells words) c.in-Ok-Serve.field-0-is c.in-Ok-Serve.ensures.asked in
-    ((λ two. absurd (c.serve_asked.ensures.served two)), (λ none. absurd (none.3 _ _ _ spells)))
+    ((λ two. absurd (c.serve_asked.ensures.served two)), (λ none. absurd (none.4 _ _ _ spells)))
 
 pub returns-in-Ok-Serve-clause-nothing_written : goal.returns-in-Ok-Serve-clause-nothing_written
 returns-in-Ok-Serve-clause-nothing_written g c two =
@@ -340,7 +341,7 @@ pub returns-in-Err-Unknown-clause-words : goal.returns-in-Err-Unknown-clause-wor
 returns-in-Err-Unknown-clause-words g c =
     let words = map string_bytes c.args.words.now in
     let nothing = subst (IsFaultOf words) c.in-Err-Unknown.field-0-is c.in-Err-Unknown.ensures.fault in
-    ((λ two. (nothing.0, nothing.1, nothing.2, nothing.3)), (λ none. c.other_words-status.ensures.status))
+    ((λ two. (nothing.0, nothing.1, nothing.2, nothing.3, nothing.4)), (λ none. c.other_words-status.ensures.status))
 
 pub returns-in-Err-Unknown-clause-usage : goal.returns-in-Err-Unknown-clause-usage
 returns-in-Err-Unknown-clause-usage g c two =
@@ -368,25 +369,25 @@ pub returns-in-Err-Unknown-clause-load : goal.returns-in-Err-Unknown-clause-load
 returns-in-Err-Unknown-clause-load g c n load =
     let words = map string_bytes c.args.words.now in
     let nothing = subst (IsFaultOf words) c.in-Err-Unknown.field-0-is c.in-Err-Unknown.ensures.fault in
-    absurd (nothing.2 n load)
+    absurd (nothing.3 n load)
 
 pub returns-in-Err-Unknown-clause-complete_load : goal.returns-in-Err-Unknown-clause-complete_load
 returns-in-Err-Unknown-clause-complete_load g c n load none =
     let words = map string_bytes c.args.words.now in
     let nothing = subst (IsFaultOf words) c.in-Err-Unknown.field-0-is c.in-Err-Unknown.ensures.fault in
-    absurd (nothing.2 n load)
+    absurd (nothing.3 n load)
 
 pub returns-in-Err-Unknown-clause-serve : goal.returns-in-Err-Unknown-clause-serve
 returns-in-Err-Unknown-clause-serve g c path port desks serve =
     let words = map string_bytes c.args.words.now in
     let nothing = subst (IsFaultOf words) c.in-Err-Unknown.field-0-is c.in-Err-Unknown.ensures.fault in
-    absurd (nothing.3 path port desks serve)
+    absurd (nothing.4 path port desks serve)
 
 pub returns-in-Err-Unknown-clause-complete_serve : goal.returns-in-Err-Unknown-clause-complete_serve
 returns-in-Err-Unknown-clause-complete_serve g c path port desks serve shelf kept listener output =
     let words = map string_bytes c.args.words.now in
     let nothing = subst (IsFaultOf words) c.in-Err-Unknown.field-0-is c.in-Err-Unknown.ensures.fault in
-    absurd (nothing.3 path port desks serve)
+    absurd (nothing.4 path port desks serve)
 
 pub returns-in-Err-Unknown-clause-load_takes_nothing : goal.returns-in-Err-Unknown-clause-load_takes_nothing
 returns-in-Err-Unknown-clause-load_takes_nothing g c n load =
@@ -409,7 +410,9 @@ returns-in-Err-NoMemory-clause-words g c =
       (λ two. absurd (status_not_2 NoMemory (sym c.without_memory-status.ensures.status ∙ two))),
       (λ none. elim some [
         | inl batch ↦ absurd (none.0 batch)
-        | inr other ↦ elim other [ inl over ↦ absurd (none.1 over.0 over.1) | inr load ↦ absurd (none.2 load.0 load.1) ]
+        | inr (inl over) ↦ absurd (none.1 over.0 over.1)
+        | inr (inr (inl import)) ↦ absurd (none.2 import.0 import.1)
+        | inr (inr (inr load)) ↦ absurd (none.3 load.0 load.1)
       ]),
     )
 
@@ -568,13 +571,13 @@ pub returns-in-Err-Unknown-clause-serve_opens : goal.returns-in-Err-Unknown-clau
 returns-in-Err-Unknown-clause-serve_opens g c path port desks serve =
     let words = map string_bytes c.args.words.now in
     let nothing = subst (IsFaultOf words) c.in-Err-Unknown.field-0-is c.in-Err-Unknown.ensures.fault in
-    absurd (nothing.3 path port desks serve)
+    absurd (nothing.4 path port desks serve)
 
 pub returns-in-Err-Unknown-clause-serve_listens : goal.returns-in-Err-Unknown-clause-serve_listens
 returns-in-Err-Unknown-clause-serve_listens g c path port desks serve =
     let words = map string_bytes c.args.words.now in
     let nothing = subst (IsFaultOf words) c.in-Err-Unknown.field-0-is c.in-Err-Unknown.ensures.fault in
-    absurd (nothing.3 path port desks serve)
+    absurd (nothing.4 path port desks serve)
 
 pub returns-in-Err-NoMemory-clause-over_opens : goal.returns-in-Err-NoMemory-clause-over_opens
 returns-in-Err-NoMemory-clause-over_opens g c path over = inr refl
@@ -584,3 +587,269 @@ returns-in-Err-NoMemory-clause-serve_opens g c path port desks serve = inr refl
 
 pub returns-in-Err-NoMemory-clause-serve_listens : goal.returns-in-Err-NoMemory-clause-serve_listens
 returns-in-Err-NoMemory-clause-serve_listens g c path port desks serve = inr (refl, refl)
+
+-- `import`
+
+pub returns-in-Ok-ImportInto-clause-words : goal.returns-in-Ok-ImportInto-clause-words
+returns-in-Ok-ImportInto-clause-words g c =
+    let words = map string_bytes c.args.words.now in
+    let spells = subst (Spells words) c.in-Ok-ImportInto.field-0-is c.in-Ok-ImportInto.ensures.asked in
+    let told = c.tell-status-in-Ok-ImportInto.ensures.told in (
+      (λ two. absurd (status_not_2 told.told (sym told.status_is ∙ two))),
+      (λ none. absurd (none.2 _ spells)),
+    )
+
+pub returns-in-Ok-ImportInto-clause-nothing_taken : goal.returns-in-Ok-ImportInto-clause-nothing_taken
+returns-in-Ok-ImportInto-clause-nothing_taken g c two =
+    let told = c.tell-status-in-Ok-ImportInto.ensures.told in
+    absurd (status_not_2 told.told (sym told.status_is ∙ two))
+
+pub returns-in-Ok-ImportInto-clause-nothing_written : goal.returns-in-Ok-ImportInto-clause-nothing_written
+returns-in-Ok-ImportInto-clause-nothing_written g c two =
+    let told = c.tell-status-in-Ok-ImportInto.ensures.told in
+    absurd (status_not_2 told.told (sym told.status_is ∙ two))
+
+pub returns-in-Ok-ImportInto-clause-usage : goal.returns-in-Ok-ImportInto-clause-usage
+returns-in-Ok-ImportInto-clause-usage g c two =
+    let told = c.tell-status-in-Ok-ImportInto.ensures.told in
+    absurd (status_not_2 told.told (sym told.status_is ∙ two))
+
+pub returns-in-Ok-ImportInto-clause-nothing_opened : goal.returns-in-Ok-ImportInto-clause-nothing_opened
+returns-in-Ok-ImportInto-clause-nothing_opened g c (inl two) =
+    let told = c.tell-status-in-Ok-ImportInto.ensures.told in
+    absurd (status_not_2 told.told (sym told.status_is ∙ two))
+returns-in-Ok-ImportInto-clause-nothing_opened g c (inr batch) =
+    let words = map string_bytes c.args.words.now in
+    let spells = subst (Spells words) c.in-Ok-ImportInto.field-0-is c.in-Ok-ImportInto.ensures.asked in
+    absurd (omega (arith, batch_begins words batch, import_begins words _ spells))
+
+pub returns-in-Ok-ImportInto-clause-run : goal.returns-in-Ok-ImportInto-clause-run
+returns-in-Ok-ImportInto-clause-run g c batch =
+    let words = map string_bytes c.args.words.now in
+    let spells = subst (Spells words) c.in-Ok-ImportInto.field-0-is c.in-Ok-ImportInto.ensures.asked in
+    absurd (omega (arith, batch_begins words batch, import_begins words _ spells))
+
+pub returns-in-Ok-ImportInto-clause-over : goal.returns-in-Ok-ImportInto-clause-over
+returns-in-Ok-ImportInto-clause-over g c path over =
+    let words = map string_bytes c.args.words.now in
+    let spells = subst (Spells words) c.in-Ok-ImportInto.field-0-is c.in-Ok-ImportInto.ensures.asked in
+    absurd (omega (arith, over_begins words path over, import_begins words _ spells))
+
+pub returns-in-Ok-ImportInto-clause-load : goal.returns-in-Ok-ImportInto-clause-load
+returns-in-Ok-ImportInto-clause-load g c n load =
+    let words = map string_bytes c.args.words.now in
+    let spells = subst (Spells words) c.in-Ok-ImportInto.field-0-is c.in-Ok-ImportInto.ensures.asked in
+    absurd (omega (arith, load_begins words n load, import_begins words _ spells))
+
+pub returns-in-Ok-ImportInto-clause-load_takes_nothing : goal.returns-in-Ok-ImportInto-clause-load_takes_nothing
+returns-in-Ok-ImportInto-clause-load_takes_nothing g c n load =
+    let words = map string_bytes c.args.words.now in
+    let spells = subst (Spells words) c.in-Ok-ImportInto.field-0-is c.in-Ok-ImportInto.ensures.asked in
+    absurd (omega (arith, load_begins words n load, import_begins words _ spells))
+
+pub returns-in-Ok-ImportInto-clause-load_opens_nothing : goal.returns-in-Ok-ImportInto-clause-load_opens_nothing
+returns-in-Ok-ImportInto-clause-load_opens_nothing g c n load =
+    let words = map string_bytes c.args.words.now in
+    let spells = subst (Spells words) c.in-Ok-ImportInto.field-0-is c.in-Ok-ImportInto.ensures.asked in
+    absurd (omega (arith, load_begins words n load, import_begins words _ spells))
+
+pub returns-in-Ok-ImportInto-clause-serve : goal.returns-in-Ok-ImportInto-clause-serve
+returns-in-Ok-ImportInto-clause-serve g c path port desks serve =
+    let words = map string_bytes c.args.words.now in
+    let spells = subst (Spells words) c.in-Ok-ImportInto.field-0-is c.in-Ok-ImportInto.ensures.asked in
+    absurd (omega (arith, serve_begins words path port desks serve, import_begins words _ spells))
+
+pub returns-in-Ok-ImportInto-clause-serve_takes_nothing : goal.returns-in-Ok-ImportInto-clause-serve_takes_nothing
+returns-in-Ok-ImportInto-clause-serve_takes_nothing g c path port desks serve =
+    let words = map string_bytes c.args.words.now in
+    let spells = subst (Spells words) c.in-Ok-ImportInto.field-0-is c.in-Ok-ImportInto.ensures.asked in
+    absurd (omega (arith, serve_begins words path port desks serve, import_begins words _ spells))
+
+pub returns-in-Ok-ImportInto-clause-over_opens : goal.returns-in-Ok-ImportInto-clause-over_opens
+returns-in-Ok-ImportInto-clause-over_opens g c path over =
+    let words = map string_bytes c.args.words.now in
+    let spells = subst (Spells words) c.in-Ok-ImportInto.field-0-is c.in-Ok-ImportInto.ensures.asked in
+    absurd (omega (arith, over_begins words path over, import_begins words _ spells))
+
+pub returns-in-Ok-ImportInto-clause-serve_opens : goal.returns-in-Ok-ImportInto-clause-serve_opens
+returns-in-Ok-ImportInto-clause-serve_opens g c path port desks serve =
+    let words = map string_bytes c.args.words.now in
+    let spells = subst (Spells words) c.in-Ok-ImportInto.field-0-is c.in-Ok-ImportInto.ensures.asked in
+    absurd (omega (arith, serve_begins words path port desks serve, import_begins words _ spells))
+
+pub returns-in-Ok-ImportInto-clause-serve_listens : goal.returns-in-Ok-ImportInto-clause-serve_listens
+returns-in-Ok-ImportInto-clause-serve_listens g c path port desks serve =
+    let words = map string_bytes c.args.words.now in
+    let spells = subst (Spells words) c.in-Ok-ImportInto.field-0-is c.in-Ok-ImportInto.ensures.asked in
+    absurd (omega (arith, serve_begins words path port desks serve, import_begins words _ spells))
+
+pub returns-in-Ok-ImportInto-clause-complete : goal.returns-in-Ok-ImportInto-clause-complete
+returns-in-Ok-ImportInto-clause-complete g c batch source output few =
+    let words = map string_bytes c.args.words.now in
+    let spells = subst (Spells words) c.in-Ok-ImportInto.field-0-is c.in-Ok-ImportInto.ensures.asked in
+    absurd (omega (arith, batch_begins words batch, import_begins words _ spells))
+
+pub returns-in-Ok-ImportInto-clause-complete_over : goal.returns-in-Ok-ImportInto-clause-complete_over
+returns-in-Ok-ImportInto-clause-complete_over g c path over source output shelf kept few =
+    let words = map string_bytes c.args.words.now in
+    let spells = subst (Spells words) c.in-Ok-ImportInto.field-0-is c.in-Ok-ImportInto.ensures.asked in
+    absurd (omega (arith, over_begins words path over, import_begins words _ spells))
+
+pub returns-in-Ok-ImportInto-clause-complete_load : goal.returns-in-Ok-ImportInto-clause-complete_load
+returns-in-Ok-ImportInto-clause-complete_load g c n load none =
+    let words = map string_bytes c.args.words.now in
+    let spells = subst (Spells words) c.in-Ok-ImportInto.field-0-is c.in-Ok-ImportInto.ensures.asked in
+    absurd (omega (arith, load_begins words n load, import_begins words _ spells))
+
+pub returns-in-Ok-ImportInto-clause-complete_serve : goal.returns-in-Ok-ImportInto-clause-complete_serve
+returns-in-Ok-ImportInto-clause-complete_serve g c path port desks serve shelf kept listener output =
+    let words = map string_bytes c.args.words.now in
+    let spells = subst (Spells words) c.in-Ok-ImportInto.field-0-is c.in-Ok-ImportInto.ensures.asked in
+    absurd (omega (arith, serve_begins words path port desks serve, import_begins words _ spells))
+
+pub returns-in-Ok-ImportInto-clause-import : goal.returns-in-Ok-ImportInto-clause-import
+returns-in-Ok-ImportInto-clause-import g c path import =
+    (c.import_over-end.result, c.tell-status-in-Ok-ImportInto.ensures.told, c.import_over-end.ensures.imports)
+
+pub returns-in-Ok-ImportInto-clause-import_opens : goal.returns-in-Ok-ImportInto-clause-import_opens
+returns-in-Ok-ImportInto-clause-import_opens g c path import =
+    let words = map string_bytes c.args.words.now in
+    let spells = subst (Spells words) c.in-Ok-ImportInto.field-0-is c.in-Ok-ImportInto.ensures.asked in
+    subst (λ (p : List ℕ). AsksAtMost g.H.Shelf.opened g.H.Shelf.openings p c.args.shelf.now c.import_over-end.new.shelf)
+    (one_import_path words _ path spells import) c.import_over-end.ensures.opens
+
+pub returns-in-Ok-ImportInto-clause-complete_import : goal.returns-in-Ok-ImportInto-clause-complete_import
+returns-in-Ok-ImportInto-clause-complete_import g c path import source output shelf kept few =
+    let told = c.tell-status-in-Ok-ImportInto.ensures.told in
+    let faultless =
+    import-faultless g.H.Kept.Keeper.tells g.H.Shelf.tells g.H.Shelf.plan g.H.Shelf.faults g.H.Shelf.kept_faults g.S.Source.left
+    g.S.Source.taken g.S.Source.faults g.O.Sink.written g.O.Sink.faults c.args.shelf.now c.import_over-end.new.shelf c.args.input.now
+    c.import_over-end.new.input c.args.output.now c.import_over-end.new.output c.import_over-end.result c.import_over-end.ensures.imports
+    source output shelf kept few in
+    subst IsFaultless (sym told.status_is) (told-faultless c.import_over-end.result told.told told.told_as faultless)
+
+pub returns-in-Ok-ImportInto-clause-noted : goal.returns-in-Ok-ImportInto-clause-noted
+returns-in-Ok-ImportInto-clause-noted g c known =
+    let told = c.tell-status-in-Ok-ImportInto.ensures.told in
+    (told.told, told.status_is, told.noted)
+
+pub returns-in-Ok-ImportInto-clause-silent : goal.returns-in-Ok-ImportInto-clause-silent
+returns-in-Ok-ImportInto-clause-silent g c =
+    c.tell-status-in-Ok-ImportInto.ensures.silent
+
+pub returns-in-Ok-ImportInto-clause-notes_never_fall : goal.returns-in-Ok-ImportInto-clause-notes_never_fall
+returns-in-Ok-ImportInto-clause-notes_never_fall g c =
+    c.tell-status-in-Ok-ImportInto.ensures.never_falls
+
+-- no other command imports
+
+pub returns-in-Ok-Batch-clause-import : goal.returns-in-Ok-Batch-clause-import
+returns-in-Ok-Batch-clause-import g c path import =
+    let words = map string_bytes c.args.words.now in
+    let spells = subst (Spells words) c.in-Ok-Batch.field-0-is c.in-Ok-Batch.ensures.asked in
+    absurd (omega (arith, import_begins words path import, batch_begins words spells))
+
+pub returns-in-Ok-Batch-clause-import_opens : goal.returns-in-Ok-Batch-clause-import_opens
+returns-in-Ok-Batch-clause-import_opens g c path import =
+    let words = map string_bytes c.args.words.now in
+    let spells = subst (Spells words) c.in-Ok-Batch.field-0-is c.in-Ok-Batch.ensures.asked in
+    absurd (omega (arith, import_begins words path import, batch_begins words spells))
+
+pub returns-in-Ok-Batch-clause-complete_import : goal.returns-in-Ok-Batch-clause-complete_import
+returns-in-Ok-Batch-clause-complete_import g c path import source output shelf kept few =
+    let words = map string_bytes c.args.words.now in
+    let spells = subst (Spells words) c.in-Ok-Batch.field-0-is c.in-Ok-Batch.ensures.asked in
+    absurd (omega (arith, import_begins words path import, batch_begins words spells))
+
+pub returns-in-Ok-BatchOver-clause-import : goal.returns-in-Ok-BatchOver-clause-import
+returns-in-Ok-BatchOver-clause-import g c path import =
+    let words = map string_bytes c.args.words.now in
+    let spells = subst (Spells words) c.in-Ok-BatchOver.field-0-is c.in-Ok-BatchOver.ensures.asked in
+    absurd (omega (arith, import_begins words path import, over_begins words _ spells))
+
+pub returns-in-Ok-BatchOver-clause-import_opens : goal.returns-in-Ok-BatchOver-clause-import_opens
+returns-in-Ok-BatchOver-clause-import_opens g c path import =
+    let words = map string_bytes c.args.words.now in
+    let spells = subst (Spells words) c.in-Ok-BatchOver.field-0-is c.in-Ok-BatchOver.ensures.asked in
+    absurd (omega (arith, import_begins words path import, over_begins words _ spells))
+
+pub returns-in-Ok-BatchOver-clause-complete_import : goal.returns-in-Ok-BatchOver-clause-complete_import
+returns-in-Ok-BatchOver-clause-complete_import g c path import source output shelf kept few =
+    let words = map string_bytes c.args.words.now in
+    let spells = subst (Spells words) c.in-Ok-BatchOver.field-0-is c.in-Ok-BatchOver.ensures.asked in
+    absurd (omega (arith, import_begins words path import, over_begins words _ spells))
+
+pub returns-in-Ok-Load-clause-import : goal.returns-in-Ok-Load-clause-import
+returns-in-Ok-Load-clause-import g c path import =
+    let words = map string_bytes c.args.words.now in
+    let spells = subst (Spells words) c.in-Ok-Load.field-0-is c.in-Ok-Load.ensures.asked in
+    absurd (omega (arith, import_begins words path import, load_begins words _ spells))
+
+pub returns-in-Ok-Load-clause-import_opens : goal.returns-in-Ok-Load-clause-import_opens
+returns-in-Ok-Load-clause-import_opens g c path import =
+    let words = map string_bytes c.args.words.now in
+    let spells = subst (Spells words) c.in-Ok-Load.field-0-is c.in-Ok-Load.ensures.asked in
+    absurd (omega (arith, import_begins words path import, load_begins words _ spells))
+
+pub returns-in-Ok-Load-clause-complete_import : goal.returns-in-Ok-Load-clause-complete_import
+returns-in-Ok-Load-clause-complete_import g c path import source output shelf kept few =
+    let words = map string_bytes c.args.words.now in
+    let spells = subst (Spells words) c.in-Ok-Load.field-0-is c.in-Ok-Load.ensures.asked in
+    absurd (omega (arith, import_begins words path import, load_begins words _ spells))
+
+pub returns-in-Ok-Serve-clause-import : goal.returns-in-Ok-Serve-clause-import
+returns-in-Ok-Serve-clause-import g c path import =
+    let words = map string_bytes c.args.words.now in
+    let spells = subst (Spells words) c.in-Ok-Serve.field-0-is c.in-Ok-Serve.ensures.asked in
+    absurd (omega (arith, import_begins words path import, serve_begins words _ _ _ spells))
+
+pub returns-in-Ok-Serve-clause-import_opens : goal.returns-in-Ok-Serve-clause-import_opens
+returns-in-Ok-Serve-clause-import_opens g c path import =
+    let words = map string_bytes c.args.words.now in
+    let spells = subst (Spells words) c.in-Ok-Serve.field-0-is c.in-Ok-Serve.ensures.asked in
+    absurd (omega (arith, import_begins words path import, serve_begins words _ _ _ spells))
+
+pub returns-in-Ok-Serve-clause-complete_import : goal.returns-in-Ok-Serve-clause-complete_import
+returns-in-Ok-Serve-clause-complete_import g c path import source output shelf kept few =
+    let words = map string_bytes c.args.words.now in
+    let spells = subst (Spells words) c.in-Ok-Serve.field-0-is c.in-Ok-Serve.ensures.asked in
+    absurd (omega (arith, import_begins words path import, serve_begins words _ _ _ spells))
+
+pub returns-in-Err-Unknown-clause-import : goal.returns-in-Err-Unknown-clause-import
+returns-in-Err-Unknown-clause-import g c path import =
+    let words = map string_bytes c.args.words.now in
+    let nothing = subst (IsFaultOf words) c.in-Err-Unknown.field-0-is c.in-Err-Unknown.ensures.fault in
+    absurd (nothing.2 path import)
+
+pub returns-in-Err-Unknown-clause-import_opens : goal.returns-in-Err-Unknown-clause-import_opens
+returns-in-Err-Unknown-clause-import_opens g c path import =
+    let words = map string_bytes c.args.words.now in
+    let nothing = subst (IsFaultOf words) c.in-Err-Unknown.field-0-is c.in-Err-Unknown.ensures.fault in
+    absurd (nothing.2 path import)
+
+pub returns-in-Err-Unknown-clause-complete_import : goal.returns-in-Err-Unknown-clause-complete_import
+returns-in-Err-Unknown-clause-complete_import g c path import source output shelf kept few =
+    let words = map string_bytes c.args.words.now in
+    let nothing = subst (IsFaultOf words) c.in-Err-Unknown.field-0-is c.in-Err-Unknown.ensures.fault in
+    absurd (nothing.2 path import)
+
+pub returns-in-Err-NoMemory-clause-import : goal.returns-in-Err-NoMemory-clause-import
+returns-in-Err-NoMemory-clause-import g c path import = (
+  NoMemory,
+  record {
+    told = NoMemory;
+    told_as = refl;
+    status_is = c.without_memory-status.ensures.status;
+    noted = c.without_memory-status.ensures.noted;
+  },
+  import-no_memory g.H.Kept.Keeper.tells g.H.Shelf.tells g.H.Shelf.plan g.H.Shelf.faults g.H.Shelf.kept_faults g.S.Source.left
+      g.S.Source.taken g.S.Source.faults g.O.Sink.written g.O.Sink.faults c.args.shelf.now c.args.input.now c.args.output.now,
+)
+
+pub returns-in-Err-NoMemory-clause-import_opens : goal.returns-in-Err-NoMemory-clause-import_opens
+returns-in-Err-NoMemory-clause-import_opens g c path import =
+    inr refl
+
+pub returns-in-Err-NoMemory-clause-complete_import : goal.returns-in-Err-NoMemory-clause-complete_import
+returns-in-Err-NoMemory-clause-complete_import g c path import source output shelf kept few =
+    inr (inl c.without_memory-status.ensures.status)
