@@ -3,13 +3,20 @@
 #![tactic(auto)]
 
 use keeper_sqlite::sqlite_shelf::SqliteShelf;
+use std::alloc::Global;
 use std::env::Env;
+use std::net::{Net, TcpListener, TcpStream};
 use std::process::ExitCode;
+use std::sync::Wait;
+use std::thread::Threads;
 use std::{env, io};
 use stock_cli::top;
 use stock_ends::notes::without_memory;
 use stock_io::net_listener::NetListener;
+use stock_io::sink::Sink;
+use stock_io::source::Source;
 use stock_io::standard::{StdSink, StdSource};
+use stock_keeper::shelf::Shelf;
 
 /// The words after the program's name.
 fn words_of(rt: &(impl Env + AllocGlobal)) -> io::Result<Vec<String>> {
@@ -18,6 +25,27 @@ fn words_of(rt: &(impl Env + AllocGlobal)) -> io::Result<Vec<String>> {
         words.push(word)?;
     }
     Ok(words)
+}
+
+/// Does what the words ask for over a listener of the system, and answers the status.
+fn run<
+    H: Shelf,
+    P: Net<Listener = TcpListener, Stream = TcpStream> + Drop,
+    S: Source,
+    O: Sink,
+    N: Sink,
+    R: Threads + Wait + Sync,
+>(
+    rt: &R,
+    alloc: Global,
+    words: &[String],
+    shelf: &mut H,
+    listener: NetListener<P>,
+    input: &mut S,
+    output: &mut O,
+    notes: &mut N,
+) -> u8 {
+    top::stockd(rt, alloc, words, shelf, listener, input, output, notes).status
 }
 
 fn main(rt: HostRuntime) -> ExitCode {
@@ -34,7 +62,7 @@ fn main(rt: HostRuntime) -> ExitCode {
     };
     let mut shelf = SqliteShelf::new(&rt);
     let mut output = StdSink::output(rt);
-    let finished = top::stockd(
+    let status = run(
         &rt,
         alloc,
         words.as_slice(),
@@ -44,5 +72,5 @@ fn main(rt: HostRuntime) -> ExitCode {
         &mut output,
         &mut notes,
     );
-    ExitCode::from(finished.status)
+    ExitCode::from(status)
 }
