@@ -6,3 +6,5 @@
 mod sqlite_keepers;
 #[cfg(test)]
 mod sqlite_shelves;
+#[cfg(test)]
+mod stops;
