@@ -1,0 +1,11 @@
+pub mod Effects
+pub mod FaultSteps
+pub mod GoneWith
+pub mod HeldBalances
+pub mod MarkedSpots
+pub mod MovedRows
+pub mod OwnWorths
+pub mod RightSteps
+pub mod RowSteps
+pub mod SoundWorths
+pub mod WrongWorths

@@ -1,0 +1,11 @@
+pub mod Comparing
+pub mod Effects
+pub mod Findings
+pub mod KeySums
+pub mod LegalJournals
+pub mod MovedSums
+pub mod Reading
+pub mod RightRows
+pub mod Sound
+pub mod StoredAt
+pub mod Verdicts
