@@ -1,11 +1,11 @@
 -- The commands begin with bytes of their own, so no words are two of the program's forms; and those of a load tell one number, those
--- of a batch over a file one path, and so do those of an import.
+-- of a batch over a file one path, and so do those of an import and of an audit.
 use Rattle.std.proofs.Common.{◌≡◌, ℕ, List, [], ◌∷◌, get_or, inl, inr, sym, ap, ◌∙◌}
 use Rattle.std.proofs.lemmas.List.{append_cancel_left}
 use Rattle.std.specs.Prelude.{codes}
 use Rattle.std.specs.Str.Parse.{digits_value}
 use Rattle.stock_words.specs.ServeWords.{SpellsServe}
-use Rattle.stock_words.specs.Words.{SpellsOver, SpellsBatchOver, SpellsImport, SpellsLoad}
+use Rattle.stock_words.specs.Words.{SpellsOver, SpellsBatchOver, SpellsImport, SpellsAudit, SpellsLoad}
 
 -- the first byte of the first of some words
 abbrev pub initial : List (List ℕ) → ℕ
@@ -22,6 +22,10 @@ over_begins words path (inr one) = ap initial one.0
 pub import_begins : (words : List (List ℕ)) (path : List ℕ) → SpellsImport words path → initial words ≡ 105
 import_begins words path (inl two) = ap initial two.0
 import_begins words path (inr one) = ap initial one.0
+
+pub audit_begins : (words : List (List ℕ)) (path : List ℕ) → SpellsAudit words path → initial words ≡ 97
+audit_begins words path (inl two) = ap initial two.0
+audit_begins words path (inr one) = ap initial one.0
 
 pub load_begins : (words : List (List ℕ)) (n : ℕ) → SpellsLoad words n → initial words ≡ 108
 load_begins words n load = ap initial load.1
@@ -74,3 +78,6 @@ one_path = one_path_of (codes "batch")
 
 pub one_import_path : (words : List (List ℕ)) (path path' : List ℕ) → SpellsImport words path → SpellsImport words path' → path ≡ path'
 one_import_path = one_path_of (codes "import")
+
+pub one_audit_path : (words : List (List ℕ)) (path path' : List ℕ) → SpellsAudit words path → SpellsAudit words path' → path ≡ path'
+one_audit_path = one_path_of (codes "audit")

@@ -6,7 +6,7 @@ use Rattle.stock_words.specs.NumberWords.{IsNumber, IsNoNumber}
 pub use Rattle.stock_words.specs.Paths.{IsPath}
 use Rattle.stock_words.specs.ServeWords.{SpellsServe, SpellsNoService}
 use Rattle.stock_words.specs.declared.words.Asked.{Asked}
-use Rattle.stock_words.specs.declared.words.Asked.TheVariants.{Batch, BatchOver, ImportInto, Load, Serve}
+use Rattle.stock_words.specs.declared.words.Asked.TheVariants.{Batch, BatchOver, ImportInto, AuditOf, Load, Serve}
 use Rattle.stock_words.specs.declared.words.WordsFault.{WordsFault}
 use Rattle.stock_words.specs.declared.words.WordsFault.TheVariants.{Unknown, NoMemory}
 
@@ -27,6 +27,10 @@ SpellsBatchOver words path = SpellsOver (codes "batch") words path
 abbrev pub SpellsImport : List (List ℕ) → List ℕ → Type 0
 SpellsImport words path = SpellsOver (codes "import") words path
 
+-- the words are `audit` of the file at the path
+abbrev pub SpellsAudit : List (List ℕ) → List ℕ → Type 0
+SpellsAudit words path = SpellsOver (codes "audit") words path
+
 -- the word tells a number of vouchers, from 1 to 40,000
 abbrev pub IsCount : List ℕ → ℕ → Type 0
 IsCount word n = IsNumber MAX_LOAD word n
@@ -43,20 +47,22 @@ abbrev pub Spells : List (List ℕ) → Asked → Type 0
 Spells words Batch = words ≡ codes "batch" ∷ []
 Spells words (BatchOver path) = SpellsBatchOver words path.now
 Spells words (ImportInto path) = SpellsImport words path.now
+Spells words (AuditOf path) = SpellsAudit words path.now
 Spells words (Load n) = SpellsLoad words n
 Spells words (Serve asked) = SpellsServe words asked.path.now asked.port asked.desks
 
 -- the words are no form that the program knows
 abbrev pub SpellsNothing : List (List ℕ) → Type 0
 SpellsNothing words = (words ≢ codes "batch" ∷ []) × ((path : List ℕ) → SpellsBatchOver words path → ⊥)
-    × ((path : List ℕ) → SpellsImport words path → ⊥) × ((n : ℕ) → SpellsLoad words n → ⊥) × SpellsNoService words
+    × ((path : List ℕ) → SpellsImport words path → ⊥) × ((path : List ℕ) → SpellsAudit words path → ⊥)
+    × ((n : ℕ) → SpellsLoad words n → ⊥) × SpellsNoService words
 
--- the words ask for a batch, an import or a load
+-- the words ask for a batch, an import, an audit or a load
 abbrev pub SpellsNoServe : List (List ℕ) → Type 0
 SpellsNoServe words = (words ≡ codes "batch" ∷ []) ⊎ ((path : List ℕ) × SpellsBatchOver words path)
-    ⊎ ((path : List ℕ) × SpellsImport words path) ⊎ ((n : ℕ) × SpellsLoad words n)
+    ⊎ ((path : List ℕ) × SpellsImport words path) ⊎ ((path : List ℕ) × SpellsAudit words path) ⊎ ((n : ℕ) × SpellsLoad words n)
 
--- why nothing can be done for the words: they are no form, or memory was wanting to read a batch, an import or a load
+-- why nothing can be done for the words: they are no form, or memory was wanting to read a batch, an import, an audit or a load
 abbrev pub IsFaultOf : List (List ℕ) → WordsFault → Type 0
 IsFaultOf words Unknown = SpellsNothing words
 IsFaultOf words NoMemory = SpellsNoServe words
@@ -72,6 +78,10 @@ IsBatchOver words path = SpellsBatchOver (map string_bytes words) path
 -- `import` into the file at this path
 abbrev pub IsImport : List (String Global) → List ℕ → Type 0
 IsImport words path = SpellsImport (map string_bytes words) path
+
+-- `audit` of the file at this path
+abbrev pub IsAudit : List (String Global) → List ℕ → Type 0
+IsAudit words path = SpellsAudit (map string_bytes words) path
 
 -- `load` with this number of vouchers
 abbrev pub IsLoad : List (String Global) → ℕ → Type 0

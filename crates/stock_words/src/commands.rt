@@ -1,8 +1,8 @@
-//! The commands `batch`, `import` and `load`, as the kit's `clap` reads them.
+//! The commands `batch`, `import`, `audit` and `load`, as the kit's `clap` reads them.
 ghost use Rattle.std.specs.Prelude.{◌≡◌, false, IfOk, IfErr, MatchOption, map, string_bytes};
 ghost use Rattle.clap.specs.declared.builder.command.Command.TheViews.{out-Command};
 ghost use Rattle.clap.specs.Words.{app_of, found_of, kind_of, rows_of, subcommand_of, subcommand_rows_of};
-ghost use Rattle.stock_words.specs.Commands.{AsksFor, AsksForNothing, IsBatchFor, IsImportFor, IsImportForNothing, IsLoadFor, IsLoadForNothing, file_command, load_command, program};
+ghost use Rattle.stock_words.specs.Commands.{AsksFor, AsksForNothing, IsAuditFor, IsBatchFor, IsFileForNothing, IsImportFor, IsLoadFor, IsLoadForNothing, file_command, load_command, program};
 ghost use Rattle.stock_words.specs.Words.{SpellsNoServe};
 
 use crate::words::{Asked, load_count};
@@ -10,7 +10,7 @@ use clap::error::ErrorKind;
 use clap::{Arg, ArgMatches, Command, Error};
 use std::alloc::{AllocError, Global};
 
-/// What stands in the words, which are a batch, an import or a load.
+/// What stands in the words, which are a batch, an import, an audit or a load.
 /// `Error`: memory was wanting.
 pub(crate) fn matches_of<'a>(alloc: Global, words: &'a [String]) -> Result<ArgMatches<'a>, Error>
     requires { SpellsNoServe (map string_bytes words.now) }
@@ -27,11 +27,13 @@ fn program<'a>(alloc: Global) -> Result<Command<'a>, AllocError>
 {
     let batch = file_command(alloc, "batch")?;
     let import = file_command(alloc, "import")?;
+    let audit = file_command(alloc, "audit")?;
     let load = load_command(alloc)?;
     let named = Command::new(alloc, "stockd").no_binary_name(true);
     let answering = named.subcommand(batch)?;
     let importing = answering.subcommand(import)?;
-    importing.subcommand(load)
+    let auditing = importing.subcommand(audit)?;
+    auditing.subcommand(load)
 }
 
 /// A command with `--file`.
@@ -59,6 +61,7 @@ pub(crate) fn asked_in<'a>(matches: &ArgMatches<'a>) -> Option<Asked<'a>>
     match matches.subcommand()? {
         ("batch", batch) => Some(batch_asked(batch)),
         ("import", import) => import_asked(import),
+        ("audit", audit) => audit_asked(audit),
         ("load", load) => load_asked(load),
         _ => None,
     }
@@ -76,11 +79,20 @@ fn batch_asked<'a>(batch: &ArgMatches<'a>) -> Asked<'a>
 
 /// What `import` asks for, if a file is named.
 fn import_asked<'a>(import: &ArgMatches<'a>) -> Option<Asked<'a>>
-    ensures { MatchOption result (IsImportForNothing (rows_of (found_of import.now)))
+    ensures { MatchOption result (IsFileForNothing (rows_of (found_of import.now)))
         (IsImportFor (rows_of (found_of import.now))) }
 {
     let path = import.get_str("file")?;
     Some(Asked::ImportInto(path))
+}
+
+/// What `audit` asks for, if a file is named.
+fn audit_asked<'a>(audit: &ArgMatches<'a>) -> Option<Asked<'a>>
+    ensures { MatchOption result (IsFileForNothing (rows_of (found_of audit.now)))
+        (IsAuditFor (rows_of (found_of audit.now))) }
+{
+    let path = audit.get_str("file")?;
+    Some(Asked::AuditOf(path))
 }
 
 /// What `load` asks for, if it is a number of vouchers.

@@ -19,6 +19,8 @@ pub enum Asked<'a> {
     BatchOver(&'a str),
     /// `import --file P`: a sheet of vouchers, into the ledger in the file at this path.
     ImportInto(&'a str),
+    /// `audit --file P`: a check of the ledger in the file at this path.
+    AuditOf(&'a str),
     /// `load N`: a script of so many vouchers, over a new ledger that is kept nowhere.
     Load(u32),
     /// `serve`: desks over the ledger in a file.
@@ -30,7 +32,7 @@ pub enum Asked<'a> {
 pub enum WordsFault {
     /// They are no form that the program knows.
     Unknown,
-    /// Memory was wanting to read them. They are a batch, an import or a load, since to tell that takes none.
+    /// Memory was wanting to read them. They are a batch, an import, an audit or a load, since to tell that takes none.
     NoMemory,
 }
 
@@ -58,7 +60,7 @@ pub fn asked_by(alloc: Global, words: &[String]) -> Result<Asked<'_>, WordsFault
     }
 }
 
-/// Whether the words are a batch, an import or a load. The parser alone would take more: `--`, and a path of no bytes.
+/// Whether the words are a batch, an import, an audit or a load. The parser alone would take more: `--`, and a path of no bytes.
 fn is_no_serve(words: &[String]) -> bool
     ensures { IsTrue result ↔ SpellsNoServe (map string_bytes words.now) }
 {
@@ -68,13 +70,14 @@ fn is_no_serve(words: &[String]) -> bool
     is_no_serve_after(command.as_str(), options)
 }
 
-/// Whether the command and the words after it are a batch, an import or a load.
+/// Whether the command and the words after it are a batch, an import, an audit or a load.
 fn is_no_serve_after(command: &str, options: &[String]) -> bool
     ensures { IsTrue result ↔ SpellsNoServe (command.now ∷ map string_bytes options.now) }
 {
     match command {
         "batch" => are_batch_options(options),
         "import" => is_import_file(options),
+        "audit" => is_audit_file(options),
         "load" => is_load_count(options),
         _ => false,
     }
@@ -95,6 +98,17 @@ fn are_batch_options(options: &[String]) -> bool
 /// Whether the words after `import` are `--file` and a path, as two words or one.
 fn is_import_file(options: &[String]) -> bool
     ensures { IsTrue result ↔ SpellsNoServe (codes "import" ∷ map string_bytes options.now) }
+{
+    match options {
+        [option] => is_file_option(option.as_str()),
+        [option, path] => is_file(option.as_str()) && is_path(path.as_str()),
+        _ => false,
+    }
+}
+
+/// Whether the words after `audit` are `--file` and a path, as two words or one.
+fn is_audit_file(options: &[String]) -> bool
+    ensures { IsTrue result ↔ SpellsNoServe (codes "audit" ∷ map string_bytes options.now) }
 {
     match options {
         [option] => is_file_option(option.as_str()),

@@ -18,6 +18,10 @@ returns c =
     let second : app_of c.in_ok-importing.importing
     ≡ with_subcommand (with_subcommand (on_top unnamed (new_app (codes "stockd"))) batch) import =
     c.in_ok-importing.ensures.shape c.in_ok-import.ensures.local ∙ (λ i. with_subcommand (first i) ((c.in_ok-import.ensures.app i).top)) in
-    IfOk-weaker c.subcommand-3.result _ _
-    (λ command added. added.shape c.in_ok-load.ensures.local ∙ (λ i. with_subcommand (second i) ((c.in_ok-load.ensures.app i).top)))
-    c.subcommand-3.ensures
+    let audit = (file_command (codes "audit")).top in
+    let third : app_of c.in_ok-auditing.auditing
+    ≡ with_subcommand (with_subcommand (with_subcommand (on_top unnamed (new_app (codes "stockd"))) batch) import) audit =
+    c.in_ok-auditing.ensures.shape c.in_ok-audit.ensures.local ∙ (λ i. with_subcommand (second i) ((c.in_ok-audit.ensures.app i).top)) in
+    IfOk-weaker c.subcommand-4.result _ _
+    (λ command added. added.shape c.in_ok-load.ensures.local ∙ (λ i. with_subcommand (third i) ((c.in_ok-load.ensures.app i).top)))
+    c.subcommand-4.ensures

@@ -7,3 +7,8 @@ pub returns-in-load : goal.returns-in-load
 returns-in-load c =
     subst (λ (word : List ℕ). IsTrue c.is_load_count.result ↔ SpellsNoServe (word ∷ map string_bytes c.args.options.now))
     (sym c.in-load.is) c.is_load_count.ensures
+
+pub returns-in-audit : goal.returns-in-audit
+returns-in-audit c =
+    subst (λ (word : List ℕ). IsTrue c.is_audit_file.result ↔ SpellsNoServe (word ∷ map string_bytes c.args.options.now))
+    (sym c.in-audit.is) c.is_audit_file.ensures
