@@ -8,7 +8,7 @@ use std::thread::Threads;
 use stock_nums::memory::NoMemory;
 
 const USAGE: &str =
-    "stockd: words: batch [--file P] | serve --file P --port N --desks D | load N | import --file P\n";
+    "stockd: words: batch [--file P] | serve --file P --port N --desks D | load N | import --file P | audit --file P\n";
 
 const OF_FOUR: &str = "{\"covered\":9,\"records\":9,\"stock\":15,\"worth\":145}\n";
 

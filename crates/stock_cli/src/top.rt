@@ -7,7 +7,7 @@ ghost use Rattle.stock_keeper.specs.Keeping.{AsksAt, AsksAtMost};
 ghost use Rattle.repost_worker.specs.Paces.{Pace, first_pace};
 ghost use Rattle.desk_service.specs.Listening.{heard};
 ghost use Rattle.desk_service.specs.Service.{IsPeerServed};
-ghost use Rattle.stock_words.specs.Words.{IsBatch, IsBatchOver, IsImport, IsLoad, IsServe};
+ghost use Rattle.stock_words.specs.Words.{IsAudit, IsBatch, IsBatchOver, IsImport, IsLoad, IsServe};
 ghost use Rattle.stock_ends.specs.declared.end.End.{End};
 ghost use Rattle.stock_ends.specs.Statuses.{status_of, note_text, usage_text, WritesOrFails, TellsEnd, CountsNoFault};
 ghost use Rattle.stock_batch.specs.Endings.{max_input};
@@ -15,12 +15,14 @@ ghost use Rattle.stock_batch.specs.Filed.{RunsOverShelf};
 ghost use Rattle.stock_batch.specs.Ran.{Ran};
 ghost use Rattle.sheet_io.specs.declared.taking.TheConstants.{MAX_SHEET};
 ghost use Rattle.stock_import.specs.Imports.{ImportsOver};
+ghost use Rattle.stock_audit.specs.Audits.{AuditsOverShelf};
 ghost use Rattle.stock_load.specs.Loads.{IsLoaded};
 ghost use Rattle.stock_serving.specs.Serving.{ServesOverShelf, ListensTo};
 
 use std::alloc::Global;
 use std::sync::Wait;
 use std::thread::Threads;
+use stock_audit::audited::audit_over;
 use stock_batch::filed::run_over;
 use stock_batch::running::run;
 use stock_ends::notes::{other_words, tell, without_memory};
@@ -45,10 +47,11 @@ pub struct Finished<L> {
 /// Does what the words ask for, and answers the status: 0, 2, 3, 4, 5, 6, 7, 8, 9 or 10. `batch` answers the lines of
 /// the input on the output, and ends at the first fault of either; with a file over the ledger that the shelf has there, and
 /// else over a new one that is kept nowhere. `import` posts the vouchers of the sheet that the input is into the ledger in a file,
-/// and counts stock against what it holds; nothing is posted where the input is no sheet. `load` answers a script of its own over a new ledger that is kept nowhere, and writes
-/// what the balance sums to then. `serve` listens, serves each peer by a desk in a thread of its own over the ledger in a file, and
-/// writes how many records are covered and accepted once all have ended. Other words have status 2. A status other than 0 is told
-/// by a line of the notes, whose own faults change no status. It may wait where it serves desks, for peers and for the lock.
+/// and counts stock against what it holds; nothing is posted where the input is no sheet. `audit` writes the verdict on the tables in a
+/// file. `load` answers a script of its own over a new ledger that is kept nowhere, and writes what the balance sums to then. `serve`
+/// listens, serves each peer by a desk in a thread of its own over the ledger in a file, and writes how many records are covered and
+/// accepted once all have ended. Other words have status 2. A status other than 0 is told by a line of the notes, whose own faults
+/// change no status. It may wait where it serves desks, for peers and for the lock.
 pub fn stockd<
     H: Shelf,
     P: Link,
@@ -68,10 +71,11 @@ pub fn stockd<
     notes: &mut N,
 ) -> Finished<L>
 
-    // The words are no batch, no import, no load and no service exactly where the status is 2. Then nothing is taken or written, and
-    // the usage is noted.
+    // The words are no batch, no import, no audit, no load and no service exactly where the status is 2. Then nothing is taken or
+    // written, and the usage is noted.
     ensures words { (result.status ≡ 2) ↔ ((IsBatch words.now → ⊥) × ((path : List ℕ) → IsBatchOver words.now path → ⊥)
-        × ((path : List ℕ) → IsImport words.now path → ⊥) × ((n : ℕ) → IsLoad words.now n → ⊥)
+        × ((path : List ℕ) → IsImport words.now path → ⊥) × ((path : List ℕ) → IsAudit words.now path → ⊥)
+        × ((n : ℕ) → IsLoad words.now n → ⊥)
         × ((path : List ℕ) (port desks : ℕ) → IsServe words.now path port desks → ⊥)) }
     ensures nothing_taken { result.status ≡ 2 → input.new ≡ input.old }
     ensures nothing_written { result.status ≡ 2 → output.new ≡ output.old }
@@ -95,6 +99,14 @@ pub fn stockd<
         × ImportsOver H.Kept.tells H.tells H.plan H.faults H.kept_faults S.left S.taken S.faults O.written O.faults
         shelf.old shelf.new input.old input.new output.old output.new end }
 
+    // An audit loads the tables of the ledger in the file, and writes the verdict on them; or it could not load them, and why. It takes
+    // nothing from the input.
+    ensures audit { (path : List ℕ) → IsAudit words.now path → (end : End)
+        × TellsEnd N.written N.faults notes.old notes.new result.status end
+        × AuditsOverShelf H.Kept.tells H.tells H.plan H.faults H.kept_faults O.written O.faults
+        shelf.old shelf.new output.old output.new end }
+    ensures audit_takes_nothing { (path : List ℕ) → IsAudit words.now path → input.new ≡ input.old }
+
     // A load writes the summary of its script, or for want of memory nothing, or where the output fails a front of it. It takes
     // nothing from the input, and the shelf stays.
     ensures load { (n : ℕ) → IsLoad words.now n → (end : End)
@@ -115,10 +127,11 @@ pub fn stockd<
     ensures serve_takes_nothing { (path : List ℕ) (port desks : ℕ) → IsServe words.now path port desks → input.new ≡ input.old }
     ensures nothing_heard { ((path : List ℕ) (port desks : ℕ) → IsServe words.now path port desks → ⊥) → result.listener ≡ listener }
 
-    // A run, an import or a service over a file asks the shelf for one keeper, at the path of its words, and a service listens to the port of its
-    // words; unless an end came before.
+    // A run, an import, an audit or a service over a file asks the shelf for one keeper, at the path of its words, and a service listens
+    // to the port of its words; unless an end came before.
     ensures over_opens { (path : List ℕ) → IsBatchOver words.now path → AsksAtMost H.opened H.openings path shelf.old shelf.new }
     ensures import_opens { (path : List ℕ) → IsImport words.now path → AsksAtMost H.opened H.openings path shelf.old shelf.new }
+    ensures audit_opens { (path : List ℕ) → IsAudit words.now path → AsksAtMost H.opened H.openings path shelf.old shelf.new }
     ensures serve_opens { (path : List ℕ) (port desks : ℕ) → IsServe words.now path port desks
         → AsksAtMost H.opened H.openings path shelf.old shelf.new }
     ensures serve_listens { (path : List ℕ) (port desks : ℕ) → IsServe words.now path port desks
@@ -148,6 +161,13 @@ pub fn stockd<
         → CountsNoFault 0 (H.kept_faults shelf.new)
         → S.taken input.new < S.taken input.old + MAX_SHEET
         → (result.status ≡ 0) ⊎ (result.status ≡ 3) ⊎ (result.status ≡ 7) ⊎ (result.status ≡ 10) }
+
+    // And an audit, which takes no input.
+    ensures complete_audit { (path : List ℕ) → IsAudit words.now path
+        → CountsNoFault (O.faults output.old) (O.faults output.new)
+        → CountsNoFault (H.faults shelf.old) (H.faults shelf.new)
+        → CountsNoFault 0 (H.kept_faults shelf.new)
+        → (result.status ≡ 0) ⊎ (result.status ≡ 3) ⊎ (result.status ≡ 7) }
 
     // So it is of a load, where the output had no fault.
     ensures complete_load { (n : ℕ) → IsLoad words.now n → CountsNoFault (O.faults output.old) (O.faults output.new)
@@ -180,6 +200,11 @@ pub fn stockd<
         }
         Ok(Asked::ImportInto(path)) => {
             let end = import_over(alloc, shelf, path, input, output);
+            let status = tell(alloc, notes, end);
+            Finished { status, listener }
+        }
+        Ok(Asked::AuditOf(path)) => {
+            let end = audit_over(alloc, shelf, path, output);
             let status = tell(alloc, notes, end);
             Finished { status, listener }
         }

@@ -43,7 +43,7 @@ IsNote end text = text ≡ note_text end
 
 -- the line that notes other words
 abbrev pub usage_text : List ℕ
-usage_text = codes "stockd: words: batch [--file P] | serve --file P --port N --desks D | load N | import --file P\n"
+usage_text = codes "stockd: words: batch [--file P] | serve --file P --port N --desks D | load N | import --file P | audit --file P\n"
 
 -- the text was written and no fault counted, or a front of it was and the count of faults rose
 abbrev pub WritesOrFails : {N : Type 0} → (N → Option (List ℕ)) → (N → ℕ) → N → N → List ℕ → Type 0

@@ -10,7 +10,7 @@ use stock_io::sink::{Sink, write_all};
 
 /// What is noted where the words are none that the program knows.
 const USAGE: &str =
-    "stockd: words: batch [--file P] | serve --file P --port N --desks D | load N | import --file P\n";
+    "stockd: words: batch [--file P] | serve --file P --port N --desks D | load N | import --file P | audit --file P\n";
 
 /// What is noted where memory is wanting.
 const MEMORY: &str = "stockd: memory\n";

@@ -7,12 +7,13 @@ use Rattle.desk_service.specs.Listening.{heard}
 use Rattle.desk_service.specs.Service.{IsPeerServed}
 use Rattle.stock_words.specs.Words.{Spells, IsFaultOf}
 use Rattle.stock_words.proofs.ServeWords.{one_service, one_service_path, one_service_port}
-use Rattle.stock_words.proofs.Forms.{batch_begins, over_begins, import_begins, load_begins, serve_begins, load_once, one_path, one_import_path}
+use Rattle.stock_words.proofs.Forms.{batch_begins, over_begins, import_begins, audit_begins, load_begins, serve_begins, load_once, one_path, one_import_path, one_audit_path}
 use Rattle.stock_ends.specs.Statuses.{TellsEnd}
 use Rattle.stock_ends.specs.declared.end.End.{End}
 use Rattle.stock_ends.specs.declared.end.End.TheVariants.{NoMemory}
 use Rattle.stock_ends.proofs.Told.{status_not_2}
 use Rattle.stock_batch.proofs.Ends.{Ran-no_memory}
+use Rattle.stock_audit.proofs.AuditEnds.{audit-complete, audit-no_memory}
 use Rattle.stock_import.proofs.ImportEnds.{IsFaultless, import-faultless, import-no_memory, told-faultless}
 use Rattle.stock_load.specs.Loads.{IsLoaded}
 use Rattle.stock_load.proofs.LoadEnds.{loaded-told, loaded-complete}
@@ -136,7 +137,7 @@ returns-in-Ok-Load-clause-words g c =
     let spells = subst (Spells words) c.in-Ok-Load.field-0-is c.in-Ok-Load.ensures.asked in
     let told = c.tell-status-in-Ok-Load.ensures.told in (
       (λ two. absurd (status_not_2 told.told (sym told.status_is ∙ two))),
-      (λ none. absurd (none.3 _ spells)),
+      (λ none. absurd (none.4 _ spells)),
     )
 
 pub returns-in-Ok-Load-clause-nothing_taken : goal.returns-in-Ok-Load-clause-nothing_taken
@@ -246,7 +247,7 @@ pub returns-in-Ok-Serve-clause-words : goal.returns-in-Ok-Serve-clause-words
 returns-in-Ok-Serve-clause-words g c =
     let words = map string_bytes c.args.words.now in
     let spells = subst (Spells words) c.in-Ok-Serve.field-0-is c.in-Ok-Serve.ensures.asked in
-    ((λ two. absurd (c.serve_asked.ensures.served two)), (λ none. absurd (none.4 _ _ _ spells)))
+    ((λ two. absurd (c.serve_asked.ensures.served two)), (λ none. absurd (none.5 _ _ _ spells)))
 
 pub returns-in-Ok-Serve-clause-nothing_written : goal.returns-in-Ok-Serve-clause-nothing_written
 returns-in-Ok-Serve-clause-nothing_written g c two =
@@ -341,7 +342,7 @@ pub returns-in-Err-Unknown-clause-words : goal.returns-in-Err-Unknown-clause-wor
 returns-in-Err-Unknown-clause-words g c =
     let words = map string_bytes c.args.words.now in
     let nothing = subst (IsFaultOf words) c.in-Err-Unknown.field-0-is c.in-Err-Unknown.ensures.fault in
-    ((λ two. (nothing.0, nothing.1, nothing.2, nothing.3, nothing.4)), (λ none. c.other_words-status.ensures.status))
+    ((λ two. (nothing.0, nothing.1, nothing.2, nothing.3, nothing.4, nothing.5)), (λ none. c.other_words-status.ensures.status))
 
 pub returns-in-Err-Unknown-clause-usage : goal.returns-in-Err-Unknown-clause-usage
 returns-in-Err-Unknown-clause-usage g c two =
@@ -369,25 +370,25 @@ pub returns-in-Err-Unknown-clause-load : goal.returns-in-Err-Unknown-clause-load
 returns-in-Err-Unknown-clause-load g c n load =
     let words = map string_bytes c.args.words.now in
     let nothing = subst (IsFaultOf words) c.in-Err-Unknown.field-0-is c.in-Err-Unknown.ensures.fault in
-    absurd (nothing.3 n load)
+    absurd (nothing.4 n load)
 
 pub returns-in-Err-Unknown-clause-complete_load : goal.returns-in-Err-Unknown-clause-complete_load
 returns-in-Err-Unknown-clause-complete_load g c n load none =
     let words = map string_bytes c.args.words.now in
     let nothing = subst (IsFaultOf words) c.in-Err-Unknown.field-0-is c.in-Err-Unknown.ensures.fault in
-    absurd (nothing.3 n load)
+    absurd (nothing.4 n load)
 
 pub returns-in-Err-Unknown-clause-serve : goal.returns-in-Err-Unknown-clause-serve
 returns-in-Err-Unknown-clause-serve g c path port desks serve =
     let words = map string_bytes c.args.words.now in
     let nothing = subst (IsFaultOf words) c.in-Err-Unknown.field-0-is c.in-Err-Unknown.ensures.fault in
-    absurd (nothing.4 path port desks serve)
+    absurd (nothing.5 path port desks serve)
 
 pub returns-in-Err-Unknown-clause-complete_serve : goal.returns-in-Err-Unknown-clause-complete_serve
 returns-in-Err-Unknown-clause-complete_serve g c path port desks serve shelf kept listener output =
     let words = map string_bytes c.args.words.now in
     let nothing = subst (IsFaultOf words) c.in-Err-Unknown.field-0-is c.in-Err-Unknown.ensures.fault in
-    absurd (nothing.4 path port desks serve)
+    absurd (nothing.5 path port desks serve)
 
 pub returns-in-Err-Unknown-clause-load_takes_nothing : goal.returns-in-Err-Unknown-clause-load_takes_nothing
 returns-in-Err-Unknown-clause-load_takes_nothing g c n load =
@@ -412,7 +413,8 @@ returns-in-Err-NoMemory-clause-words g c =
         | inl batch ↦ absurd (none.0 batch)
         | inr (inl over) ↦ absurd (none.1 over.0 over.1)
         | inr (inr (inl import)) ↦ absurd (none.2 import.0 import.1)
-        | inr (inr (inr load)) ↦ absurd (none.3 load.0 load.1)
+        | inr (inr (inr (inl audit))) ↦ absurd (none.3 audit.0 audit.1)
+        | inr (inr (inr (inr load))) ↦ absurd (none.4 load.0 load.1)
       ]),
     )
 
@@ -571,13 +573,13 @@ pub returns-in-Err-Unknown-clause-serve_opens : goal.returns-in-Err-Unknown-clau
 returns-in-Err-Unknown-clause-serve_opens g c path port desks serve =
     let words = map string_bytes c.args.words.now in
     let nothing = subst (IsFaultOf words) c.in-Err-Unknown.field-0-is c.in-Err-Unknown.ensures.fault in
-    absurd (nothing.4 path port desks serve)
+    absurd (nothing.5 path port desks serve)
 
 pub returns-in-Err-Unknown-clause-serve_listens : goal.returns-in-Err-Unknown-clause-serve_listens
 returns-in-Err-Unknown-clause-serve_listens g c path port desks serve =
     let words = map string_bytes c.args.words.now in
     let nothing = subst (IsFaultOf words) c.in-Err-Unknown.field-0-is c.in-Err-Unknown.ensures.fault in
-    absurd (nothing.4 path port desks serve)
+    absurd (nothing.5 path port desks serve)
 
 pub returns-in-Err-NoMemory-clause-over_opens : goal.returns-in-Err-NoMemory-clause-over_opens
 returns-in-Err-NoMemory-clause-over_opens g c path over = inr refl
@@ -852,4 +854,321 @@ returns-in-Err-NoMemory-clause-import_opens g c path import =
 
 pub returns-in-Err-NoMemory-clause-complete_import : goal.returns-in-Err-NoMemory-clause-complete_import
 returns-in-Err-NoMemory-clause-complete_import g c path import source output shelf kept few =
+    inr (inl c.without_memory-status.ensures.status)
+
+-- `audit`
+
+pub returns-in-Ok-AuditOf-clause-words : goal.returns-in-Ok-AuditOf-clause-words
+returns-in-Ok-AuditOf-clause-words g c =
+    let words = map string_bytes c.args.words.now in
+    let spells = subst (Spells words) c.in-Ok-AuditOf.field-0-is c.in-Ok-AuditOf.ensures.asked in
+    let told = c.tell-status-in-Ok-AuditOf.ensures.told in (
+      (λ two. absurd (status_not_2 told.told (sym told.status_is ∙ two))),
+      (λ none. absurd (none.3 _ spells)),
+    )
+
+pub returns-in-Ok-AuditOf-clause-nothing_taken : goal.returns-in-Ok-AuditOf-clause-nothing_taken
+returns-in-Ok-AuditOf-clause-nothing_taken g c two =
+    let told = c.tell-status-in-Ok-AuditOf.ensures.told in
+    absurd (status_not_2 told.told (sym told.status_is ∙ two))
+
+pub returns-in-Ok-AuditOf-clause-nothing_written : goal.returns-in-Ok-AuditOf-clause-nothing_written
+returns-in-Ok-AuditOf-clause-nothing_written g c two =
+    let told = c.tell-status-in-Ok-AuditOf.ensures.told in
+    absurd (status_not_2 told.told (sym told.status_is ∙ two))
+
+pub returns-in-Ok-AuditOf-clause-usage : goal.returns-in-Ok-AuditOf-clause-usage
+returns-in-Ok-AuditOf-clause-usage g c two =
+    let told = c.tell-status-in-Ok-AuditOf.ensures.told in
+    absurd (status_not_2 told.told (sym told.status_is ∙ two))
+
+pub returns-in-Ok-AuditOf-clause-nothing_opened : goal.returns-in-Ok-AuditOf-clause-nothing_opened
+returns-in-Ok-AuditOf-clause-nothing_opened g c (inl two) =
+    let told = c.tell-status-in-Ok-AuditOf.ensures.told in
+    absurd (status_not_2 told.told (sym told.status_is ∙ two))
+returns-in-Ok-AuditOf-clause-nothing_opened g c (inr batch) =
+    let words = map string_bytes c.args.words.now in
+    let spells = subst (Spells words) c.in-Ok-AuditOf.field-0-is c.in-Ok-AuditOf.ensures.asked in
+    absurd (omega (arith, batch_begins words batch, audit_begins words _ spells))
+
+pub returns-in-Ok-AuditOf-clause-run : goal.returns-in-Ok-AuditOf-clause-run
+returns-in-Ok-AuditOf-clause-run g c batch =
+    let words = map string_bytes c.args.words.now in
+    let spells = subst (Spells words) c.in-Ok-AuditOf.field-0-is c.in-Ok-AuditOf.ensures.asked in
+    absurd (omega (arith, batch_begins words batch, audit_begins words _ spells))
+
+pub returns-in-Ok-AuditOf-clause-over : goal.returns-in-Ok-AuditOf-clause-over
+returns-in-Ok-AuditOf-clause-over g c path over =
+    let words = map string_bytes c.args.words.now in
+    let spells = subst (Spells words) c.in-Ok-AuditOf.field-0-is c.in-Ok-AuditOf.ensures.asked in
+    absurd (omega (arith, over_begins words path over, audit_begins words _ spells))
+
+pub returns-in-Ok-AuditOf-clause-load : goal.returns-in-Ok-AuditOf-clause-load
+returns-in-Ok-AuditOf-clause-load g c n load =
+    let words = map string_bytes c.args.words.now in
+    let spells = subst (Spells words) c.in-Ok-AuditOf.field-0-is c.in-Ok-AuditOf.ensures.asked in
+    absurd (omega (arith, load_begins words n load, audit_begins words _ spells))
+
+pub returns-in-Ok-AuditOf-clause-load_takes_nothing : goal.returns-in-Ok-AuditOf-clause-load_takes_nothing
+returns-in-Ok-AuditOf-clause-load_takes_nothing g c n load =
+    let words = map string_bytes c.args.words.now in
+    let spells = subst (Spells words) c.in-Ok-AuditOf.field-0-is c.in-Ok-AuditOf.ensures.asked in
+    absurd (omega (arith, load_begins words n load, audit_begins words _ spells))
+
+pub returns-in-Ok-AuditOf-clause-load_opens_nothing : goal.returns-in-Ok-AuditOf-clause-load_opens_nothing
+returns-in-Ok-AuditOf-clause-load_opens_nothing g c n load =
+    let words = map string_bytes c.args.words.now in
+    let spells = subst (Spells words) c.in-Ok-AuditOf.field-0-is c.in-Ok-AuditOf.ensures.asked in
+    absurd (omega (arith, load_begins words n load, audit_begins words _ spells))
+
+pub returns-in-Ok-AuditOf-clause-serve : goal.returns-in-Ok-AuditOf-clause-serve
+returns-in-Ok-AuditOf-clause-serve g c path port desks serve =
+    let words = map string_bytes c.args.words.now in
+    let spells = subst (Spells words) c.in-Ok-AuditOf.field-0-is c.in-Ok-AuditOf.ensures.asked in
+    absurd (omega (arith, serve_begins words path port desks serve, audit_begins words _ spells))
+
+pub returns-in-Ok-AuditOf-clause-serve_takes_nothing : goal.returns-in-Ok-AuditOf-clause-serve_takes_nothing
+returns-in-Ok-AuditOf-clause-serve_takes_nothing g c path port desks serve =
+    let words = map string_bytes c.args.words.now in
+    let spells = subst (Spells words) c.in-Ok-AuditOf.field-0-is c.in-Ok-AuditOf.ensures.asked in
+    absurd (omega (arith, serve_begins words path port desks serve, audit_begins words _ spells))
+
+pub returns-in-Ok-AuditOf-clause-over_opens : goal.returns-in-Ok-AuditOf-clause-over_opens
+returns-in-Ok-AuditOf-clause-over_opens g c path over =
+    let words = map string_bytes c.args.words.now in
+    let spells = subst (Spells words) c.in-Ok-AuditOf.field-0-is c.in-Ok-AuditOf.ensures.asked in
+    absurd (omega (arith, over_begins words path over, audit_begins words _ spells))
+
+pub returns-in-Ok-AuditOf-clause-serve_opens : goal.returns-in-Ok-AuditOf-clause-serve_opens
+returns-in-Ok-AuditOf-clause-serve_opens g c path port desks serve =
+    let words = map string_bytes c.args.words.now in
+    let spells = subst (Spells words) c.in-Ok-AuditOf.field-0-is c.in-Ok-AuditOf.ensures.asked in
+    absurd (omega (arith, serve_begins words path port desks serve, audit_begins words _ spells))
+
+pub returns-in-Ok-AuditOf-clause-serve_listens : goal.returns-in-Ok-AuditOf-clause-serve_listens
+returns-in-Ok-AuditOf-clause-serve_listens g c path port desks serve =
+    let words = map string_bytes c.args.words.now in
+    let spells = subst (Spells words) c.in-Ok-AuditOf.field-0-is c.in-Ok-AuditOf.ensures.asked in
+    absurd (omega (arith, serve_begins words path port desks serve, audit_begins words _ spells))
+
+pub returns-in-Ok-AuditOf-clause-complete : goal.returns-in-Ok-AuditOf-clause-complete
+returns-in-Ok-AuditOf-clause-complete g c batch source output few =
+    let words = map string_bytes c.args.words.now in
+    let spells = subst (Spells words) c.in-Ok-AuditOf.field-0-is c.in-Ok-AuditOf.ensures.asked in
+    absurd (omega (arith, batch_begins words batch, audit_begins words _ spells))
+
+pub returns-in-Ok-AuditOf-clause-complete_over : goal.returns-in-Ok-AuditOf-clause-complete_over
+returns-in-Ok-AuditOf-clause-complete_over g c path over source output shelf kept few =
+    let words = map string_bytes c.args.words.now in
+    let spells = subst (Spells words) c.in-Ok-AuditOf.field-0-is c.in-Ok-AuditOf.ensures.asked in
+    absurd (omega (arith, over_begins words path over, audit_begins words _ spells))
+
+pub returns-in-Ok-AuditOf-clause-complete_load : goal.returns-in-Ok-AuditOf-clause-complete_load
+returns-in-Ok-AuditOf-clause-complete_load g c n load none =
+    let words = map string_bytes c.args.words.now in
+    let spells = subst (Spells words) c.in-Ok-AuditOf.field-0-is c.in-Ok-AuditOf.ensures.asked in
+    absurd (omega (arith, load_begins words n load, audit_begins words _ spells))
+
+pub returns-in-Ok-AuditOf-clause-complete_serve : goal.returns-in-Ok-AuditOf-clause-complete_serve
+returns-in-Ok-AuditOf-clause-complete_serve g c path port desks serve shelf kept listener output =
+    let words = map string_bytes c.args.words.now in
+    let spells = subst (Spells words) c.in-Ok-AuditOf.field-0-is c.in-Ok-AuditOf.ensures.asked in
+    absurd (omega (arith, serve_begins words path port desks serve, audit_begins words _ spells))
+
+pub returns-in-Ok-AuditOf-clause-audit : goal.returns-in-Ok-AuditOf-clause-audit
+returns-in-Ok-AuditOf-clause-audit g c path audit =
+    (c.audit_over-end.result, c.tell-status-in-Ok-AuditOf.ensures.told, c.audit_over-end.ensures.audits)
+
+pub returns-in-Ok-AuditOf-clause-audit_opens : goal.returns-in-Ok-AuditOf-clause-audit_opens
+returns-in-Ok-AuditOf-clause-audit_opens g c path audit =
+    let words = map string_bytes c.args.words.now in
+    let spells = subst (Spells words) c.in-Ok-AuditOf.field-0-is c.in-Ok-AuditOf.ensures.asked in
+    subst (λ (p : List ℕ). AsksAtMost g.H.Shelf.opened g.H.Shelf.openings p c.args.shelf.now c.audit_over-end.new.shelf)
+    (one_audit_path words _ path spells audit) c.audit_over-end.ensures.opens
+
+pub returns-in-Ok-AuditOf-clause-complete_audit : goal.returns-in-Ok-AuditOf-clause-complete_audit
+returns-in-Ok-AuditOf-clause-complete_audit g c path audit output shelf kept =
+    let told = c.tell-status-in-Ok-AuditOf.ensures.told in
+    audit-complete g.H.Kept.Keeper.tells g.H.Shelf.tells g.H.Shelf.plan g.H.Shelf.faults g.H.Shelf.kept_faults g.O.Sink.written g.O.Sink.faults
+    c.args.shelf.now c.audit_over-end.new.shelf c.args.output.now c.audit_over-end.new.output c.audit_over-end.result told.told
+    c.tell-status-in-Ok-AuditOf.result c.audit_over-end.ensures.audits output shelf kept told.told_as told.status_is
+
+pub returns-in-Ok-AuditOf-clause-import : goal.returns-in-Ok-AuditOf-clause-import
+returns-in-Ok-AuditOf-clause-import g c path import =
+    let words = map string_bytes c.args.words.now in
+    let spells = subst (Spells words) c.in-Ok-AuditOf.field-0-is c.in-Ok-AuditOf.ensures.asked in
+    absurd (omega (arith, import_begins words path import, audit_begins words _ spells))
+
+pub returns-in-Ok-AuditOf-clause-import_opens : goal.returns-in-Ok-AuditOf-clause-import_opens
+returns-in-Ok-AuditOf-clause-import_opens g c path import =
+    let words = map string_bytes c.args.words.now in
+    let spells = subst (Spells words) c.in-Ok-AuditOf.field-0-is c.in-Ok-AuditOf.ensures.asked in
+    absurd (omega (arith, import_begins words path import, audit_begins words _ spells))
+
+pub returns-in-Ok-AuditOf-clause-complete_import : goal.returns-in-Ok-AuditOf-clause-complete_import
+returns-in-Ok-AuditOf-clause-complete_import g c path import source output shelf kept few =
+    let words = map string_bytes c.args.words.now in
+    let spells = subst (Spells words) c.in-Ok-AuditOf.field-0-is c.in-Ok-AuditOf.ensures.asked in
+    absurd (omega (arith, import_begins words path import, audit_begins words _ spells))
+
+pub returns-in-Ok-AuditOf-clause-noted : goal.returns-in-Ok-AuditOf-clause-noted
+returns-in-Ok-AuditOf-clause-noted g c known =
+    let told = c.tell-status-in-Ok-AuditOf.ensures.told in
+    (told.told, told.status_is, told.noted)
+
+pub returns-in-Ok-AuditOf-clause-silent : goal.returns-in-Ok-AuditOf-clause-silent
+returns-in-Ok-AuditOf-clause-silent g c =
+    c.tell-status-in-Ok-AuditOf.ensures.silent
+
+pub returns-in-Ok-AuditOf-clause-notes_never_fall : goal.returns-in-Ok-AuditOf-clause-notes_never_fall
+returns-in-Ok-AuditOf-clause-notes_never_fall g c =
+    c.tell-status-in-Ok-AuditOf.ensures.never_falls
+
+-- no other command audits
+
+pub returns-in-Ok-Batch-clause-audit : goal.returns-in-Ok-Batch-clause-audit
+returns-in-Ok-Batch-clause-audit g c path audit =
+    let words = map string_bytes c.args.words.now in
+    let spells = subst (Spells words) c.in-Ok-Batch.field-0-is c.in-Ok-Batch.ensures.asked in
+    absurd (omega (arith, audit_begins words path audit, batch_begins words spells))
+
+pub returns-in-Ok-Batch-clause-audit_opens : goal.returns-in-Ok-Batch-clause-audit_opens
+returns-in-Ok-Batch-clause-audit_opens g c path audit =
+    let words = map string_bytes c.args.words.now in
+    let spells = subst (Spells words) c.in-Ok-Batch.field-0-is c.in-Ok-Batch.ensures.asked in
+    absurd (omega (arith, audit_begins words path audit, batch_begins words spells))
+
+pub returns-in-Ok-Batch-clause-complete_audit : goal.returns-in-Ok-Batch-clause-complete_audit
+returns-in-Ok-Batch-clause-complete_audit g c path audit output shelf kept =
+    let words = map string_bytes c.args.words.now in
+    let spells = subst (Spells words) c.in-Ok-Batch.field-0-is c.in-Ok-Batch.ensures.asked in
+    absurd (omega (arith, audit_begins words path audit, batch_begins words spells))
+
+pub returns-in-Ok-BatchOver-clause-audit : goal.returns-in-Ok-BatchOver-clause-audit
+returns-in-Ok-BatchOver-clause-audit g c path audit =
+    let words = map string_bytes c.args.words.now in
+    let spells = subst (Spells words) c.in-Ok-BatchOver.field-0-is c.in-Ok-BatchOver.ensures.asked in
+    absurd (omega (arith, audit_begins words path audit, over_begins words _ spells))
+
+pub returns-in-Ok-BatchOver-clause-audit_opens : goal.returns-in-Ok-BatchOver-clause-audit_opens
+returns-in-Ok-BatchOver-clause-audit_opens g c path audit =
+    let words = map string_bytes c.args.words.now in
+    let spells = subst (Spells words) c.in-Ok-BatchOver.field-0-is c.in-Ok-BatchOver.ensures.asked in
+    absurd (omega (arith, audit_begins words path audit, over_begins words _ spells))
+
+pub returns-in-Ok-BatchOver-clause-complete_audit : goal.returns-in-Ok-BatchOver-clause-complete_audit
+returns-in-Ok-BatchOver-clause-complete_audit g c path audit output shelf kept =
+    let words = map string_bytes c.args.words.now in
+    let spells = subst (Spells words) c.in-Ok-BatchOver.field-0-is c.in-Ok-BatchOver.ensures.asked in
+    absurd (omega (arith, audit_begins words path audit, over_begins words _ spells))
+
+pub returns-in-Ok-Load-clause-audit : goal.returns-in-Ok-Load-clause-audit
+returns-in-Ok-Load-clause-audit g c path audit =
+    let words = map string_bytes c.args.words.now in
+    let spells = subst (Spells words) c.in-Ok-Load.field-0-is c.in-Ok-Load.ensures.asked in
+    absurd (omega (arith, audit_begins words path audit, load_begins words _ spells))
+
+pub returns-in-Ok-Load-clause-audit_opens : goal.returns-in-Ok-Load-clause-audit_opens
+returns-in-Ok-Load-clause-audit_opens g c path audit =
+    let words = map string_bytes c.args.words.now in
+    let spells = subst (Spells words) c.in-Ok-Load.field-0-is c.in-Ok-Load.ensures.asked in
+    absurd (omega (arith, audit_begins words path audit, load_begins words _ spells))
+
+pub returns-in-Ok-Load-clause-complete_audit : goal.returns-in-Ok-Load-clause-complete_audit
+returns-in-Ok-Load-clause-complete_audit g c path audit output shelf kept =
+    let words = map string_bytes c.args.words.now in
+    let spells = subst (Spells words) c.in-Ok-Load.field-0-is c.in-Ok-Load.ensures.asked in
+    absurd (omega (arith, audit_begins words path audit, load_begins words _ spells))
+
+pub returns-in-Ok-Serve-clause-audit : goal.returns-in-Ok-Serve-clause-audit
+returns-in-Ok-Serve-clause-audit g c path audit =
+    let words = map string_bytes c.args.words.now in
+    let spells = subst (Spells words) c.in-Ok-Serve.field-0-is c.in-Ok-Serve.ensures.asked in
+    absurd (omega (arith, audit_begins words path audit, serve_begins words _ _ _ spells))
+
+pub returns-in-Ok-Serve-clause-audit_opens : goal.returns-in-Ok-Serve-clause-audit_opens
+returns-in-Ok-Serve-clause-audit_opens g c path audit =
+    let words = map string_bytes c.args.words.now in
+    let spells = subst (Spells words) c.in-Ok-Serve.field-0-is c.in-Ok-Serve.ensures.asked in
+    absurd (omega (arith, audit_begins words path audit, serve_begins words _ _ _ spells))
+
+pub returns-in-Ok-Serve-clause-complete_audit : goal.returns-in-Ok-Serve-clause-complete_audit
+returns-in-Ok-Serve-clause-complete_audit g c path audit output shelf kept =
+    let words = map string_bytes c.args.words.now in
+    let spells = subst (Spells words) c.in-Ok-Serve.field-0-is c.in-Ok-Serve.ensures.asked in
+    absurd (omega (arith, audit_begins words path audit, serve_begins words _ _ _ spells))
+
+pub returns-in-Ok-ImportInto-clause-audit : goal.returns-in-Ok-ImportInto-clause-audit
+returns-in-Ok-ImportInto-clause-audit g c path audit =
+    let words = map string_bytes c.args.words.now in
+    let spells = subst (Spells words) c.in-Ok-ImportInto.field-0-is c.in-Ok-ImportInto.ensures.asked in
+    absurd (omega (arith, audit_begins words path audit, import_begins words _ spells))
+
+pub returns-in-Ok-ImportInto-clause-audit_opens : goal.returns-in-Ok-ImportInto-clause-audit_opens
+returns-in-Ok-ImportInto-clause-audit_opens g c path audit =
+    let words = map string_bytes c.args.words.now in
+    let spells = subst (Spells words) c.in-Ok-ImportInto.field-0-is c.in-Ok-ImportInto.ensures.asked in
+    absurd (omega (arith, audit_begins words path audit, import_begins words _ spells))
+
+pub returns-in-Ok-ImportInto-clause-complete_audit : goal.returns-in-Ok-ImportInto-clause-complete_audit
+returns-in-Ok-ImportInto-clause-complete_audit g c path audit output shelf kept =
+    let words = map string_bytes c.args.words.now in
+    let spells = subst (Spells words) c.in-Ok-ImportInto.field-0-is c.in-Ok-ImportInto.ensures.asked in
+    absurd (omega (arith, audit_begins words path audit, import_begins words _ spells))
+
+pub returns-in-Ok-ImportInto-clause-audit_takes_nothing : goal.returns-in-Ok-ImportInto-clause-audit_takes_nothing
+returns-in-Ok-ImportInto-clause-audit_takes_nothing g c path audit =
+    let words = map string_bytes c.args.words.now in
+    let spells = subst (Spells words) c.in-Ok-ImportInto.field-0-is c.in-Ok-ImportInto.ensures.asked in
+    absurd (omega (arith, audit_begins words path audit, import_begins words _ spells))
+
+pub returns-in-Ok-Batch-clause-audit_takes_nothing : goal.returns-in-Ok-Batch-clause-audit_takes_nothing
+returns-in-Ok-Batch-clause-audit_takes_nothing g c path audit =
+    let words = map string_bytes c.args.words.now in
+    let spells = subst (Spells words) c.in-Ok-Batch.field-0-is c.in-Ok-Batch.ensures.asked in
+    absurd (omega (arith, audit_begins words path audit, batch_begins words spells))
+
+pub returns-in-Ok-BatchOver-clause-audit_takes_nothing : goal.returns-in-Ok-BatchOver-clause-audit_takes_nothing
+returns-in-Ok-BatchOver-clause-audit_takes_nothing g c path audit =
+    let words = map string_bytes c.args.words.now in
+    let spells = subst (Spells words) c.in-Ok-BatchOver.field-0-is c.in-Ok-BatchOver.ensures.asked in
+    absurd (omega (arith, audit_begins words path audit, over_begins words _ spells))
+
+pub returns-in-Err-Unknown-clause-audit : goal.returns-in-Err-Unknown-clause-audit
+returns-in-Err-Unknown-clause-audit g c path audit =
+    let words = map string_bytes c.args.words.now in
+    let nothing = subst (IsFaultOf words) c.in-Err-Unknown.field-0-is c.in-Err-Unknown.ensures.fault in
+    absurd (nothing.3 path audit)
+
+pub returns-in-Err-Unknown-clause-audit_opens : goal.returns-in-Err-Unknown-clause-audit_opens
+returns-in-Err-Unknown-clause-audit_opens g c path audit =
+    let words = map string_bytes c.args.words.now in
+    let nothing = subst (IsFaultOf words) c.in-Err-Unknown.field-0-is c.in-Err-Unknown.ensures.fault in
+    absurd (nothing.3 path audit)
+
+pub returns-in-Err-Unknown-clause-complete_audit : goal.returns-in-Err-Unknown-clause-complete_audit
+returns-in-Err-Unknown-clause-complete_audit g c path audit output shelf kept =
+    let words = map string_bytes c.args.words.now in
+    let nothing = subst (IsFaultOf words) c.in-Err-Unknown.field-0-is c.in-Err-Unknown.ensures.fault in
+    absurd (nothing.3 path audit)
+
+pub returns-in-Err-NoMemory-clause-audit : goal.returns-in-Err-NoMemory-clause-audit
+returns-in-Err-NoMemory-clause-audit g c path audit = (
+  NoMemory,
+  record {
+    told = NoMemory;
+    told_as = refl;
+    status_is = c.without_memory-status.ensures.status;
+    noted = c.without_memory-status.ensures.noted;
+  },
+  audit-no_memory g.H.Kept.Keeper.tells g.H.Shelf.tells g.H.Shelf.plan g.H.Shelf.faults g.H.Shelf.kept_faults g.O.Sink.written g.O.Sink.faults
+      c.args.shelf.now c.args.output.now,
+)
+
+pub returns-in-Err-NoMemory-clause-audit_opens : goal.returns-in-Err-NoMemory-clause-audit_opens
+returns-in-Err-NoMemory-clause-audit_opens g c path audit =
+    inr refl
+
+pub returns-in-Err-NoMemory-clause-complete_audit : goal.returns-in-Err-NoMemory-clause-complete_audit
+returns-in-Err-NoMemory-clause-complete_audit g c path audit output shelf kept =
     inr (inl c.without_memory-status.ensures.status)

@@ -1,0 +1,2 @@
+pub mod AuditedRuns
+pub mod AuditEnds
