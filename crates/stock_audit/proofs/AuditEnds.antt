@@ -1,5 +1,5 @@
 -- The ends of an audit as they are told, and which it has without a fault.
-use Rattle.std.proofs.Common.{◌≡◌, ◌⊎◌, ◌∙◌, ℕ, List, Option, inl, inr, refl, sym, ap, arith}
+use Rattle.std.proofs.Common.{◌≡◌, ◌⊎◌, ◌∙◌, ℕ, List, Option, inl, inr, refl, ap, arith}
 use Rattle.stock_io.specs.Counts.{Rose}
 use Rattle.stock_keeper.specs.declared.tables.Tables.{Tables}
 use Rattle.stock_ends.specs.Statuses.{status_of, IsToldAs, CountsNoFault}

@@ -4,7 +4,6 @@ use Rattle.stock_keeper.specs.Calls.{KeeperState}
 use Rattle.stock_keeper.specs.Keeping.{Within, TellSame}
 use Rattle.stock_keeper.specs.declared.tables.Tables.{Tables}
 use Rattle.repost_worker.specs.Openings.{state_of}
-use Rattle.stock_ends.specs.Openings.{IsUnopened}
 use Rattle.stock_ends.specs.declared.end.End.{End}
 use Rattle.stock_ends.specs.declared.end.End.TheVariants.{Done, NoMemory, ReadFailed, WriteFailed, TooLong, StoreFailed, ListenFailed, BadSheet, Damaged}
 use Rattle.stock_ends.proofs.Openings.{unopened}

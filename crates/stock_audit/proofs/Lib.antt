@@ -1,2 +1,3 @@
 pub mod AuditedRuns
 pub mod AuditEnds
+pub mod NoFloats

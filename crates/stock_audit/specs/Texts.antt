@@ -1,6 +1,6 @@
 -- What an audit prints: one line of JSON, the names of its fields in order.
 use Rattle.std.specs.Prelude.{ℕ, List, [], ◌∷◌, ◌++◌, Option, Some, None, codes, map}
-use Rattle.serde_json.specs.Data.{Data, Items, no_items, item, array, number}
+use Rattle.serde_json.specs.Data.{Data, array, number}
 use Rattle.serde_json.specs.Find.{of_integer}
 use Rattle.serde_json.specs.View.{items_of}
 use Rattle.serde_json.specs.Written.{compact_text}
@@ -45,7 +45,7 @@ differs_data spot stored due =
 abbrev pub verdict_data : Verdict → Data
 verdict_data (verdict.Sound records covered accounts) = sound_data records covered.0 accounts
 verdict_data verdict.Head = object_of (status (codes "head") ∷ [])
-verdict_data (verdict.Record number) = object_of (count (codes "record") number ∷ status (codes "unreadable") ∷ [])
+verdict_data (verdict.Record n) = object_of (count (codes "record") n ∷ status (codes "unreadable") ∷ [])
 verdict_data (verdict.Differs spot stored due) = differs_data spot stored due
 
 -- the line that tells a verdict

@@ -1,6 +1,6 @@
 //! An audit of the ledger that a shelf has at a path.
-ghost use Rattle.std.specs.Prelude.{◌≡◌, IfOk, IfErr, OnOk, OnErr};
-ghost use Rattle.stock_keeper.specs.Keeping.{AsksAtMost, Within};
+ghost use Rattle.std.specs.Prelude.{◌≡◌, ◌⊎◌};
+ghost use Rattle.stock_keeper.specs.Keeping.{AsksAtMost};
 ghost use Rattle.stock_audit.specs.Audits.{AuditsOverShelf, KeepsAudited, end_of, TellsVerdict};
 ghost use Rattle.generation_audit.specs.Verdicts.{IsVerdictOn};
 
@@ -59,7 +59,7 @@ fn write_verdict<O: Sink>(alloc: Global, tables: &Tables, output: &mut O) -> End
     let Ok(text) = verdict_text(alloc, &verdict) else {
         return End::NoMemory;
     };
-    match write_all(output, text.as_bytes()) {
+    match write_all(output, text.as_slice()) {
         Ok(()) => end_of(&verdict),
         Err(_) => End::WriteFailed,
     }

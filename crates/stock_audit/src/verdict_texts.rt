@@ -1,6 +1,7 @@
 //! The texts of the verdicts.
-ghost use Rattle.std.specs.Prelude.{◌≡◌, ◌++◌, IfOk, IfSome, OnOk, List, map, string_bytes};
+ghost use Rattle.std.specs.Prelude.{◌≡◌, ◌++◌, false, IfOk, codes, map};
 ghost use Rattle.serde_json.specs.View.{view};
+ghost use Rattle.serde_json.specs.Written.{compact_text, has_float};
 ghost use Rattle.stock_audit.specs.Texts.{account_data, differs_data, side_text, sound_data, verdict_data, verdict_text, worth_data};
 
 use generation_audit::verdict::Verdict;
@@ -12,12 +13,20 @@ use stock_nums::numbers::RecordNo;
 use stock_nums::place::{Side, Spot};
 
 /// The line that tells a verdict, with its line feed.
-pub(crate) fn verdict_text(alloc: Global, verdict: &Verdict) -> Result<String, AllocError>
-    ensures { IfOk result (λ text. string_bytes text ≡ verdict_text verdict.now) }
+pub(crate) fn verdict_text(alloc: Global, verdict: &Verdict) -> Result<Vec<u8>, AllocError>
+    ensures { IfOk result (λ text. text.items ≡ verdict_text verdict.now) }
 {
     let value = verdict_value(alloc, verdict)?;
-    let mut text = value.to_string(alloc)?;
-    text.push('\n')?;
+    line_of(alloc, value)
+}
+
+/// The text of a JSON value with no float, and a line feed.
+fn line_of(alloc: Global, value: Value) -> Result<Vec<u8>, AllocError>
+    requires { has_float (view value) ≡ false }
+    ensures { IfOk result (λ text. text.items ≡ compact_text (view value) ++ codes "\n") }
+{
+    let mut text = value.to_string(alloc)?.into_bytes();
+    text.extend_from_slice(b"\n")?;
     Ok(text)
 }
 
