@@ -5,6 +5,7 @@ the rows that are stored before it.
 """
 import contextlib
 import json
+import os
 import random
 import shutil
 import sqlite3
@@ -227,6 +228,7 @@ def large(room):
 
 def measure(room):
     """Returns how many spoiled files had each verdict, and how long the audit of a large file takes."""
+    os.makedirs(room, exist_ok=True)
     return {"verdicts": compare(room), **large(room)}
 
 
