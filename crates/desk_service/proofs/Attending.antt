@@ -3,7 +3,8 @@ use Rattle.std.proofs.Common.{◌≡◌, ℕ, ◌+◌, List, [], ◌∷◌, ◌+
 use Rattle.turn_lock.specs.Passes.{PassView}
 use Rattle.stock_model.specs.declared.deeds.Deed.{Deed}
 use Rattle.desk_service.specs.Desks.{Work, last_first}
-use Rattle.desk_service.specs.Listening.{Heard, Accepts}
+use Rattle.stock_io.specs.Heard.{Heard}
+use Rattle.desk_service.specs.Listening.{Accepts}
 use Rattle.desk_service.specs.Serving.{Serving}
 
 -- what a thread keeps as it was promised, or was done without one

@@ -3,7 +3,8 @@ use Rattle.std.proofs.Common.{◌≡◌, ℕ, ◌+◌, ◌<◌, Option, Some, No
 use Rattle.std.proofs.lemmas.List.Elements.{All-nil, All-cons}
 use Rattle.stock_io.specs.Counts.{Rose, NeverFalls}
 use Rattle.stock_io.specs.Listeners as one
-use Rattle.desk_service.specs.Listening.{HandsOutAll, HangsUpAll, Heard, Accepts, HangsUp}
+use Rattle.stock_io.specs.Heard.{HandsOutAll, HangsUpAll, Heard}
+use Rattle.desk_service.specs.Listening.{Accepts, HangsUp}
 
 module _ {P : Type 0} where
   none_out : (waiting : Option (List P)) → HandsOutAll waiting waiting []

@@ -24,7 +24,8 @@ use Rattle.repost_worker.specs.Turns.{IsWorkOf}
 use Rattle.locked_worker.proofs.GatedRuns.{publishes-turns}
 use Rattle.desk_service.specs.Desks.{IsAttended, Work, AreAttended, last_first}
 use Rattle.desk_service.specs.Endings.{IsClosed}
-use Rattle.desk_service.specs.Listening.{Heard, Accepts, HangsUp}
+use Rattle.stock_io.specs.Heard.{Heard}
+use Rattle.desk_service.specs.Listening.{Accepts, HangsUp}
 use Rattle.desk_service.specs.Passes.{fresh, passes_from}
 use Rattle.desk_service.specs.Service.{IsPeerServed, AreServed, IsService}
 use Rattle.desk_service.specs.Teams.{IsTeamwork}

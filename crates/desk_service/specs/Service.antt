@@ -11,7 +11,8 @@ use Rattle.session_laws.specs.Sessions.{Session, Served}
 use Rattle.book_answers.specs.Answers.{ShowsKeptStock}
 use Rattle.desk_server.specs.Served.{Serves, IsServedOpen}
 use Rattle.desk_server.specs.declared.session.End.{End}
-use Rattle.desk_service.specs.Listening.{Heard, Accepts, HangsUp}
+use Rattle.stock_io.specs.Heard.{Heard}
+use Rattle.desk_service.specs.Listening.{Accepts, HangsUp}
 
 -- The desk with this number served the peer and then ended the connection. Whatever exchanges make its session, they are answered by
 -- the one history that all desks share, and the ledger keeps the stock of each report among them. No more of them say that the

@@ -3,7 +3,8 @@ use Rattle.std.specs.Prelude.{ℕ, ◌≡◌, List, ◌++◌, length, map}
 use Rattle.turn_lock.specs.Passes.{PassView}
 use Rattle.stock_model.specs.declared.deeds.Deed.{Deed}
 use Rattle.desk_service.specs.Desks.{Work, AreAttended, last_first}
-use Rattle.desk_service.specs.Listening.{Heard, Accepts}
+use Rattle.stock_io.specs.Heard.{Heard}
+use Rattle.desk_service.specs.Listening.{Accepts}
 
 -- A peer was wanted for each pass, the last one first. Each that came was served by a desk, numbered on from this number, with
 -- its pass. The other passes are left as they were, and the peers that were served are kept behind others, the first of them last.

@@ -3,7 +3,7 @@ use Rattle.std.specs.Prelude.{ℕ, List, []}
 use Rattle.turn_lock.specs.Passes.{PassView}
 use Rattle.stock_model.specs.declared.deeds.Deed.{Deed}
 use Rattle.repost_build.specs.declared.build.Build.{Build}
-use Rattle.desk_service.specs.Listening.{Heard}
+use Rattle.stock_io.specs.Heard.{Heard}
 use Rattle.desk_service.specs.Serving.{Serving}
 use Rattle.desk_service.specs.Working.{IsWorked}
 

@@ -4,7 +4,7 @@ ghost use Rattle.stock_nums.specs.declared.limits.TheConstants.{MAX_DESK};
 ghost use Rattle.stock_io.specs.Listeners.{IsFresh};
 ghost use Rattle.desk_service.specs.Passes.{ArePassesFrom};
 ghost use Rattle.desk_service.specs.Desks.{IsAttended};
-ghost use Rattle.desk_service.specs.Listening.{heard};
+ghost use Rattle.stock_io.specs.Heard.{heard};
 ghost use Rattle.desk_service.specs.Serving.{Serving};
 
 use crate::desk::{Desk, finish, start};

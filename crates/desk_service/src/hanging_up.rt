@@ -1,6 +1,7 @@
 //! Peers that are handed back to their listener.
 ghost use Rattle.std.specs.Prelude.{◌≡◌, ◌+◌, ◌≤◌, reverse, vec_len};
-ghost use Rattle.desk_service.specs.Listening.{heard, HangsUp};
+ghost use Rattle.stock_io.specs.Heard.{heard};
+ghost use Rattle.desk_service.specs.Listening.{HangsUp};
 
 use stock_io::listener::Listener;
 

@@ -5,7 +5,7 @@ ghost use Rattle.stock_io.specs.Counts.{NeverFalls};
 ghost use Rattle.stock_io.specs.Listeners.{IsFresh};
 ghost use Rattle.stock_keeper.specs.Keeping.{AsksAt, AsksAtMost};
 ghost use Rattle.repost_worker.specs.Paces.{Pace, first_pace};
-ghost use Rattle.desk_service.specs.Listening.{heard};
+ghost use Rattle.stock_io.specs.Heard.{heard};
 ghost use Rattle.desk_service.specs.Service.{IsPeerServed};
 ghost use Rattle.stock_words.specs.Words.{IsAudit, IsBatch, IsBatchOver, IsImport, IsLoad, IsServe};
 ghost use Rattle.stock_ends.specs.declared.end.End.{End};

@@ -5,4 +5,5 @@ pub mod Memory
 pub mod Standard
 pub mod Links
 pub mod Listeners
+pub mod Heard
 pub mod Nets

@@ -28,21 +28,21 @@ IsNewPeer link =
     (link.source.supply.taken ≡ 0) × (link.sink.written ≡ []) × (link_faults link ≡ 0) × (link.ended ≡ false)
 
 -- a listener in memory: the peers that wait, those that were hung up, how many were handed out and were not hung up yet, the port
--- that it listens to once it does, and which calls fail
+-- that it listens to once it does, with the seconds that a peer may be silent, and which calls fail
 pub record PlannedPeers : Type 0 where
   pub waiting : List PlannedLink
   pub hung_up : List PlannedLink
   pub outstanding : ℕ
-  pub port : Option ℕ
+  pub asked : Option (ℕ × Option ℕ)
   pub plan : Plan
 
 -- the listener before the first call
 abbrev pub new_peers : List PlannedLink → List ℕ → PlannedPeers
-new_peers peers failing = record { waiting = peers; hung_up = []; outstanding = 0; port = None; plan = new_plan failing }
+new_peers peers failing = record { waiting = peers; hung_up = []; outstanding = 0; asked = None; plan = new_plan failing }
 
 -- the listener after it listens to this port, and after a call that failed
-abbrev pub after_listen : ℕ → PlannedPeers → PlannedPeers
-after_listen port peers = record peers { port = Some port; plan = after_call peers.plan }
+abbrev pub after_listen : ℕ → Option ℕ → PlannedPeers → PlannedPeers
+after_listen port idle peers = record peers { asked = Some (port, idle); plan = after_call peers.plan }
 
 abbrev pub after_failed_call : PlannedPeers → PlannedPeers
 after_failed_call peers = record peers { plan = after_failure peers.plan }
@@ -50,7 +50,7 @@ after_failed_call peers = record peers { plan = after_failure peers.plan }
 -- the listener once a peer was handed out, and these wait
 abbrev pub after_accept : PlannedPeers → List PlannedLink → PlannedPeers
 after_accept peers rest =
-    record { waiting = rest; hung_up = peers.hung_up; outstanding = peers.outstanding + 1; port = peers.port; plan = after_call peers.plan }
+    record { waiting = rest; hung_up = peers.hung_up; outstanding = peers.outstanding + 1; asked = peers.asked; plan = after_call peers.plan }
 
 -- the listener once a peer was hung up
 abbrev pub after_hang_up : PlannedPeers → PlannedLink → PlannedPeers

@@ -22,21 +22,21 @@ after_link_fault link = record link { faults = raised link.faults }
 abbrev pub after_ending : Connection → Connection
 after_ending link = record link { ended = true }
 
--- how many peers of a port were hung up, how many it handed out that were not yet, how many faults there were, and its number, once
--- it is listened to
+-- how many peers of a port were hung up, how many it handed out that were not yet, how many faults there were, and once it is listened
+-- to, its number and how many seconds a peer may be silent, where that is limited
 pub record Port : Type 0 where
   pub hang_ups : ℕ
   pub outstanding : ℕ
   pub faults : ℕ
-  pub number : Option ℕ
+  pub asked : Option (ℕ × Option ℕ)
 
 -- a port that was not listened to yet
 abbrev pub new_port : Port
-new_port = record { hang_ups = 0; outstanding = 0; faults = 0; number = None }
+new_port = record { hang_ups = 0; outstanding = 0; faults = 0; asked = None }
 
 -- the port once it is listened to, and after one more fault, one more peer, and one more that was hung up
-abbrev pub after_listening : ℕ → Port → Port
-after_listening number port = record port { number = Some number }
+abbrev pub after_listening : ℕ → Option ℕ → Port → Port
+after_listening number idle port = record port { asked = Some (number, idle) }
 
 abbrev pub after_port_fault : Port → Port
 after_port_fault port = record port { faults = raised port.faults }

@@ -25,16 +25,17 @@ pub trait Listener {
     // How many faults there were.
     ghost faults: { Self → ℕ };
 
-    // The port that it listens to, once it does.
-    ghost listens_to: { Self → Option ℕ };
+    // The port that it listens to, once it does, and how many seconds a peer may be silent, where that is limited.
+    ghost listens_to: { Self → Option (ℕ × Option ℕ) };
 
-    /// Listens to a port from now on.
+    /// Listens to a port from now on. Where `idle` is given, a peer that has sent nothing for so many seconds, or taken nothing that is
+    /// written to it, is one whose next read or write fails: at least 1.
     ///
     /// # Errors
     ///
     /// `Failed` where that can't be had: a fault was counted.
-    fn listen(&mut self, port: u16) -> Result<(), Failed>
-        ensures listens { OnOk result (listens_to self.new ≡ Some port) }
+    fn listen(&mut self, port: u16, idle: Option<u32>) -> Result<(), Failed>
+        ensures listens { OnOk result (listens_to self.new ≡ Some (port, idle)) }
         ensures port_kept { OnErr result (listens_to self.new ≡ listens_to self.old) }
         ensures waiting_kept { waiting self.new ≡ waiting self.old }
         ensures hung_up_kept { hung_up self.new ≡ hung_up self.old }

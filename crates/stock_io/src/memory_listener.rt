@@ -20,8 +20,8 @@ pub struct MemListener {
     waiting: Vec<MemLink>,
     hung_up: Vec<MemLink>,
     accepts: usize,
-    // None until it listens.
-    port: Option<u16>,
+    // None until it listens: the port, and the seconds that a peer may be silent. Those of the double never are.
+    asked: Option<(u16, Option<u32>)>,
     plan: FailurePlan,
 }
 
@@ -31,7 +31,7 @@ impl Model for MemListener {
 
     ghost Value = { PlannedPeers };
 
-    ghost view = { λ s. record { waiting = reverse s.waiting.items; hung_up = s.hung_up.items; outstanding = s.accepts - vec_len s.hung_up; port = s.port; plan = s.plan } };
+    ghost view = { λ s. record { waiting = reverse s.waiting.items; hung_up = s.hung_up.items; outstanding = s.accepts - vec_len s.hung_up; asked = s.asked; plan = s.plan } };
 
     ghost invariant = { λ s. (vec_len s.hung_up ≤ s.accepts) × (s.accepts + vec_len s.waiting ≤ vec_capacity s.hung_up)
         × All IsNewPeer s.waiting.items };
@@ -59,7 +59,7 @@ impl MemListener {
             waiting,
             hung_up,
             accepts: 0,
-            port: None,
+            asked: None,
             plan: FailurePlan::new(failing),
         })
     }
@@ -95,20 +95,20 @@ impl Listener for MemListener {
 
     ghost faults = { λ s. s.plan.faults };
 
-    ghost listens_to = { λ s. s.port };
+    ghost listens_to = { λ s. s.asked };
 
     ghost no_more_hung_up = { λ s. le-add_right (length s.hung_up) s.outstanding };
 
-    fn listen(&mut self, port: u16) -> Result<(), Failed>
+    fn listen(&mut self, port: u16, idle: Option<u32>) -> Result<(), Failed>
         ensures never_falls { NeverFalls self.old.plan.faults self.new.plan.faults }
         ensures planned { IsErr result ↔ NextFails self.old.plan }
-        ensures after_ok { OnOk result (self.new ≡ after_listen port self.old) }
+        ensures after_ok { OnOk result (self.new ≡ after_listen port idle self.old) }
         ensures after_failed { OnErr result (self.new ≡ after_failed_call self.old) }
     {
         if self.plan.next_fails() {
             return Err(Failed);
         }
-        self.port = Some(port);
+        self.asked = Some((port, idle));
         Ok(())
     }
 

@@ -6,16 +6,19 @@ ghost use Rattle.stock_io.specs.Nets.{new_port, new_connection, after_listening,
 use crate::failed::Failed;
 use crate::listener::Listener;
 use crate::net_link::NetLink;
+use std::io;
 use std::marker::Model;
 use std::net::{Ipv4Addr, Net, SocketAddr, TcpListener, TcpStream};
+use std::time::Duration;
 
-/// A port of this machine as a listener, at 127.0.0.1. It doesn't tell who waits or was hung up.
+/// A port of this machine as a listener, at 127.0.0.1. It doesn't tell who waits or was hung up. The silence of a peer is limited by the
+/// socket's own time-outs.
 #[derive(Drop)]
 pub struct NetListener<R> {
     rt: R,
     socket: Option<TcpListener>,
-    /// The port that was asked for, once it listens.
-    asked: Option<u16>,
+    /// The port that was asked for, and the seconds that a peer may be silent, once it listens.
+    asked: Option<(u16, Option<u32>)>,
     accepts: u64,
     hang_ups: u64,
     faults: u64,
@@ -27,7 +30,7 @@ impl<R> Model for NetListener<R> {
 
     ghost Value = { Port };
 
-    ghost view = { λ s. record { hang_ups = s.hang_ups; outstanding = s.accepts - s.hang_ups; faults = s.faults; number = s.asked } };
+    ghost view = { λ s. record { hang_ups = s.hang_ups; outstanding = s.accepts - s.hang_ups; faults = s.faults; asked = s.asked } };
 
     ghost invariant = { λ s. s.hang_ups ≤ s.accepts };
 }
@@ -85,26 +88,27 @@ impl<R: Net<Listener = TcpListener, Stream = TcpStream>> Listener for NetListene
 
     ghost faults = { λ s. s.faults };
 
-    ghost listens_to = { λ s. s.number };
+    ghost listens_to = { λ s. s.asked };
 
     ghost no_more_hung_up = { λ s. le-add_right s.hang_ups s.outstanding };
 
-    fn listen(&mut self, port: u16) -> Result<(), Failed>
+    fn listen(&mut self, port: u16, idle: Option<u32>) -> Result<(), Failed>
         ensures never_falls { NeverFalls self.old.faults self.new.faults }
-        ensures after_ok { OnOk result (self.new ≡ after_listening port self.old) }
+        ensures after_ok { OnOk result (self.new ≡ after_listening port idle self.old) }
         ensures after_failed { OnErr result (self.new ≡ after_port_fault self.old) }
     {
         match self.rt.bind(SocketAddr::from((Ipv4Addr::LOCALHOST, port))) {
             Ok(socket) => {
                 self.socket = Some(socket);
-                self.asked = Some(port);
+                self.asked = Some((port, idle));
                 Ok(())
             }
             Err(_) => Err(self.fail()),
         }
     }
 
-    // One peer of the socket. Where the count of peers stands at its end, the call fails.
+    // One peer of the socket, whose silence is limited as asked. Where it can't be, or the count of peers stands at its end, the call
+    // fails.
     fn accept(&mut self) -> Result<NetLink, Failed>
         ensures never_falls { NeverFalls self.old.faults self.new.faults }
         ensures fresh { IfOk result (λ peer. peer ≡ new_connection) }
@@ -112,9 +116,14 @@ impl<R: Net<Listener = TcpListener, Stream = TcpStream>> Listener for NetListene
         ensures after_ok { OnOk result (self.new ≡ after_handing_out self.old) }
         ensures after_failed { OnErr result (self.new ≡ after_port_fault self.old) }
     {
+        let idle = match &self.asked {
+            Some((_, idle)) => *idle,
+            None => None,
+        };
         if self.accepts < u64::MAX
             && let Some(socket) = &self.socket
             && let Ok((stream, _)) = socket.accept()
+            && limit_silence(&stream, idle).is_ok()
         {
             self.accepts += 1;
             return Ok(NetLink::new(stream));
@@ -130,4 +139,11 @@ impl<R: Net<Listener = TcpListener, Stream = TcpStream>> Listener for NetListene
         drop(peer);
         self.hang_ups += 1;
     }
+}
+
+// Lets a read or a write of the socket fail once its peer was silent for so many seconds, if that is limited.
+fn limit_silence(stream: &TcpStream, idle: Option<u32>) -> io::Result<()> {
+    let most = idle.map(|seconds| Duration::from_secs(u64::from(seconds)));
+    stream.set_read_timeout(most)?;
+    stream.set_write_timeout(most)
 }

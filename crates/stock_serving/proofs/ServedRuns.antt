@@ -9,7 +9,7 @@ use Rattle.stock_keeper.specs.Keeping.{Within, TellSame}
 use Rattle.stock_keeper.specs.declared.tables.Tables.{Tables}
 use Rattle.repost_worker.specs.Openings.{state_of}
 use Rattle.repost_worker.specs.Paces.{Pace}
-use Rattle.desk_service.specs.Listening.{Heard}
+use Rattle.stock_io.specs.Heard.{Heard}
 use Rattle.stock_ends.specs.Openings.{IsUnopened}
 use Rattle.stock_ends.specs.Statuses.{status_of, IsToldAs, CountsNoFault}
 use Rattle.stock_serving.specs.Serving.{summary_text, IsSettled, IsServedThen, Stops, ServesTo, Leaves, LeavesKept, IsWritten, Tells, IsUnbegunKeeper, IsBegun, IsServedOver, ServesOverShelf}

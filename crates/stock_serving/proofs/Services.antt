@@ -10,7 +10,7 @@ use Rattle.stock_keeper.specs.declared.fault.KeepFault.{KeepFault}
 use Rattle.stock_keeper.specs.declared.fault.KeepFault.TheVariants as keep
 use Rattle.stock_keeper.specs.declared.tables.Tables.{Tables}
 use Rattle.repost_worker.specs.Paces.{Pace}
-use Rattle.desk_service.specs.Listening.{Heard}
+use Rattle.stock_io.specs.Heard.{Heard}
 use Rattle.desk_service.specs.Service.{IsService}
 use Rattle.stock_ends.specs.Openings.{end_of_refusal}
 use Rattle.stock_serving.specs.Serving.{Settles, IsRefusedFor, IsUnsettledFor, CallsEach, IsCutShort, Leaves, LeavesKept, IsBegun}

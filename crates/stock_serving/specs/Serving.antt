@@ -15,7 +15,7 @@ use Rattle.kept_tables.specs.TablesOf.{tables_of}
 use Rattle.repost_worker.specs.Openings.{state_of, opened_history, IsLoaded}
 use Rattle.repost_worker.specs.Paces.{Pace, IsAtRest}
 use Rattle.repost_worker.specs.Published.{Publishes}
-use Rattle.desk_service.specs.Listening.{Heard}
+use Rattle.stock_io.specs.Heard.{Heard}
 use Rattle.desk_service.specs.Service.{IsService}
 use Rattle.stock_ends.specs.Openings.{IsNotOpened, IsUnbegunFor, IsOpenedAs, IsPutBack}
 use Rattle.stock_ends.specs.declared.end.End.{End}

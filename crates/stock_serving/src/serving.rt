@@ -7,7 +7,7 @@ ghost use Rattle.stock_model.specs.History.{IsLegal};
 ghost use Rattle.stock_keeper.specs.Keeping.{Within, AsksAt};
 ghost use Rattle.repost_worker.specs.Paces.{pace_of};
 ghost use Rattle.repost_worker.specs.Turns.{IsWorkOf};
-ghost use Rattle.desk_service.specs.Listening.{heard};
+ghost use Rattle.stock_io.specs.Heard.{heard};
 ghost use Rattle.desk_service.specs.Service.{IsPeerServed};
 ghost use Rattle.stock_serving.specs.Serving.{summary_text, Settles, Leaves, LeavesKept, IsWritten, ServesOverShelf, ListensTo};
 

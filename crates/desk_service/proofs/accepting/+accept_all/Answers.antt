@@ -2,7 +2,7 @@
 use Rattle.std.proofs.Common.{ℕ, ◌+◌, ◌<◌, ◌≤◌, ◌≡◌, List, [], ◌∷◌, length, sym, ap, subst, length-append, arith, rules}
 use Rattle.stock_io.specs.Listeners.{IsFresh}
 use Rattle.desk_service.specs.Desks.{IsAttended}
-use Rattle.desk_service.specs.Listening.{heard}
+use Rattle.stock_io.specs.Heard.{heard}
 use Rattle.desk_service.specs.Serving.{Serving}
 use Rattle.desk_service.proofs.Attending.{Serving-none, Serving-more, either_way, as_promised}
 use Rattle.desk_service.proofs.Hearing.{Accepts-none, Accepts-failed, Accepts-more}

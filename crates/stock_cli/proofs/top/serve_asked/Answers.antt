@@ -1,7 +1,7 @@
 -- The end that is told is that of the service.
 use Rattle.std.proofs.Common.{◌≡◌, ℕ, ◌⊎◌, sym, ◌∙◌, subst}
 use Rattle.stock_io.specs.Listeners.{IsFresh}
-use Rattle.desk_service.specs.Listening.{heard}
+use Rattle.stock_io.specs.Heard.{heard}
 use Rattle.desk_service.specs.Service.{IsPeerServed}
 use Rattle.stock_serving.proofs.ServedRuns.{served-told, served-complete}
 use Rattle.stock_ends.proofs.Told.{status_not_2}

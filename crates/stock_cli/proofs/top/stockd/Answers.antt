@@ -3,7 +3,7 @@ use Rattle.std.proofs.Common.{ℕ, List, map, inl, inr, refl, subst, sym, ◌∙
 use Rattle.stock_io.specs.Listeners.{IsFresh}
 use Rattle.stock_keeper.specs.Keeping.{AsksAt, AsksAtMost}
 use Rattle.repost_worker.specs.Paces.{first_pace}
-use Rattle.desk_service.specs.Listening.{heard}
+use Rattle.stock_io.specs.Heard.{heard}
 use Rattle.desk_service.specs.Service.{IsPeerServed}
 use Rattle.stock_words.specs.Words.{Spells, IsFaultOf}
 use Rattle.stock_words.proofs.ServeWords.{one_service, one_service_path, one_service_port}

@@ -1,7 +1,7 @@
 -- The listener listens, or it failed.
 use Rattle.std.proofs.Common.{inl, inr, refl, ◌∙◌}
 use Rattle.stock_io.specs.Listeners.{IsFresh}
-use Rattle.desk_service.specs.Listening.{heard}
+use Rattle.stock_io.specs.Heard.{heard}
 use Rattle.desk_service.specs.Service.{IsPeerServed}
 use Rattle.stock_serving.proofs.Services.{heard-same, leaves-heard}
 use Rattle.stock_serving.proofs.serving.serve_book.Goals as goal

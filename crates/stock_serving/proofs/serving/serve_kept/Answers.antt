@@ -1,7 +1,7 @@
 -- The ledger of the keeper was opened.
 use Rattle.std.proofs.Common.{inr, refl}
 use Rattle.stock_io.specs.Listeners.{IsFresh}
-use Rattle.desk_service.specs.Listening.{heard}
+use Rattle.stock_io.specs.Heard.{heard}
 use Rattle.desk_service.specs.Service.{IsPeerServed}
 use Rattle.stock_serving.proofs.Services.{leaves-begun}
 use Rattle.stock_serving.proofs.serving.serve_kept.Goals as goal

@@ -1,7 +1,7 @@
 -- The shelf fails, or the service is that over its keeper.
 use Rattle.std.proofs.Common.{Err, ap, inl, inr, refl, ◌∙◌}
 use Rattle.stock_io.specs.Listeners.{IsFresh}
-use Rattle.desk_service.specs.Listening.{heard}
+use Rattle.stock_io.specs.Heard.{heard}
 use Rattle.desk_service.specs.Service.{IsPeerServed}
 use Rattle.stock_ends.proofs.Openings.{unopened-refused}
 use Rattle.stock_serving.proofs.ServedRuns.{over-served}

@@ -2,7 +2,7 @@
 use Rattle.std.proofs.Common.{inl, ap, ◌∙◌, arith}
 use Rattle.stock_io.specs.Listeners.{IsFresh}
 use Rattle.repost_worker.specs.Paces.{pace_of}
-use Rattle.desk_service.specs.Listening.{heard}
+use Rattle.stock_io.specs.Heard.{heard}
 use Rattle.desk_service.specs.Service.{IsPeerServed}
 use Rattle.stock_serving.proofs.Services.{leaves-of, service-falls}
 use Rattle.stock_serving.proofs.serving.serve_peers.Goals as goal
