@@ -4,7 +4,7 @@ use Rattle.std.proofs.Common.{◌≡◌, ℕ, List, [], ◌∷◌, get_or, inl, 
 use Rattle.std.proofs.lemmas.List.{append_cancel_left}
 use Rattle.std.specs.Prelude.{codes}
 use Rattle.std.specs.Str.Parse.{digits_value}
-use Rattle.stock_words.specs.ServeWords.{SpellsServe}
+use Rattle.stock_words.specs.ServeWords.{Service, SpellsServe}
 use Rattle.stock_words.specs.Words.{SpellsOver, SpellsBatchOver, SpellsImport, SpellsAudit, SpellsLoad}
 
 -- the first byte of the first of some words
@@ -30,8 +30,8 @@ audit_begins words path (inr one) = ap initial one.0
 pub load_begins : (words : List (List ℕ)) (n : ℕ) → SpellsLoad words n → initial words ≡ 108
 load_begins words n load = ap initial load.1
 
-pub serve_begins : (words : List (List ℕ)) (path : List ℕ) (port desks : ℕ) → SpellsServe words path port desks → initial words ≡ 115
-serve_begins words path port desks serve = ap initial serve.command
+pub serve_begins : (words : List (List ℕ)) (service : Service) → SpellsServe words service → initial words ≡ 115
+serve_begins words service serve = ap initial serve.command
 
 -- one word is not two
 pub batch_is_not_over : (words : List (List ℕ)) (path : List ℕ) → words ≡ codes "batch" ∷ [] → SpellsBatchOver words path → ⊥

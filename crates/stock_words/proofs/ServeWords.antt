@@ -1,29 +1,36 @@
 -- Words are the options of `serve` in one way at most.
-use Rattle.std.proofs.Common.{◌≡◌, ◌≢◌, ℕ, List, [], ◌∷◌, ◌++◌, inl, inr, length, get_or, refl, sym, ap, ◌∙◌, subst, arith, codes, length-append}
+use Rattle.std.proofs.Common.{◌≡◌, ◌≢◌, ◌↔◌, ℕ, List, [], ◌∷◌, ◌++◌, inl, inr, length, get_or, refl, sym, ap, ◌∙◌, subst, arith, codes, length-append}
 use Rattle.std.proofs.lemmas.List.{append_cancel_left}
-use Rattle.std.specs.Prelude.{suc, Option, Some, None, MatchOption}
-use Rattle.stock_words.specs.ServeWords.{Setting, BeginsWithSetting, BeginsWithNone, IsNotFirst, SpellsSettings, SpellsNone, SpellsServe, SpellsNoService, Means, MeansNothing, option_text, value_of}
+use Rattle.std.specs.Prelude.{Option, Some, None, MatchOption, ◌==◌, if◌then◌else◌}
+use Rattle.stock_words.specs.ServeWords.{Setting, BeginsWithSetting, BeginsWithNone, IsNotFirst, SpellsSettings, Given, none_given, Gives, SpellsGiven, SpellsNotGiven, Service, Means, MeansNothing, TellsNumber, TellsConnections, TellsIdle, SpellsServe, SpellsNoService, given_of, service_of, option_text, value_of, with_value}
 use Rattle.std.specs.Str.Parse.{digits_value}
+use Rattle.stock_words.specs.declared.serve_words.Options.{Options}
 use Rattle.stock_words.specs.declared.serve_words.ServeWords.{ServeWords}
 use Rattle.stock_words.specs.declared.serve_words.Name.{Name}
-use Rattle.stock_words.specs.declared.serve_words.Name.TheVariants.{File, Port, Desks}
+use Rattle.stock_words.specs.declared.serve_words.Name.TheVariants.{File, Port, Desks, Connections, Idle}
 
 -- the byte by which an option is known
 abbrev initial : Name → ℕ
 initial File = 102
 initial Port = 112
 initial Desks = 100
+initial Connections = 99
+initial Idle = 105
+
+-- the option that is known by a byte
+abbrev name_by : ℕ → Name
+name_by byte =
+    if byte == 102 then File else (if byte == 112 then Port else (if byte == 100 then Desks else (if byte == 99 then Connections else Idle)))
+
+known_by : (name : Name) → name_by (initial name) ≡ name
+known_by File = refl
+known_by Port = refl
+known_by Desks = refl
+known_by Connections = refl
+known_by Idle = refl
 
 one_name : (a b : Name) → initial a ≡ initial b → a ≡ b
-one_name File File same = refl
-one_name File Port same = absurd (omega (arith, same))
-one_name File Desks same = absurd (omega (arith, same))
-one_name Port File same = absurd (omega (arith, same))
-one_name Port Port same = refl
-one_name Port Desks same = absurd (omega (arith, same))
-one_name Desks File same = absurd (omega (arith, same))
-one_name Desks Port same = absurd (omega (arith, same))
-one_name Desks Desks same = refl
+one_name a b same = sym (known_by a) ∙ ap name_by same ∙ known_by b
 
 -- the first word, or none
 abbrev first_word : List (List ℕ) → List ℕ
@@ -38,17 +45,21 @@ bare : (name : Name) → get_or (option_text name) 2 0 ≡ initial name
 bare File = refl
 bare Port = refl
 bare Desks = refl
+bare Connections = refl
+bare Idle = refl
 
-with_value : (name : Name) (more : List ℕ) → get_or (option_text name ++ more) 2 0 ≡ initial name
-with_value File more = refl
-with_value Port more = refl
-with_value Desks more = refl
+behind_it : (name : Name) (more : List ℕ) → get_or (option_text name ++ more) 2 0 ≡ initial name
+behind_it File more = refl
+behind_it Port more = refl
+behind_it Desks more = refl
+behind_it Connections more = refl
+behind_it Idle more = refl
 
 known : (words : List (List ℕ)) (setting : Setting) (rest : List (List ℕ)) → BeginsWithSetting words setting rest
     → get_or (first_word words) 2 0 ≡ initial setting.0
 known words (name, value) rest (inl two) = ap (λ (ws : List (List ℕ)). get_or (first_word ws) 2 0) two.0 ∙ bare name
 known words (name, value) rest (inr one) =
-    ap (λ (ws : List (List ℕ)). get_or (first_word ws) 2 0) one.0 ∙ with_value name (codes "=" ++ value)
+    ap (λ (ws : List (List ℕ)). get_or (first_word ws) 2 0) one.0 ∙ behind_it name (codes "=" ++ value)
 
 -- a word that names an option has no value in it
 not-both : (name : Name) (value : List ℕ) → option_text name ≢ option_text name ++ (codes "=" ++ value)
@@ -96,75 +107,114 @@ one_spelling words (x ∷ xs) (y ∷ ys) (rest, begins, more) (rest', begins', m
     let others = one_spelling rest xs ys more (subst (λ (ws : List (List ℕ)). SpellsSettings ws ys) (sym same.1) more') in
     λ i. same.0 i ∷ others i
 
--- a word that begins with none of the three is no option
-pub none_of_three : (words : List (List ℕ)) → IsNotFirst words File → IsNotFirst words Port → IsNotFirst words Desks → BeginsWithNone words
-none_of_three words file port desks (File, value) rest begins = file value rest begins
-none_of_three words file port desks (Port, value) rest begins = port value rest begins
-none_of_three words file port desks (Desks, value) rest begins = desks value rest begins
+-- a word that begins with none of the five is no option
+pub none_of_five : (words : List (List ℕ)) → IsNotFirst words File → IsNotFirst words Port → IsNotFirst words Desks
+    → IsNotFirst words Connections → IsNotFirst words Idle → BeginsWithNone words
+none_of_five words file port desks connections idle (File, value) rest begins = file value rest begins
+none_of_five words file port desks connections idle (Port, value) rest begins = port value rest begins
+none_of_five words file port desks connections idle (Desks, value) rest begins = desks value rest begins
+none_of_five words file port desks connections idle (Connections, value) rest begins = connections value rest begins
+none_of_five words file port desks connections idle (Idle, value) rest begins = idle value rest begins
 
--- words that don't begin with an option are none, and so are words that go on so behind one
-pub none-first : (count : ℕ) (words : List (List ℕ)) → BeginsWithNone words → SpellsNone (suc count) words
-none-first count words none [] size spelled = omega (arith, size)
-none-first count words none (setting ∷ settings) size (rest, begins, more) = none setting rest begins
+-- words that don't begin with an option are none
+pub none_first : (words : List (List ℕ)) (before : Given) → words ≢ [] → BeginsWithNone words → SpellsNotGiven words before
+none_first words before some none after ([], spelled, gives) = some spelled
+none_first words before some none after (setting ∷ settings, (rest, begins, more), gives) = none setting rest begins
 
-pub none-behind : (count : ℕ) (words : List (List ℕ)) (first : Setting) (behind : List (List ℕ)) → BeginsWithSetting words first behind
-    → SpellsNone count behind → SpellsNone (suc count) words
-none-behind count words first behind is none [] size spelled = omega (arith, size)
-none-behind count words first behind is none (setting ∷ settings) size (rest, begins, more) =
+-- nor are words that begin with an option that was given before
+pub given_twice : (words : List (List ℕ)) (before : Given) (first : Setting) (behind : List (List ℕ)) → BeginsWithSetting words first behind
+    → value_of first.0 before ≢ None → SpellsNotGiven words before
+given_twice words before first behind is twice after ([], spelled, gives) =
+    no_option first behind (subst (λ (ws : List (List ℕ)). BeginsWithSetting ws first behind) spelled is)
+given_twice words before first behind is twice after (setting ∷ settings, (rest, begins, more), gives) =
     let same = one_setting words first setting behind rest is begins in
-    none settings (omega (arith, size)) (subst (λ (ws : List (List ℕ)). SpellsSettings ws settings) (sym same.1) more)
+    twice (ap (λ (x : Setting). value_of x.0 before) same.0 ∙ gives.0)
 
-pub none-left : (words : List (List ℕ)) → words ≢ [] → SpellsNone 0 words
-none-left words some [] size spelled = some spelled
-none-left words some (setting ∷ settings) size spelled = omega (arith, size)
+-- words that begin with another one are what they are behind it
+pub goes_on : (words : List (List ℕ)) (before after : Given) (first : Setting) (behind : List (List ℕ)) → BeginsWithSetting words first behind
+    → value_of first.0 before ≡ None → SpellsGiven behind (with_value first before) after → SpellsGiven words before after
+goes_on words before after first behind is new (settings, spelled, gives) =
+    (first ∷ settings, (behind, is, spelled), (new, gives))
 
-pub no_service : (options : List (List ℕ)) → SpellsNone 3 options → SpellsNoService (codes "serve" ∷ options)
-no_service options none path port desks serve =
-    let same : options ≡ serve.options = ap behind_first serve.command in
-    none serve.settings serve.means.three (subst (λ (ws : List (List ℕ)). SpellsSettings ws serve.settings) (sym same) serve.spelled)
+pub none_behind : (words : List (List ℕ)) (before : Given) (first : Setting) (behind : List (List ℕ)) → BeginsWithSetting words first behind
+    → SpellsNotGiven behind (with_value first before) → SpellsNotGiven words before
+none_behind words before first behind is none after ([], spelled, gives) =
+    no_option first behind (subst (λ (ws : List (List ℕ)). BeginsWithSetting ws first behind) spelled is)
+none_behind words before first behind is none after (setting ∷ settings, (rest, begins, more), gives) =
+    let same = one_setting words first setting behind rest is begins in
+    none after (settings, subst (λ (ws : List (List ℕ)). SpellsSettings ws settings) (sym same.1) more,
+    subst (λ (x : Setting). Gives settings (with_value x before) after) (sym same.0) gives.1)
 
--- what the options of the words mean is what the words ask for
-pub service : (options : List (List ℕ)) (settings : List Setting) (asked : Option ServeWords) → SpellsSettings options settings
-    → MatchOption asked (MeansNothing settings) (λ found. Means settings found.path.now found.port found.desks)
-    → MatchOption asked (SpellsNoService (codes "serve" ∷ options))
-    (λ found. SpellsServe (codes "serve" ∷ options) found.path.now found.port found.desks)
-service options settings None spelled nothing = λ path port desks serve.
-    let same : options ≡ serve.options = ap behind_first serve.command in
-    let one = one_spelling options settings serve.settings spelled
-    (subst (λ (ws : List (List ℕ)). SpellsSettings ws serve.settings) (sym same) serve.spelled) in
-    nothing path port desks (subst (λ (xs : List Setting). Means xs path port desks) (sym one) serve.means)
-service options settings (Some found) spelled means =
-    record { options = options; settings = settings; command = refl; spelled = spelled; means = means }
+-- so what words that begin with a new one give is what those behind it give
+pub with_first : (words : List (List ℕ)) (before more : Given) (first : Setting) (behind : List (List ℕ)) (found : Option Options)
+    → BeginsWithSetting words first behind → value_of first.0 before ≡ None → more ≡ with_value first before
+    → MatchOption found (SpellsNotGiven behind more) (λ all. SpellsGiven behind more (given_of all))
+    → MatchOption found (SpellsNotGiven words before) (λ all. SpellsGiven words before (given_of all))
+with_first words before more first behind None is new same none =
+    none_behind words before first behind is (subst (SpellsNotGiven behind) same none)
+with_first words before more first behind (Some all) is new same spelled =
+    goes_on words before (given_of all) first behind is new (subst (λ (given : Given). SpellsGiven behind given (given_of all)) same spelled)
+
+-- options give one lot of values
+one_gift : (settings : List Setting) (before a b : Given) → Gives settings before a → Gives settings before b → a ≡ b
+one_gift [] before a b first second = first ∙ sym second
+one_gift (setting ∷ settings) before a b first second = one_gift settings (with_value setting before) a b first.1 second.1
+
+pub one_given : (words : List (List ℕ)) (before a b : Given) → SpellsGiven words before a → SpellsGiven words before b → a ≡ b
+one_given words before a b (xs, first, gives) (ys, second, gives') =
+    one_gift ys before a b (subst (λ (settings : List Setting). Gives settings before a) (one_spelling words xs ys first second) gives) gives'
 
 same_some : (a b : List ℕ) → Some a ≡ Some b → a ≡ b
 same_some a b same = cc
 
--- they tell one number of desks
-pub one_service : (words : List (List ℕ)) (path path' : List ℕ) (port port' desks desks' : ℕ) → SpellsServe words path port desks
-    → SpellsServe words path' port' desks' → desks ≡ desks'
-one_service words path path' port port' desks desks' one other =
+one_number : (most : ℕ) (value : Option (List ℕ)) (m n : ℕ) → TellsNumber most value m → TellsNumber most value n → m ≡ n
+one_number most None m n first second = absurd first
+one_number most (Some word) m n first second = sym first.told ∙ second.told
+
+one_count : (value : Option (List ℕ)) (desks m n : ℕ) → TellsConnections value desks m → TellsConnections value desks n → m ≡ n
+one_count None desks m n first second = first ∙ sym second
+one_count (Some word) desks m n first second = sym first.0.told ∙ second.0.told
+
+one_limit : (value : Option (List ℕ)) (a b : Option ℕ) → TellsIdle value a → TellsIdle value b → a ≡ b
+one_limit None None None first second = refl
+one_limit None None (Some n) first second = absurd second
+one_limit None (Some m) b first second = absurd first
+one_limit (Some word) None b first second = absurd first
+one_limit (Some word) (Some m) None first second = absurd second
+one_limit (Some word) (Some m) (Some n) first second = ap Some (sym first.told ∙ second.told)
+
+-- and they mean one service
+one_meaning : (given : Given) (a b : Service) → Means given a → Means given b → a ≡ b
+one_meaning given a b first second =
+    let path = same_some a.path b.path (sym first.path ∙ second.path) in
+    let port = one_number _ given.port a.port b.port first.port second.port in
+    let desks = one_number _ given.desks a.desks b.desks first.desks second.desks in
+    let connections = one_count given.connections b.desks a.connections b.connections
+    (subst (λ (n : ℕ). TellsConnections given.connections n a.connections) desks first.connections) second.connections in
+    let idle = one_limit given.idle a.idle b.idle first.idle second.idle in
+    λ i. record { path = path i; port = port i; desks = desks i; connections = connections i; idle = idle i }
+
+pub one_service : (words : List (List ℕ)) (a b : Service) → SpellsServe words a → SpellsServe words b → a ≡ b
+one_service words a b one other =
     let options : one.options ≡ other.options = ap behind_first (sym one.command ∙ other.command) in
-    let settings = one_spelling one.options one.settings other.settings one.spelled
-    (subst (λ (ws : List (List ℕ)). SpellsSettings ws other.settings) (sym options) other.spelled) in
-    let word = same_some one.means.desks_word other.means.desks_word
-    (sym one.means.desks_named ∙ ap (value_of Desks) settings ∙ other.means.desks_named) in
-    sym one.means.desks_are.told ∙ ap (digits_value 10) word ∙ other.means.desks_are.told
+    let given = one_given other.options none_given one.given other.given
+    (subst (λ (ws : List (List ℕ)). SpellsGiven ws none_given one.given) options one.spelled) other.spelled in
+    one_meaning other.given a b (subst (λ (values : Given). Means values a) given one.means) other.means
 
--- and one path and one port
-module _ (words : List (List ℕ)) (path path' : List ℕ) (port port' desks desks' : ℕ) (one : SpellsServe words path port desks)
-    (other : SpellsServe words path' port' desks') where
-  same_settings : one.settings ≡ other.settings
-  same_settings =
-      let options : one.options ≡ other.options = ap behind_first (sym one.command ∙ other.command) in
-      one_spelling one.options one.settings other.settings one.spelled
-      (subst (λ (ws : List (List ℕ)). SpellsSettings ws other.settings) (sym options) other.spelled)
+-- words behind `serve` that are no options are none of a service
+pub no_service : (options : List (List ℕ)) → SpellsNotGiven options none_given → SpellsNoService (codes "serve" ∷ options)
+no_service options none service serve =
+    let same : options ≡ serve.options = ap behind_first serve.command in
+    none serve.given (subst (λ (ws : List (List ℕ)). SpellsGiven ws none_given serve.given) (sym same) serve.spelled)
 
-  pub one_service_path : path ≡ path'
-  one_service_path =
-      same_some path path' (sym one.means.path_is ∙ ap (value_of File) same_settings ∙ other.means.path_is)
-
-  pub one_service_port : port ≡ port'
-  one_service_port =
-      let word = same_some one.means.port_word other.means.port_word
-      (sym one.means.port_named ∙ ap (value_of Port) same_settings ∙ other.means.port_named) in
-      sym one.means.port_is.told ∙ ap (digits_value 10) word ∙ other.means.port_is.told
+-- what the options of the words mean is what the words ask for
+pub service : (options : List (List ℕ)) (given : Given) (asked : Option ServeWords) → SpellsGiven options none_given given
+    → MatchOption asked (MeansNothing given) (λ found. Means given (service_of found))
+    → MatchOption asked (SpellsNoService (codes "serve" ∷ options)) (λ found. SpellsServe (codes "serve" ∷ options) (service_of found))
+service options given None spelled nothing = λ asked serve.
+    let same : options ≡ serve.options = ap behind_first serve.command in
+    let one = one_given options none_given serve.given given
+    (subst (λ (ws : List (List ℕ)). SpellsGiven ws none_given serve.given) (sym same) serve.spelled) spelled in
+    nothing asked (subst (λ (values : Given). Means values asked) one serve.means)
+service options given (Some found) spelled means =
+    record { options = options; given = given; command = refl; spelled = spelled; means = means }

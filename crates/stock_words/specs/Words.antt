@@ -4,7 +4,7 @@ use Rattle.std.specs.declared.alloc.Global.{Global}
 use Rattle.stock_words.specs.declared.words.TheConstants.{MAX_LOAD}
 use Rattle.stock_words.specs.NumberWords.{IsNumber, IsNoNumber}
 pub use Rattle.stock_words.specs.Paths.{IsPath}
-use Rattle.stock_words.specs.ServeWords.{SpellsServe, SpellsNoService}
+use Rattle.stock_words.specs.ServeWords.{Service, SpellsServe, SpellsNoService, service_of}
 use Rattle.stock_words.specs.declared.words.Asked.{Asked}
 use Rattle.stock_words.specs.declared.words.Asked.TheVariants.{Batch, BatchOver, ImportInto, AuditOf, Load, Serve}
 use Rattle.stock_words.specs.declared.words.WordsFault.{WordsFault}
@@ -49,7 +49,7 @@ Spells words (BatchOver path) = SpellsBatchOver words path.now
 Spells words (ImportInto path) = SpellsImport words path.now
 Spells words (AuditOf path) = SpellsAudit words path.now
 Spells words (Load n) = SpellsLoad words n
-Spells words (Serve asked) = SpellsServe words asked.path.now asked.port asked.desks
+Spells words (Serve asked) = SpellsServe words (service_of asked)
 
 -- the words are no form that the program knows
 abbrev pub SpellsNothing : List (List ℕ) → Type 0
@@ -87,6 +87,6 @@ IsAudit words path = SpellsAudit (map string_bytes words) path
 abbrev pub IsLoad : List (String Global) → ℕ → Type 0
 IsLoad words n = SpellsLoad (map string_bytes words) n
 
--- `serve` over the file at this path, at this port, for so many desks
-abbrev pub IsServe : List (String Global) → List ℕ → ℕ → ℕ → Type 0
-IsServe words path port desks = SpellsServe (map string_bytes words) path port desks
+-- `serve` with the options of this service
+abbrev pub IsServe : List (String Global) → Service → Type 0
+IsServe words service = SpellsServe (map string_bytes words) service
