@@ -1,14 +1,25 @@
--- What an append and a publication make of tables, which numbers they may have, and what tables are at first.
-use Rattle.std.specs.Prelude.{◌≡◌, ℕ, ℤ, pos, ◌+ℤ◌, ◌<ℤ◌, List, [], ◌∷◌, ◌++◌, length, ◌≤◌}
+-- What an append and a publication make of tables, which numbers they may have, and what tables are at first and of which version.
+use Rattle.std.specs.Prelude.{◌≡◌, ℕ, ℤ, pos, ◌+ℤ◌, ◌<ℤ◌, List, [], ◌∷◌, ◌++◌, length, ◌≤◌, if◌then◌else◌}
+use Rattle.std.specs.Ordering.{int_eq}
 use Rattle.stock_nums.specs.declared.numbers.RecordNo.{RecordNo}
 use Rattle.stock_keeper.specs.Worths.{changed_worths}
 use Rattle.stock_keeper.specs.declared.changes.Changes.{Changes}
 use Rattle.stock_keeper.specs.declared.tables.StoredRecord.{StoredRecord}
 use Rattle.stock_keeper.specs.declared.tables.Tables.{Tables}
 
+-- the version of the tables that are written now
+abbrev pub current_version : ℤ
+current_version = pos 2
+
+-- The tables of version 1 as those of the version after it, and tables of each other version as they are. In version 1 no record closes
+-- the past or takes another back, and else it is the same.
+abbrev pub upgraded : Tables → Tables
+upgraded tables =
+    record tables { version = if int_eq tables.version (pos 1) then current_version else tables.version }
+
 -- the tables in which nothing is kept yet
 abbrev pub new_tables : Tables
-new_tables = record { version = pos 1; records = []; covered = pos 0; worths = [] }
+new_tables = record { version = current_version; records = []; covered = pos 0; worths = [] }
 
 -- a record as it is kept
 abbrev pub stored : RecordNo → List ℕ → StoredRecord

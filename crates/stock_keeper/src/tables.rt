@@ -10,6 +10,10 @@ use stock_nums::lines::Lines;
 use stock_nums::memory::NoMemory;
 use stock_nums::numbers::RecordNo;
 
+/// The version of the tables that are written now. Those of version 1 have no record that closes the past or takes another back, and
+/// are else the same.
+pub const VERSION: i64 = 2;
+
 /// A record as it is kept.
 #[derive(Drop)]
 pub struct StoredRecord {
@@ -22,7 +26,7 @@ pub struct StoredRecord {
 /// All that is kept of a ledger.
 #[derive(Drop)]
 pub struct Tables {
-    /// The version of the format, which is 1.
+    /// The version of the format, which is `VERSION` where this program wrote them.
     pub version: i64,
     /// The accepted records, in order.
     pub records: Lines<StoredRecord>,
@@ -38,7 +42,7 @@ impl Tables {
         ensures { result ≡ new_tables }
     {
         Tables {
-            version: 1,
+            version: VERSION,
             records: Lines::new(alloc),
             covered: 0,
             worths: Lines::new(alloc),
