@@ -11,6 +11,7 @@ pub mod WorthLaw
 pub mod UpsertLaw
 pub mod DeleteLaw
 pub mod CoverLaw
+pub mod UpgradeLaw
 pub mod Loops
 pub mod Sorting
 pub mod ReadLaw
@@ -19,4 +20,5 @@ pub mod RowsRead
 pub mod WorthOrder
 pub mod MakeLaw
 pub mod Telling
+pub mod LeftUpgraded
 pub mod StoredLaw

@@ -20,6 +20,7 @@ use Rattle.sqlite.specs.Listing.{understood}
 use Rattle.sqlite.specs.Rows.{Task, Written}
 use Rattle.sqlite.specs.State.{State, mode_of, Writes, Executes}
 use Rattle.sqlite.proofs.Callers.{IsPlain, command_of, statement_of, runs_as, one_step}
+use Rattle.stock_keeper.specs.Changed.{current_version}
 use Rattle.sqlite_tables.specs.Making.{no_schema, records_alone, no_head, IsBlank, HasRecords, HasWorths, HasHead, IsNew}
 use Rattle.sqlite_tables.specs.Rows.{record_cells, head_cells}
 use Rattle.sqlite_tables.specs.Standing.{HoldsWorths}
@@ -75,7 +76,7 @@ head_then : created no_head head_made ≡ whole
 head_then = refl
 
 abbrev begin_terms : List Term
-begin_terms = lit (Int (pos 1)) ∷ lit Null ∷ lit (Int (pos 1)) ∷ lit (Int (pos 0)) ∷ []
+begin_terms = lit (Int (pos 1)) ∷ lit Null ∷ lit (Int current_version) ∷ lit (Int (pos 0)) ∷ []
 
 begin_is : command_of (understood whole texts.begin_head) ≡ Insert 2 (Values begin_terms 4)
 unfolding understood everything
@@ -124,7 +125,7 @@ head_led old new count h has =
 
 -- the first row of the head, as it is stored
 abbrev first_head : Row
-first_head = Int (pos 1) ∷ Null ∷ Int (pos 1) ∷ Int (pos 0) ∷ []
+first_head = Int (pos 1) ∷ Null ∷ Int current_version ∷ Int (pos 0) ∷ []
 
 pub begin_led : (old new : State) (count : ℕ) → Executes texts.begin_head [] old new (Ok count) → HasHead old.now → IsNew new.now
 begin_led old new count h has =
@@ -141,7 +142,7 @@ begin_led old new count h has =
     let trees : done.0.trees ≡ written.0 = ap (λ (it : Written). it.trees) (same_value counted.2) ∙ same_value counted.1 in
     let applied = one_step whole _ db written.0 (edit_of db head_table [] Chosen 0 given.0) refl written.1 in
     let edit : edited db (edit_of db head_table [] Chosen 0 given.0) ≡ first_head ∷ [] =
-    ap (λ all. edited db (edit_of db head_table [] Chosen 0 all)) given.1.1 ∙ rw (has.3, cast-Int (pos 1), cast-Int (pos 0), cast-Null) refl in
+    ap (λ all. edited db (edit_of db head_table [] Chosen 0 all)) given.1.1 ∙ rw (has.3, cast-Int (pos 1), cast-Int current_version, cast-Int (pos 0), cast-Null) refl in
     let now : new.now ≡ record { schema = whole; trees = written.0 } = done.2 ∙ ap (λ (ts : Trees). record { schema = whole; trees = ts }) trees in
     let records : written.0 0 ≡ [] = applied.tables.0 zero≢three ∙ has.1 in
     let worths : written.0 1 ≡ [] = applied.tables.1.0 one≢three ∙ has.2 in

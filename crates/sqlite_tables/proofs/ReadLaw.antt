@@ -1,5 +1,6 @@
 -- What a query in a transaction leaves, whatever it asks, and what one of a known text shows.
 use Rattle.std.proofs.Common.{◌≡◌, ◌⊎◌, ℕ, List, [], ◌∷◌, true, false, cond, None, Some, Option, Ok, Err, Result, IsTrue, OnOk, IfOk, IfErr, refl, sym, ap, ◌∙◌, subst, inl, inr}
+use Rattle.std.specs.Prelude.{⊤}
 use Rattle.sqlite_value.specs.Order.{Row}
 use Rattle.sqlite_trees.specs.declared.store.Store.{Ghosts}
 use Rattle.sqlite_schema.specs.declared.command.Command.{Command}
@@ -16,7 +17,7 @@ use Rattle.sqlite.proofs.InsideLemmas.{unchanged_keeps}
 use Rattle.stock_keeper.specs.declared.tables.Tables.{Tables}
 use Rattle.sqlite_tables.specs.Reading.{HasStayed, HasShown}
 use Rattle.sqlite_tables.specs.Standing.{StandsFor}
-use Rattle.sqlite_tables.specs.Turning.{HasKept}
+use Rattle.sqlite_tables.specs.Turning.{HasTurned, HasKept}
 use Rattle.sqlite_tables.specs.Whole.{whole}
 
 module _ (sql : List ℕ) (params : Row) (old new : State) where
@@ -104,6 +105,17 @@ module _ {S V : Type 0} (store : Ghosts S) (items : V → List Row) (sql : List 
   all_kept (Ok rows) ok err clean inside =
       let h = shown_goes_on sql [] (state store old) (state store new) (items rows) inside (ok clean) in
       record { was_open = λ _. h.was_open; committed = λ _. h.committed_is }
+
+  -- a query that only reads leaves the tables
+  pub all_turned : IsPlain (understood whole sql) → (result : Result V Error) → Answered result → OnOk result (HasTurned store (λ _. ⊤) (λ t. t) old new)
+  all_turned plain (Err e) ok = tt
+  all_turned plain (Ok rows) ok = λ clean inside. record {
+    shows = shown_goes_on sql [] (state store old) (state store new) (items rows) inside (ok clean);
+    stands = λ t stands _.
+        let known = sym (ap (λ s. understood s sql) stands.schema) in
+        let same = shown_unchanged sql [] (state store old) (state store new) (items rows) (subst IsPlain known plain) (ok clean) in
+        subst (λ db. StandsFor db t) (sym same.0.now_is) stands;
+  }
 
   pub all_shown : (shown : Tables → List Row) (command : Command) → command_of (understood whole sql) ≡ command → IsPlain (understood whole sql) → reads_listing whole sql ≡ false
       → ((db : Database) (t : Tables) (rows : List Row) → StandsFor db t → Reads command db [] rows → rows ≡ shown t)

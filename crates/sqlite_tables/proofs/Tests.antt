@@ -22,7 +22,7 @@ truth-from : (b : Bool) → is_true (from_truth (Some b)) ≡ b
 truth-from true = refl
 truth-from false = refl
 
-equal-Int : (m n : ℤ) → equal Binary (Int m) (Int n) ≡ is_eq (int_cmp m n)
+pub equal-Int : (m n : ℤ) → equal Binary (Int m) (Int n) ≡ is_eq (int_cmp m n)
 unfolding binary
 equal-Int m n = rw (value_cmp-Int m n) (truth-from (is_eq (int_cmp m n)))
 

@@ -14,8 +14,9 @@ use Rattle.sqlite_schema.specs.declared.command.Conflict.TheVariants.{Abort}
 use Rattle.sqlite_schema.specs.declared.command.Command.{Command}
 use Rattle.sqlite_schema.specs.declared.command.Command.TheVariants.{Insert, InsertOr, Update, Delete, Select}
 use Rattle.sqlite_tied.specs.Compute.{everything}
-use Rattle.sqlite.specs.Listing.{understood, reads_listing}
+use Rattle.sqlite.specs.Listing.{understood, listing_schema, reads_listing}
 use Rattle.sqlite.proofs.Callers.{IsPlain, command_of}
+use Rattle.stock_keeper.specs.Changed.{current_version}
 use Rattle.sqlite_tables.specs.Whole.{whole}
 use Rattle.sqlite_tables.specs.Texts as texts
 
@@ -107,6 +108,23 @@ pub cover_plain : IsPlain (understood whole texts.cover)
 unfolding understood everything
 cover_plain = (refl, refl)
 
+abbrev pub upgrade_tests : List Term
+upgrade_tests = same (col 1 0) (lit (Int (pos 1))) ∷ same (col 1 2) (lit (Int (pos 1))) ∷ []
+
+abbrev pub upgrade_terms : List Term
+upgrade_terms = col 1 0 ∷ col 1 0 ∷ lit Null ∷ lit (Int current_version) ∷ col 1 3 ∷ []
+
+abbrev pub upgrade_query : Query
+upgrade_query = query_of 3 upgrade_tests upgrade_terms []
+
+pub upgrade_is : command_of (understood whole texts.upgrade) ≡ Update 2 (alone upgrade_query)
+unfolding understood everything
+upgrade_is = refl
+
+pub upgrade_plain : IsPlain (understood whole texts.upgrade)
+unfolding understood everything
+upgrade_plain = (refl, refl)
+
 abbrev pub records_terms : List Term
 records_terms = col 1 0 ∷ col 1 2 ∷ []
 
@@ -160,3 +178,7 @@ head_is = refl
 pub head_plain : IsPlain (understood whole texts.select_head) × (reads_listing whole texts.select_head ≡ false)
 unfolding understood everything
 head_plain = ((refl, refl), refl)
+
+pub tables_plain : IsPlain (understood whole texts.select_tables)
+unfolding understood listing_schema everything
+tables_plain = (refl, refl)

@@ -16,7 +16,11 @@ abbrev pub make_head : List ℕ
 make_head = codes "CREATE TABLE head(id INTEGER PRIMARY KEY CHECK(id = 1), version INTEGER NOT NULL, covered INTEGER NOT NULL) STRICT"
 
 abbrev pub begin_head : List ℕ
-begin_head = codes "INSERT INTO head(id, version, covered) VALUES(1, 1, 0)"
+begin_head = codes "INSERT INTO head(id, version, covered) VALUES(1, 2, 0)"
+
+-- it makes tables of version 1 those of the version that is written now
+abbrev pub upgrade : List ℕ
+upgrade = codes "UPDATE head SET version = 2 WHERE id = 1 AND version = 1"
 
 -- they change the tables
 abbrev pub insert_record : List ℕ

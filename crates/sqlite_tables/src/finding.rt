@@ -1,5 +1,5 @@
 //! What a database is before its tables are told: one with nothing in it, one with the tables of a ledger, or another.
-ghost use Rattle.std.specs.Prelude.{◌≡◌, ◌↔◌, true, false, IsTrue, IfOk, OnOk, codes};
+ghost use Rattle.std.specs.Prelude.{◌≡◌, ◌↔◌, ⊤, IsTrue, IfOk, OnOk};
 ghost use Rattle.sqlite_value.specs.declared.value.Value.TheVariants.{Text};
 ghost use Rattle.sqlite_value.specs.Order.{column};
 ghost use Rattle.sqlite.specs.State.{Survives};
@@ -7,10 +7,10 @@ ghost use Rattle.sqlite.specs.Held.{state};
 ghost use Rattle.sqlite_tables.specs.Finding.{AreLedger, HasAnswered, HasNames};
 ghost use Rattle.sqlite_tables.specs.Making.{no_schema};
 ghost use Rattle.sqlite_tables.specs.Texts as texts;
-ghost use Rattle.sqlite_tables.specs.Turning.{HasKept, HasUndone};
+ghost use Rattle.sqlite_tables.specs.Turning.{HasTurned, HasKept};
 
 use sqlite::types::ValueRef;
-use sqlite::{Alter, Connection, Error, ErrorCode, Row, Transaction};
+use sqlite::{Alter, Error, ErrorCode, Row, Transaction};
 use sqlite_schema::schema::Schema;
 
 /// Whether this is the schema of a database with nothing in it.
@@ -20,28 +20,15 @@ pub(crate) fn is_blank(schema: &Schema) -> bool
     schema.tables.is_empty() && schema.indexes.is_empty() && schema.views.is_empty()
 }
 
-/// Refuses a database that has other tables than those of a ledger, or lacks one. It stays as it is.
+/// Refuses a database that has other tables than those of a ledger, or lacks one. It stays as it is, and the transaction goes on.
 ///
 /// # Errors
 ///
 /// `NotADatabase` where it has other tables, or lacks one. All others are those of the database.
-pub(crate) fn find_ledger<S: Alter>(conn: &mut Connection<S>) -> Result<(), Error>
-    requires { conn.old.in_transaction ≡ false }
-    ensures ended { conn.new.in_transaction ≡ false }
-    ensures named { OnOk result (HasNames S.Store (record conn.old { in_transaction = true })) }
-    ensures undone { HasUndone S.Store conn.old conn.new }
-    ensures survives { Survives (state S.Store conn.old) (state S.Store conn.new) (λ _. ⊥) }
-{
-    let mut tx = conn.transaction();
-    let found = has_ledger(&mut tx);
-    tx.rollback();
-    found
-}
-
-// The same, in a transaction under way.
-fn has_ledger<S: Alter>(tx: &mut Transaction<'_, S>) -> Result<(), Error>
+pub(crate) fn find_ledger<S: Alter>(tx: &mut Transaction<'_, S>) -> Result<(), Error>
     ensures same_reference { tx.new.conn.ghost_name ≡ tx.old.conn.ghost_name }
     ensures named { OnOk result (HasNames S.Store tx.old.conn.now) }
+    ensures stayed { OnOk result (HasTurned S.Store (λ _. ⊤) (λ t. t) tx.old.conn.now tx.new.conn.now) }
     ensures kept { HasKept S.Store tx.old.conn.now tx.new.conn.now }
     ensures survives { Survives (state S.Store tx.old.conn.now) (state S.Store tx.new.conn.now) (λ _. ⊥) }
 {
@@ -56,6 +43,7 @@ fn has_ledger<S: Alter>(tx: &mut Transaction<'_, S>) -> Result<(), Error>
 fn table_names<S: Alter>(tx: &mut Transaction<'_, S>) -> Result<Vec<Row>, Error>
     ensures same_reference { tx.new.conn.ghost_name ≡ tx.old.conn.ghost_name }
     ensures answered { IfOk result (λ rows. HasAnswered S.Store texts.select_tables tx.old.conn.now tx.new.conn.now rows.items) }
+    ensures stayed { OnOk result (HasTurned S.Store (λ _. ⊤) (λ t. t) tx.old.conn.now tx.new.conn.now) }
     ensures kept { HasKept S.Store tx.old.conn.now tx.new.conn.now }
     ensures survives { Survives (state S.Store tx.old.conn.now) (state S.Store tx.new.conn.now) (λ _. ⊥) }
 {

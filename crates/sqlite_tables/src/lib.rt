@@ -7,4 +7,5 @@ mod parsing;
 pub mod reading;
 mod statements;
 pub mod stored_tables;
+mod upgrading;
 pub mod writing;

@@ -82,7 +82,7 @@ fn begin_head<S: Alter>(tx: &mut Transaction<'_, S>) -> Result<usize, Error>
     ensures survives { Survives (state S.Store tx.old.conn.now) (state S.Store tx.new.conn.now) (λ _. ⊥) }
 {
     tx.execute(
-        "INSERT INTO head(id, version, covered) VALUES(1, 1, 0)",
+        "INSERT INTO head(id, version, covered) VALUES(1, 2, 0)",
         &[],
     )
 }

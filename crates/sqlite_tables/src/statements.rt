@@ -5,7 +5,7 @@ ghost use Rattle.sqlite.specs.Values.{bound};
 ghost use Rattle.sqlite.specs.State.{Survives};
 ghost use Rattle.sqlite.specs.Held.{state};
 ghost use Rattle.stock_nums.specs.Places.{side_rank};
-ghost use Rattle.stock_keeper.specs.Changed.{stored, appended, Follows};
+ghost use Rattle.stock_keeper.specs.Changed.{stored, appended, upgraded, Follows};
 ghost use Rattle.sqlite_tables.specs.Rows.{record_row, spot_row, worth_row};
 ghost use Rattle.sqlite_tables.specs.Turning.{HasTurned, HasKept, with_worth, without_spot, with_covered};
 
@@ -77,6 +77,19 @@ pub(crate) fn cover<S: Alter>(
     tx.execute(
         "UPDATE head SET covered = ?1 WHERE id = 1",
         &covered_values(covered),
+    )
+}
+
+/// Makes tables of version 1 those of the version that is written now, and leaves those of each other version.
+pub(crate) fn upgrade<S: Alter>(tx: &mut Transaction<'_, S>) -> Result<usize, Error>
+    ensures same_reference { tx.new.conn.ghost_name ≡ tx.old.conn.ghost_name }
+    ensures turned { OnOk result (HasTurned S.Store (λ _. ⊤) upgraded tx.old.conn.now tx.new.conn.now) }
+    ensures kept { HasKept S.Store tx.old.conn.now tx.new.conn.now }
+    ensures survives { Survives (state S.Store tx.old.conn.now) (state S.Store tx.new.conn.now) (λ _. ⊥) }
+{
+    tx.execute(
+        "UPDATE head SET version = 2 WHERE id = 1 AND version = 1",
+        &[],
     )
 }
 

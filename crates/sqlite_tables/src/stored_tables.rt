@@ -6,12 +6,11 @@ ghost use Rattle.stock_keeper.specs.Worths.{AreInOrder};
 ghost use Rattle.stock_keeper.specs.declared.tables.Tables.{Tables};
 ghost use Rattle.sqlite.specs.State.{Survives};
 ghost use Rattle.sqlite.specs.Held.{state};
-ghost use Rattle.sqlite_tables.specs.Finding.{IsPrepared};
-ghost use Rattle.sqlite_tables.specs.Making.{LeavesNew};
+ghost use Rattle.sqlite_tables.specs.Finding.{IsPrepared, LeavesPrepared};
 ghost use Rattle.sqlite_tables.specs.Stored.{TellsTables, MayLeaveTables};
 ghost use Rattle.sqlite_tables.specs.Turning.{HasUndone};
 
-use crate::{finding, making, reading, writing};
+use crate::{finding, making, reading, upgrading, writing};
 use sqlite::{Alter, Connection, Error};
 use std::alloc::Global;
 use std::marker::Model;
@@ -56,20 +55,21 @@ impl<S: Alter> StoredTables<S> {
         self.conn
     }
 
-    /// Makes the tables in a database with nothing in it, in one transaction, and tells them from then on. A database that has these
-    /// tables and no others stays as it is, whatever their columns, and nothing is told of it: a load refuses those that it can't
-    /// read.
+    /// Makes the tables in a database with nothing in it, in one transaction, and tells them from then on. Where the database has
+    /// these tables and no others, those of version 1 become those of the version that is written now, in one transaction, and all
+    /// else stays as it is; nothing is told of them, and a load refuses those that it can't read.
     ///
     /// # Errors
     ///
     /// `NotADatabase` where the database has something in it, and not exactly these tables. All others are those of the database. It
-    /// stays as it is and nothing is told, but a crash may leave all of the tables in one that had nothing in it.
+    /// stays as it is and nothing is told, but a crash may leave all of the tables in one that had nothing in it, and those of a
+    /// ledger as they would be.
     pub fn prepare(&mut self) -> Result<(), Error>
         ensures prepared { OnOk result (IsPrepared S.Store self.old self.new) }
         ensures durable { OnOk result (Within (TellsTables S.Store self.new) (MayLeaveTables S.Store self.new)) }
         ensures untold { OnErr result (HoldsOfNone (TellsTables S.Store self.new)) }
         ensures undone { OnErr result (HasUndone S.Store self.old.conn self.new.conn) }
-        ensures crash { Survives (state S.Store self.old.conn) (state S.Store self.new.conn) (LeavesNew (state S.Store self.old.conn)) }
+        ensures crash { Survives (state S.Store self.old.conn) (state S.Store self.new.conn) (LeavesPrepared S.Store self.old.conn) }
     {
         self.ready = false;
         if finding::is_blank(self.conn.schema()) {
@@ -77,7 +77,7 @@ impl<S: Alter> StoredTables<S> {
             self.ready = true;
             return Ok(());
         }
-        finding::find_ledger(&mut self.conn)
+        upgrading::upgrade_ledger(&mut self.conn)
     }
 
     /// Adds a record.

@@ -1,0 +1,7 @@
+use Rattle.sqlite_tables.proofs.TurnLemmas.{turned_then}
+use Rattle.sqlite_tables.proofs.upgrading.upgrade_found.Goals as goal
+
+pub returns-clause-turned : goal.returns-clause-turned
+returns-clause-turned g c =
+    turned_then g.S.Store _ c.args.tx.now.conn.now c.find_ledger.new.tx.conn.now c.upgrade.new.tx.conn.now c.in_ok-find_ledger.ensures.stayed
+    c.upgrade.ensures.survives c.in_ok-upgrade.ensures.turned

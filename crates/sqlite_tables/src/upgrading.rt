@@ -1,0 +1,43 @@
+//! How a ledger's tables of an older version become those that are written now.
+ghost use Rattle.std.specs.Prelude.{◌≡◌, false, ⊤, OnOk, OnErr};
+ghost use Rattle.sqlite.specs.State.{Survives};
+ghost use Rattle.sqlite.specs.Held.{state};
+ghost use Rattle.stock_keeper.specs.Changed.{upgraded};
+ghost use Rattle.sqlite_tables.specs.Finding.{HasNames, IsUpgraded, LeavesUpgraded};
+ghost use Rattle.sqlite_tables.specs.Turning.{HasTurned, HasKept, HasUndone};
+
+use crate::{finding, statements};
+use sqlite::{Alter, Connection, Error, Transaction};
+
+/// Makes tables of version 1 those of the version that is written now, in the transaction that finds them. Their records and worths
+/// stay, and how many are covered; and so do tables of each other version.
+///
+/// # Errors
+///
+/// `NotADatabase` where the database has other tables than those of a ledger, or lacks one. All others are those of the database. It
+/// is as it was, but a crash may leave the tables of a ledger as they would be.
+pub(crate) fn upgrade_ledger<S: Alter>(conn: &mut Connection<S>) -> Result<(), Error>
+    requires { conn.old.in_transaction ≡ false }
+    ensures ended { conn.new.in_transaction ≡ false }
+    ensures upgraded { OnOk result (IsUpgraded S.Store conn.old conn.new) }
+    ensures undone { OnErr result (HasUndone S.Store conn.old conn.new) }
+    ensures crash { Survives (state S.Store conn.old) (state S.Store conn.new) (LeavesUpgraded S.Store conn.old) }
+{
+    let mut tx = conn.transaction();
+    upgrade_found(&mut tx)?;
+    tx.commit()?;
+    Ok(())
+}
+
+// The same, in a transaction under way.
+fn upgrade_found<S: Alter>(tx: &mut Transaction<'_, S>) -> Result<(), Error>
+    ensures same_reference { tx.new.conn.ghost_name ≡ tx.old.conn.ghost_name }
+    ensures named { OnOk result (HasNames S.Store tx.old.conn.now) }
+    ensures turned { OnOk result (HasTurned S.Store (λ _. ⊤) upgraded tx.old.conn.now tx.new.conn.now) }
+    ensures kept { HasKept S.Store tx.old.conn.now tx.new.conn.now }
+    ensures survives { Survives (state S.Store tx.old.conn.now) (state S.Store tx.new.conn.now) (λ _. ⊥) }
+{
+    finding::find_ledger(tx)?;
+    statements::upgrade(tx)?;
+    Ok(())
+}
