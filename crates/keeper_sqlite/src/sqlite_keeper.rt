@@ -9,8 +9,7 @@ ghost use Rattle.stock_keeper.specs.declared.fault.KeepFault.TheVariants as faul
 ghost use Rattle.stock_keeper.specs.declared.tables.Tables.{Tables};
 ghost use Rattle.sqlite.specs.State.{Survives};
 ghost use Rattle.sqlite.specs.Held.{state};
-ghost use Rattle.sqlite_tables.specs.Finding.{IsPrepared};
-ghost use Rattle.sqlite_tables.specs.Making.{LeavesNew};
+ghost use Rattle.sqlite_tables.specs.Finding.{IsPrepared, LeavesPrepared};
 ghost use Rattle.sqlite_tables.specs.Stored.{TellsTables, MayLeaveTables};
 ghost use Rattle.sqlite_tables.specs.Turning.{HasUndone};
 
@@ -49,21 +48,22 @@ impl<S: Alter> SqliteKeeper<S> {
         }
     }
 
-    /// Makes the tables where the database has nothing in it, in one transaction, and tells them from then on. A database that has
-    /// the tables of a ledger stays as it is.
+    /// Makes the tables where the database has nothing in it, in one transaction, and tells them from then on. Where it has the
+    /// tables of a ledger, those of version 1 become those of the version that is written now, in one transaction, and all else
+    /// stays as it is.
     ///
     /// # Errors
     ///
     /// `Failed` where the database has something in it, and not exactly the tables of a ledger, or refuses else: a fault was
     /// counted. `NoMemory` for want of memory. The database stays as it is and nothing is told, but a crash may leave all of the
-    /// tables in one that had nothing in it.
+    /// tables in one that had nothing in it, and those of a ledger as they would be.
     pub fn prepare(&mut self) -> Result<(), KeepFault>
         ensures prepared { OnOk result (IsPrepared S.Store self.old.tables self.new.tables) }
         ensures durable { OnOk result (Within (TellsTables S.Store self.new.tables) (MayLeaveTables S.Store self.new.tables)) }
         ensures untold { OnErr result (HoldsOfNone (TellsTables S.Store self.new.tables)) }
         ensures undone { OnErr result (HasUndone S.Store self.old.tables.conn self.new.tables.conn) }
         ensures crash { Survives (state S.Store self.old.tables.conn) (state S.Store self.new.tables.conn)
-            (LeavesNew (state S.Store self.old.tables.conn)) }
+            (LeavesPrepared S.Store self.old.tables.conn) }
         ensures faults_kept { OnOk result (self.new.faults ≡ self.old.faults) }
         ensures fault { result ≡ Err fault.Failed → self.new.faults ≡ raised self.old.faults }
         ensures free { result ≡ Err fault.NoMemory → self.new.faults ≡ self.old.faults }

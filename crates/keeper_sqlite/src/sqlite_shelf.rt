@@ -72,10 +72,11 @@ impl Shelf for SqliteShelf {
 
     ghost openings = { λ s. s.openings };
 
-    // The file is made where it isn't there. One that another process has open fails at once, and so does one that can't be
-    // opened or written, that isn't a database, or that has something in it and not exactly a ledger's tables: nothing is
-    // changed there, and no file is left that wasn't there; of another database that a crash left with a log, what stands in
-    // the log behind the last commit may be cut. Tables of these names with other columns are refused by `load`.
+    // The file is made where it isn't there. Tables of version 1 become those of the version that is written now, also where
+    // `load` refuses them then. One that another process has open fails at once, and so does one that can't be opened or written,
+    // that isn't a database, or that has something in it and not exactly a ledger's tables: nothing is changed there, and no file
+    // is left that wasn't there; of another database that a crash left with a log, what stands in the log behind the last commit
+    // may be cut. Tables of these names with other columns are refused here or by `load`.
     fn open_keeper(&mut self, path: &str) -> Result<SqliteKeeper<FileStore<File>>, KeepFault> {
         self.opened = Some(OpenedPath::of(path));
         self.openings = self.openings.saturating_add(1);
