@@ -1,0 +1,5 @@
+pub mod StepLists
+mod Hearing
+pub mod OfNumbers
+mod Keeping
+mod Since
