@@ -91,6 +91,7 @@ module _ {L P : Type 0} where
       never_falls = omega arith;
       no_fault = λ _. refl;
       cause = λ failed. absurd (cc);
+      few = λ failed. absurd (cc);
       ended = λ has. absurd (cc);
     }
 
@@ -119,6 +120,7 @@ module _ {L P : Type 0} where
           never_falls = omega (arith, before.never_falls, faults);
           no_fault = λ same. faults ∙ before.no_fault same;
           cause = λ rose. absurd (cc);
+          few = λ rose. absurd (cc);
           ended = λ has. ⊎_elim (λ (rose : failed ≡ true). absurd (cc))
               (λ (all : length (comes log) ≡ wanted). absurd (omega (arith, room, all))) (before.ended (ended-before log (number, Came what) refl has));
         }
@@ -144,6 +146,7 @@ module _ {L P : Type 0} where
           never_falls = omega (arith, before.never_falls, faults);
           no_fault = λ none. faults ∙ before.no_fault none;
           cause = λ rose. subst (λ (n : ℕ). Rose old.faults n) (sym faults) (before.cause rose);
+          few = λ rose. let less = before.few rose in omega (arith, less, length-comes log x);
           ended = λ has. subst (λ (z : List P). (failed ≡ true) ⊎ (length z ≡ wanted)) (sym same)
               (before.ended (ended-before log (number, HungUp what) refl has));
         }
@@ -153,7 +156,7 @@ module _ {L P : Type 0} where
         → Shares is_fresh desks wanted failed log old mid
         → new.waiting ≡ mid.waiting → new.hung_up ≡ mid.hung_up → new.accepts ≡ mid.accepts → new.hang_ups ≡ mid.hang_ups
         → NeverFalls mid.faults new.faults → (failed' ≡ false → (failed ≡ false) × (new.faults ≡ mid.faults))
-        → (failed' ≡ true → ((failed ≡ true) × (new.faults ≡ mid.faults)) ⊎ ((failed ≡ false) × Rose mid.faults new.faults))
+        → (failed' ≡ true → ((failed ≡ true) × (new.faults ≡ mid.faults)) ⊎ ((failed ≡ false) × Rose mid.faults new.faults × (length (comes log) < wanted)))
         → (failed' ≡ true) ⊎ (length (comes log) ≡ wanted)
         → Shares is_fresh desks wanted failed' (log ++ (number, Ended) ∷ []) old new
     Shares-ended failed failed' log old mid new number before waiting hung_up accepts hang_ups never_falls stays fails over =
@@ -173,6 +176,9 @@ module _ {L P : Type 0} where
           never_falls = omega (arith, before.never_falls, never_falls);
           no_fault = λ none. let s = stays none in s.1 ∙ before.no_fault s.0;
           cause = λ now. ⊎_elim (λ (s : (failed ≡ true) × (new.faults ≡ mid.faults)). subst (λ (n : ℕ). Rose old.faults n) (sym s.1) (before.cause s.0))
-              (λ (s : (failed ≡ false) × Rose mid.faults new.faults). subst (λ (n : ℕ). Rose n new.faults) (before.no_fault s.0) s.1) (fails now);
+              (λ (s : (failed ≡ false) × Rose mid.faults new.faults × (length (comes log) < wanted)). subst (λ (n : ℕ). Rose n new.faults) (before.no_fault s.0) s.1) (fails now);
+          few = λ now. subst (λ (z : List P). length z < wanted) (sym same)
+              (⊎_elim (λ (s : (failed ≡ true) × (new.faults ≡ mid.faults)). before.few s.0)
+              (λ (s : (failed ≡ false) × Rose mid.faults new.faults × (length (comes log) < wanted)). s.2) (fails now));
           ended = λ has. subst (λ (z : List P). (failed' ≡ true) ⊎ (length z ≡ wanted)) (sym same) over;
         }

@@ -2,4 +2,10 @@ pub mod StepLists
 mod Hearing
 pub mod OfNumbers
 mod Keeping
-mod Since
+pub mod Since
+pub mod OfPasses
+pub mod Merging
+pub mod OneEach
+pub mod Listening
+pub mod Visiting
+pub mod Ending

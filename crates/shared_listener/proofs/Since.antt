@@ -17,6 +17,10 @@ use Rattle.shared_listener.proofs.Keeping.{Shares-none}
 pub first_noted : {X : Type 0} (before after : List X) (x : X) → after ≡ before ++ x ∷ [] → before ≡ [] → after ≡ x ∷ []
 first_noted before after x more none = more ∙ ap (λ z. z ++ x ∷ []) none
 
+more_is_some : {X : Type 0} (xs : List X) (x : X) → ¬ (xs ++ x ∷ [] ≡ [])
+more_is_some [] x none = cc
+more_is_some (y ∷ xs) x none = cc
+
 module _ {L P : Type 0} where
   -- the opening is no peer's
   made-opened : {X : Type 0} (f : List (ℕ × Step L P) → List X) (k : ℕ) (opening : Opening L) (steps : List (ℕ × Step L P))
@@ -43,6 +47,7 @@ module _ {L P : Type 0} where
       wanted_are = wanted_are;
       no_more_hung_up = subst (λ (l : L). (telling l).hang_ups ≤ (telling l).accepts) (sym first) no_more;
       port_kept = ap listens_to (sym first);
+      untouched = λ none. sym first;
       shares = subst (λ (l : L). Shares {L = L} is_fresh desks wanted false [] (telling l) (telling listener)) (sym first)
           (Shares-none is_fresh desks wanted (telling listener));
     }
@@ -60,6 +65,7 @@ module _ {L P : Type 0} where
       wanted_are = before.wanted_are;
       no_more_hung_up = before.no_more_hung_up;
       port_kept = port ∙ before.port_kept;
+      untouched = λ none. absurd (more_is_some before.steps x none);
       shares = shares;
     }
 

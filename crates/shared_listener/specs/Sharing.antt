@@ -27,6 +27,7 @@ pub record Shares {L P : Type 0} (is_fresh : P → Type 0) (desks wanted : ℕ) 
   pub never_falls : NeverFalls old.faults new.faults
   pub no_fault : failed ≡ false → new.faults ≡ old.faults
   pub cause : failed ≡ true → Rose old.faults new.faults
+  pub few : failed ≡ true → length (comes log) < wanted
   pub ended : has_ended log ≡ true → (failed ≡ true) ⊎ (length (comes log) ≡ wanted)
 
 -- the log tells what desks did since they share the listener
@@ -39,4 +40,5 @@ pub record IsShared {L P : Type 0} (telling : L → Heard P) (listens_to : L →
   pub wanted_are : opening.wanted ≡ wanted
   pub no_more_hung_up : (telling opening.listener.value).hang_ups ≤ (telling opening.listener.value).accepts
   pub port_kept : listens_to listener ≡ listens_to opening.listener.value
+  pub untouched : steps ≡ [] → listener ≡ opening.listener.value
   pub shares : Shares is_fresh desks wanted failed steps (telling opening.listener.value) (telling listener)

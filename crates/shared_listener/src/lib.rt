@@ -4,4 +4,5 @@
 pub mod listener;
 pub mod log;
 mod logged;
+mod sending;
 pub mod step;

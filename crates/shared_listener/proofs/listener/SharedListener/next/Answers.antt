@@ -67,13 +67,16 @@ invariant_of-self-in-Err g c =
     let is_fresh = IsFresh g.L.Peer.Source.taken g.L.Peer.Sink.written g.L.Peer.Source.faults g.L.Peer.Link.ended in
     let s = c.self.inside in
     let before = c.self.invariant.1 in
-    let accept = c.in-Err.ensures in (
+    let accept = c.in-Err.ensures in
+    let since = comes-since telling g.L.Listener.listens_to is_fresh s.desks s.wanted s.failed (notes s.log.value) s.listener before in
+    let count : s.came ≡ length (comes before.steps) = c.self.invariant.0 ∙ ap length since in
+    let room : length (comes before.steps) < s.wanted = omega (arith, count, before.shares.no_more, c.if-self-2.false) in (
       c.self.invariant.0 ∙ ap length (sym (comes-other (notes s.log.value) (c.args.number.0, Ended) refl) ∙ ap comes (sym c.note-in-Err.ensures)),
       IsShared-on telling g.L.Listener.listens_to is_fresh s.desks s.wanted s.failed true _ _ (c.args.number.0, Ended)
           s.listener c.accept.new.self before c.note-in-Err.ensures accept.port_kept
           (Shares-ended is_fresh s.desks s.wanted s.failed true before.steps _ (telling s.listener) (telling c.accept.new.self) c.args.number.0
           before.shares accept.waiting_kept accept.hung_up_kept accept.not_counted accept.hang_ups_kept accept.never_falls
-          (λ none. absurd (cc)) (λ now. inr (c.if-self.false, accept.cause)) (inl refl)),
+          (λ none. absurd (cc)) (λ now. inr (c.if-self.false, accept.cause, room)) (inl refl)),
     )
 
 pub returns-in-Ok-clause-peer : goal.returns-in-Ok-clause-peer
