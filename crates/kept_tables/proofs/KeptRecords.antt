@@ -10,7 +10,7 @@ use Rattle.stock_model.specs.History.{records, accepted, covered, covered_record
 use Rattle.stock_model.specs.PostingOrder.{posting_line}
 use Rattle.stock_model.specs.Replay.{replay}
 use Rattle.stock_laws.proofs.Histories.{records-append, covered_after-append, covered_after-within}
-use Rattle.stock_keeper.specs.Changed.{new_tables, stored, appended, last_number, Follows, CoversRecords}
+use Rattle.stock_keeper.specs.Changed.{current_version, new_tables, stored, appended, last_number, Follows, CoversRecords}
 use Rattle.stock_keeper.specs.declared.tables.StoredRecord.{StoredRecord}
 use Rattle.stock_keeper.specs.declared.tables.Tables.{Tables}
 use Rattle.voucher_json.specs.RecordTexts.{record_text}
@@ -58,7 +58,7 @@ pub tables_of-kept : (history : List Deed) (item : Record) → IsLegal history
 tables_of-kept history item legal =
     let more = Kept item ∷ [] in
     let made : List StoredRecord → ℕ → List Record → Tables =
-    λ rows n front. record { version = pos 1; records = rows; covered = pos n; worths = worths_of (replay front) } in
+    λ rows n front. record { version = current_version; records = rows; covered = pos n; worths = worths_of (replay front) } in
     let all : records (history ++ more) ≡ records history ++ item ∷ [] = records-append history more in
     let n : covered (history ++ more) ≡ covered history = covered_after-append 0 history more in
     let within : covered history ≤ length (records history) = covered_after-within [] 0 history (omega arith) legal in

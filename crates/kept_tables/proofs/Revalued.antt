@@ -12,7 +12,7 @@ use Rattle.stock_model.specs.declared.deeds.Deed.TheVariants.{Published}
 use Rattle.stock_model.specs.declared.records.Record.{Record}
 use Rattle.stock_model.proofs.Pairwise.{Pairwise, Each, Pairwise-from_AllPairs}
 use Rattle.stock_laws.proofs.Histories.{records-append, covered_after-append}
-use Rattle.stock_keeper.specs.Changed.{published}
+use Rattle.stock_keeper.specs.Changed.{current_version, published}
 use Rattle.stock_keeper.specs.Worths.{IsBefore, AreInOrder, put, is_among, without}
 use Rattle.stock_keeper.specs.declared.changes.SpotWorth.{SpotWorth}
 use Rattle.stock_keeper.specs.declared.tables.Tables.{Tables}
@@ -152,7 +152,7 @@ tables_of-published history n changed spots more are =
     let last = Published n ∷ [] in
     let journal = take n.0 (records history) in
     let made : List Record → ℕ → List SpotWorth → Tables =
-    λ items m worths. record { version = pos 1; records = stored_from 1 items; covered = pos m; worths = worths } in
+    λ items m worths. record { version = current_version; records = stored_from 1 items; covered = pos m; worths = worths } in
     let old : worths_of (replay (take (covered history) journal)) ≡ worths_of (replay (covered_records history)) =
     ap (λ (items : List Record). worths_of (replay items)) (take-take (covered history) n.0 (records history) (omega arith)) in
     let old_worths = worths_of (replay (covered_records history)) in

@@ -6,7 +6,7 @@ use Rattle.stock_model.specs.Replay.{replay}
 use Rattle.stock_model.specs.declared.deeds.Deed.{Deed}
 use Rattle.stock_model.specs.declared.deeds.Deed.TheVariants.{Kept, Published}
 use Rattle.stock_model.specs.declared.records.Record.{Record}
-use Rattle.stock_keeper.specs.Changed.{stored}
+use Rattle.stock_keeper.specs.Changed.{current_version, stored}
 use Rattle.stock_keeper.specs.declared.tables.StoredRecord.{StoredRecord}
 use Rattle.stock_keeper.specs.declared.tables.Tables.{Tables}
 use Rattle.voucher_json.specs.RecordTexts.{record_text}
@@ -28,9 +28,9 @@ AreStored items t = AreLegal items × (stored_from 1 items ≡ take (length item
 abbrev pub IsAllStored : List Record → Tables → Type 0
 IsAllStored items t = AreStored items t × (length items ≡ length t.records)
 
--- the version is not 1, or no such number of records is covered
+-- the version is not the one that is written, or no such number of records is covered
 abbrev pub HasBadHead : Tables → Type 0
-HasBadHead t = (t.version ≢ pos 1) ⊎ ((t.covered <ℤ pos 0) ⊎ (pos (length t.records) <ℤ t.covered))
+HasBadHead t = (t.version ≢ current_version) ⊎ ((t.covered <ℤ pos 0) ⊎ (pos (length t.records) <ℤ t.covered))
 
 -- the number of records, as a fault tells it
 abbrev pub told_records : Tables → ℕ
@@ -68,5 +68,5 @@ opening items covered = map Kept items ++ (if nat_lt 0 covered then Published (r
 
 -- the tables are opened as these records, the first so many of them covered
 abbrev pub IsOpened : Tables → List Record → ℕ → Type 0
-IsOpened t items covered = IsAllStored items t × (t.version ≡ pos 1) × (t.covered ≡ pos covered)
+IsOpened t items covered = IsAllStored items t × (t.version ≡ current_version) × (t.covered ≡ pos covered)
     × (covered ≤ length items) × (t.worths ≡ worths_of (replay (take covered items)))

@@ -7,7 +7,7 @@ use Rattle.stock_model.specs.History.{records, covered, covered_records}
 use Rattle.stock_model.specs.Replay.{replay}
 use Rattle.stock_model.specs.declared.deeds.Deed.{Deed}
 use Rattle.stock_model.specs.declared.records.Record.{Record}
-use Rattle.stock_keeper.specs.Changed.{stored}
+use Rattle.stock_keeper.specs.Changed.{current_version, stored}
 use Rattle.stock_keeper.specs.Worths.{put}
 use Rattle.stock_keeper.specs.declared.changes.Changes.{Changes}
 use Rattle.stock_keeper.specs.declared.changes.SpotWorth.{SpotWorth}
@@ -39,7 +39,7 @@ changes_of rows spots = record { rows = map spot_worth rows; gone = spots }
 -- the tables of a history
 abbrev pub tables_of : List Deed → Tables
 tables_of history = record {
-  version = pos 1;
+  version = current_version;
   records = stored_from 1 (records history);
   covered = pos (covered history);
   worths = worths_of (replay (covered_records history));

@@ -2,7 +2,7 @@
 ghost use Rattle.std.specs.Prelude.{◌≡◌, ◌≢◌, ◌⊎◌, ◌≤◌, ℕ, List, pos, length, Ok, Err, IfOk, IfErr, OnOk, IsUtf8};
 ghost use Rattle.stock_model.specs.declared.read_faults.ReadFault.{ReadFault};
 ghost use Rattle.stock_model.specs.declared.records.Record.{Record};
-ghost use Rattle.stock_keeper.specs.Changed.{stored};
+ghost use Rattle.stock_keeper.specs.Changed.{current_version, stored};
 ghost use Rattle.stock_keeper.specs.Worths.{AreInOrder};
 ghost use Rattle.voucher_json.specs.RecordTexts.{record_text};
 ghost use Rattle.voucher_json.specs.StoredRecords.{IsRecordReadAs};
@@ -15,7 +15,7 @@ use crate::differing::first_difference;
 use crate::open_fault::OpenFault;
 use std::alloc::Global;
 use stock_keeper::changes::SpotWorth;
-use stock_keeper::tables::{StoredRecord, Tables};
+use stock_keeper::tables::{StoredRecord, Tables, VERSION};
 use stock_model::read_faults::ReadFault;
 use stock_model::records::Record;
 use stock_nums::entry::Row;
@@ -25,10 +25,10 @@ use voucher_json::record_texts::is_text_of;
 use voucher_json::usual_records::usual_record;
 
 /// How many records the worths are made from, from 0 to the number of records. The only error is a bad head: another
-/// version than 1, or another number covered.
+/// version than the one that is written, or another number covered.
 pub fn covered_of(tables: &Tables) -> Result<usize, OpenFault>
     ensures head { IfOk result (λ covered. HasBadHead tables.now → ⊥) }
-    ensures version { IfOk result (λ covered. tables.now.version ≡ pos 1) }
+    ensures version { IfOk result (λ covered. tables.now.version ≡ current_version) }
     ensures covered { IfOk result (λ covered. tables.now.covered ≡ pos covered) }
     ensures within { IfOk result (λ covered. covered ≤ length tables.now.records) }
     ensures bad { IfErr result (λ f. HasBadHead tables.now) }
@@ -38,7 +38,7 @@ pub fn covered_of(tables: &Tables) -> Result<usize, OpenFault>
     let Ok(covered) = usize::try_from(tables.covered) else {
         return Err(bad_head(tables));
     };
-    if tables.version != 1 || covered > records {
+    if tables.version != VERSION || covered > records {
         return Err(bad_head(tables));
     }
     Ok(covered)

@@ -7,7 +7,7 @@ use stock_nums::memory::NoMemory;
 pub enum OpenFault {
     /// The keeper failed: it has counted a fault.
     KeeperFailed,
-    /// The version is not 1, or the number covered is not from 0 to the number of records. `records` stays at
+    /// The version is not the one that is written, or the number covered is not from 0 to the number of records. `records` stays at
     /// `u32::MAX` where there are more.
     BadHead {
         version: i64,
