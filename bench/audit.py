@@ -21,7 +21,9 @@ SPOILED = 200
 VOUCHERS = 120
 # What is accepted after the last settlement, which no worth is stored of yet.
 UNCOVERED = 10
-VERSION = 1
+VERSION = 2
+# Tables of this version become the other one where they are opened.
+OLD_VERSION = 1
 SIDES = {plain_replay.LEAVES: "out", plain_replay.ENTERS: "in"}
 LARGE = 40_000
 LINES = 5
@@ -91,7 +93,7 @@ def first_difference(ledger, covered, worths):
 def verdict_of(path):
     """Returns the line that is due for the file."""
     (version, covered), records, worths = tables_of(path)
-    if version != VERSION or not 0 <= covered <= len(records):
+    if version not in (OLD_VERSION, VERSION) or not 0 <= covered <= len(records):
         return {"status": "head"}
     ledger = plain_replay.Ledger()
     number = first_unreadable(records, ledger)
@@ -162,7 +164,7 @@ def change_covered(db, chance):
 
 
 def change_version(db, chance):
-    db.execute("UPDATE head SET version = ?", (chance.choice([0, VERSION, 3, 9]),))
+    db.execute("UPDATE head SET version = ?", (chance.choice([0, OLD_VERSION, 3, 9]),))
 
 
 SPOILS = [change_worth, change_worth, take_worth, add_worth, change_record, take_record, change_covered, change_version]
@@ -184,13 +186,17 @@ def compare(room):
         if number > 0:
             spoil(path, chance)
         due = verdict_of(path)
+        (version, covered), *rows = tables_of(path)
         with open(path, "rb") as it:
             before = it.read()
         found, status = audit(path)
         require(found == f"{plain_replay.text_of(due)}\n", f"the audit of file {number} says {found}, and due is {due}")
         require(status == (0 if due["status"] == "sound" else 7), f"the audit of file {number} ended with {status}")
-        with open(path, "rb") as it:
-            require(it.read() == before, f"the audit changed file {number}")
+        if version == OLD_VERSION:
+            require(tables_of(path) == ((VERSION, covered), *rows), f"the audit changed more of file {number} than its version")
+        else:
+            with open(path, "rb") as it:
+                require(it.read() == before, f"the audit changed file {number}")
         counts[due["status"]] = counts.get(due["status"], 0) + 1
     return counts
 
