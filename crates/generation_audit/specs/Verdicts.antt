@@ -1,6 +1,7 @@
 -- What an audit of tables comes to.
 use Rattle.std.specs.Prelude.{ℕ, ◌≡◌, ◌≤◌, pos, List, length, take}
 use Rattle.stock_model.specs.declared.records.Record.{Record}
+use Rattle.stock_keeper.specs.Changed.{current_version}
 use Rattle.stock_keeper.specs.declared.tables.Tables.{Tables}
 use Rattle.kept_tables.specs.Openings.{IsAllStored, HasBadHead, IsBadStored}
 use Rattle.generation_audit.specs.Findings.{IsFoundIn, AreSound}
@@ -10,7 +11,7 @@ use Rattle.generation_audit.specs.declared.verdict.Verdict.TheVariants as verdic
 -- these are all stored records, of which the first so many are covered, and none has a fault at its place
 pub record AreRead (t : Tables) (items : List Record) (covered : ℕ) : Type 0 where
   pub stored : IsAllStored items t
-  pub version : t.version ≡ pos 1
+  pub version : t.version ≡ current_version
   pub covers : t.covered ≡ pos covered
   pub within : covered ≤ length items
 

@@ -18,7 +18,7 @@ pub enum Verdict {
         /// The balance of each account that the stored worths have a line on, by ascending accounts.
         accounts: Lines<Balance>,
     },
-    /// The version is another than 1, or the number covered is not from 0 to the number of records.
+    /// The version is another than the one that is written, or the number covered is not from 0 to the number of records.
     Head,
     /// The first stored record that has another number than its place, is none as it would be written, or has a fault at its
     /// place: its number by its place, from 1.

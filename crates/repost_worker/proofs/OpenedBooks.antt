@@ -5,6 +5,7 @@ use Rattle.stock_nums.specs.declared.entry.Row.{Row}
 use Rattle.stock_model.specs.History.{records, accepted, covered, covered_records}
 use Rattle.stock_model.specs.Replay.{replay}
 use Rattle.stock_model.specs.declared.deeds.Deed.{Deed}
+use Rattle.stock_keeper.specs.Changed.{current_version}
 use Rattle.stock_keeper.specs.Keeping.{Within}
 use Rattle.stock_keeper.specs.declared.changes.SpotWorth.{SpotWorth}
 use Rattle.stock_keeper.specs.declared.tables.Tables.{Tables}
@@ -26,7 +27,7 @@ module _ (t : Tables) (history : List Deed) (part : ℕ) (count : t.covered ≡ 
     (all : accepted history ≡ length t.records) (many : covered history ≡ part) (worths : List SpotWorth)
     (rows : List Row) (are : rows ≡ replay (covered_records history)) (kept : worths ≡ t.worths) where
   -- the tables are those of the history
-  pub opened-tables : t.version ≡ pos 1 → worths ≡ worths_of rows → tables_of history ≡ t
+  pub opened-tables : t.version ≡ current_version → worths ≡ worths_of rows → tables_of history ≡ t
   opened-tables version same =
       let whole : take (length (records history)) t.records ≡ t.records =
       take_all (length (records history)) t.records (omega (arith, all)) in

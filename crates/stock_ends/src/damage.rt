@@ -10,7 +10,7 @@ use stock_nums::place::{Side, Spot};
 /// What is wrong with the tables of a ledger: the first of these.
 #[derive(Clone, Copy, Debug, PartialEq, Eq)]
 pub enum Damage {
-    /// The version is not 1, or the number covered is not from 0 to the number of records.
+    /// The version is not the one that is written, or the number covered is not from 0 to the number of records.
     Head,
     /// The first stored record that has another number than its place, is none as it would be written, or has a fault there.
     Record { number: u32 },
