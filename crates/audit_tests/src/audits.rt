@@ -4,7 +4,7 @@ use generation_audit::auditing::audit;
 use generation_audit::verdict::Verdict;
 use std::alloc::Global;
 use stock_keeper::changes::SpotWorth;
-use stock_keeper::tables::{StoredRecord, Tables};
+use stock_keeper::tables::{StoredRecord, Tables, VERSION};
 use stock_model::ledger_lines::Balance;
 use stock_nums::entry::Worth;
 use stock_nums::lines::Lines;
@@ -61,7 +61,7 @@ fn tables(
         }
     }
     Ok(Tables {
-        version: 1,
+        version: VERSION,
         records,
         covered,
         worths: Lines::from_vec(worths.to_vec(alloc)?),
@@ -173,8 +173,13 @@ fn bad_heads_and_records_are_told(rt: HostRuntime) {
     let Ok(mut bad) = tables(rt.alloc(), 5, 0, &[]) else {
         return;
     };
-    bad.version = 3;
-    assert!(rt; matches!(audit(rt.alloc(), &bad), Ok(Verdict::Head)));
+    for version in [1, 3] {
+        bad.version = version;
+        assert!(rt;
+            matches!(audit(rt.alloc(), &bad), Ok(Verdict::Head)),
+            "{version}"
+        );
+    }
     let Ok(mut twice) = tables(rt.alloc(), 4, 0, &[]) else {
         return;
     };

@@ -8,7 +8,7 @@ use stock_keeper::keeper::Keeper;
 use stock_keeper::memory_keeper::MemKeeper;
 use stock_keeper::memory_shelf::MemShelf;
 use stock_keeper::shelf::Shelf;
-use stock_keeper::tables::Tables;
+use stock_keeper::tables::{Tables, VERSION};
 use stock_model::records::Record;
 use stock_nums::lines::Lines;
 use stock_nums::memory::NoMemory;
@@ -92,7 +92,7 @@ fn run<H: Shelf>(alloc: Global, shelf: &mut H, steps: usize) -> Option<(Shape, u
 // A new keeper, of whose calls these fail.
 fn new_keeper(alloc: Global, failing: &[u64]) -> Result<MemKeeper, NoMemory> {
     let tables = Tables {
-        version: 1,
+        version: VERSION,
         records: Lines::new(alloc),
         covered: 0,
         worths: Lines::new(alloc),

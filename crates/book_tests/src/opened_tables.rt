@@ -241,11 +241,12 @@ fn record_fault(alloc: Global, number: i64, text: &str) -> Result<Option<OpenFau
 #[test]
 fn bad_heads_are_told(rt: HostRuntime) {
     for (version, covered, told) in [
-        (1, 0, Ok(0)),
-        (1, 1, Ok(1)),
-        (1, 2, Err(bad_head(1, 2))),
-        (1, -1, Err(bad_head(1, -1))),
-        (2, 0, Err(bad_head(2, 0))),
+        (2, 0, Ok(0)),
+        (2, 1, Ok(1)),
+        (2, 2, Err(bad_head(2, 2))),
+        (2, -1, Err(bad_head(2, -1))),
+        (1, 0, Err(bad_head(1, 0))),
+        (3, 0, Err(bad_head(3, 0))),
     ] {
         assert!(rt;
             head(rt.alloc(), version, covered) == told,

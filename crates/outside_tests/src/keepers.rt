@@ -12,7 +12,7 @@ use stock_keeper::keeper::Keeper;
 use stock_keeper::memory_keeper::MemKeeper;
 use stock_keeper::memory_shelf::MemShelf;
 use stock_keeper::shelf::Shelf;
-use stock_keeper::tables::Tables;
+use stock_keeper::tables::{Tables, VERSION};
 use stock_nums::entry::Worth;
 use stock_nums::lines::Lines;
 use stock_nums::memory::NoMemory;
@@ -57,7 +57,7 @@ fn failing_at(alloc: Global, calls: &[u64]) -> Result<MemKeeper, NoMemory>
     ensures { IfOk result (λ keeper. keeper.tables ≡ new_tables) }
 {
     let tables = Tables {
-        version: 1,
+        version: VERSION,
         records: Lines::new(alloc),
         covered: 0,
         worths: Lines::new(alloc),

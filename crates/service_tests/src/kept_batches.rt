@@ -1,6 +1,6 @@
 //! Batches over a keeper in memory that fails as planned, and that is opened again.
 
-use crate::running::{NEVER, joined, run, shelf};
+use crate::running::{NEVER, joined, run, shelf, shelf_of};
 use std::alloc::Global;
 use std::process::Abort;
 use std::sync::Wait;
@@ -158,5 +158,20 @@ fn a_ledger_is_opened_again(rt: HostRuntime) -> Result<(), Fail> {
     )?;
     assert!(rt; first);
     assert!(rt; writes(&rt, alloc, &mut shelf, &[BALANCE], 0, &[BALANCES])?);
+    Ok(())
+}
+
+// A keeper in memory hands tables out as they are.
+#[test]
+fn tables_of_another_version_are_refused(rt: HostRuntime) -> Result<(), Fail> {
+    for version in [1, 3] {
+        let mut shelf = shelf_of(rt.alloc(), version, None)?;
+        let input = joined(rt.alloc(), &[HEADS])?;
+        let words = ["batch", "--file", "ledger"];
+        let ended = run(&rt, rt.alloc(), &words, &mut shelf, input, 50_000, NEVER)?;
+        assert!(rt; ended.status == 7);
+        assert!(rt; ended.output.bytes().is_empty());
+        assert!(rt; ended.notes.bytes() == b"stockd: stored head\n".as_slice());
+    }
     Ok(())
 }

@@ -19,7 +19,7 @@ use stock_io::source::Source;
 use stock_keeper::memory_keeper::MemKeeper;
 use stock_keeper::memory_shelf::MemShelf;
 use stock_keeper::shelf::Shelf;
-use stock_keeper::tables::Tables;
+use stock_keeper::tables::{Tables, VERSION};
 use stock_nums::lines::Lines;
 use stock_nums::memory::NoMemory;
 
@@ -60,8 +60,13 @@ fn calls(alloc: Global, failing: Option<u64>) -> Result<Lines<u64>, NoMemory> {
 
 /// A shelf with a new keeper, of whose calls that with this number fails, from 1, or none.
 pub fn shelf(alloc: Global, failing: Option<u64>) -> Result<MemShelf, NoMemory> {
+    shelf_of(alloc, VERSION, failing)
+}
+
+/// The same with empty tables of this version.
+pub fn shelf_of(alloc: Global, version: i64, failing: Option<u64>) -> Result<MemShelf, NoMemory> {
     let tables = Tables {
-        version: 1,
+        version,
         records: Lines::new(alloc),
         covered: 0,
         worths: Lines::new(alloc),

@@ -3,6 +3,8 @@
 #![tactic(auto)]
 
 #[cfg(test)]
+mod old_tables;
+#[cfg(test)]
 mod sqlite_keepers;
 #[cfg(test)]
 mod sqlite_shelves;

@@ -124,7 +124,6 @@ fn are(tables: &Tables, number: i64, body: &[u8], covered: i64, worths: &[SpotWo
     tables.records.as_slice().len() as i64 == number
         && has_last(tables, number, body)
         && tables.covered == covered
-        && tables.version == 1
         && tables.worths.as_slice() == worths
 }
 
@@ -140,13 +139,13 @@ fn loads<K: Keeper>(
     ensures { HoldsOfNone (K.tells keeper.new) }
 {
     match keeper.load() {
-        Ok(tables) => are(&tables, number, body, covered, worths),
+        Ok(tables) => tables.version == 2 && are(&tables, number, body, covered, worths),
         Err(_) => false,
     }
 }
 
-// Whether two records and their worths are kept.
-fn keeps_two<K: Keeper>(alloc: Global, keeper: &mut K) -> bool
+/// Whether two records and their worths are kept.
+pub(crate) fn keeps_two<K: Keeper>(alloc: Global, keeper: &mut K) -> bool
     requires { HoldsOfNone (K.tells keeper.old) }
 {
     adds(keeper, 1, b"one")
@@ -154,6 +153,11 @@ fn keeps_two<K: Keeper>(alloc: Global, keeper: &mut K) -> bool
         && loads(keeper, 1, b"one", 1, &[LEAVES, ENTERS, LATER])
         && adds(keeper, 2, b"two")
         && publishes(alloc, keeper, 2, &[CHANGED], &[LATER.spot])
+}
+
+/// Whether the tables are of them, whatever their version is.
+pub(crate) fn two_are_kept(tables: &Tables) -> bool {
+    are(tables, 2, b"two", 2, &[LEAVES, CHANGED])
 }
 
 // A keeper over this database, once its tables are there. It is not prepared itself, and tells nothing, so that a test may append
@@ -221,8 +225,8 @@ fn a_refusal_is_counted_and_changes_nothing(rt: HostRuntime) {
     assert!(rt; refuses_a_second(rt.alloc(), conn));
 }
 
-// The database after this statement, where it has no transaction open.
-fn after<S: Alter + Drop>(mut conn: Connection<S>, sql: &str) -> Option<Connection<S>>
+/// The database after this statement, where it has no transaction open.
+pub(crate) fn after<S: Alter + Drop>(mut conn: Connection<S>, sql: &str) -> Option<Connection<S>>
     ensures { IfSome result (λ conn. conn.in_transaction ≡ false) }
 {
     match conn.execute(sql, &[]) {
@@ -267,8 +271,11 @@ fn rows_that_cannot_be_read_are_refused(rt: HostRuntime) {
     }
 }
 
-// Whether the database is refused as none of ours.
-fn is_foreign<S: Alter + Drop>(alloc: Global, conn: Connection<S>) -> Option<Connection<S>>
+/// The database, where it is refused as none of ours.
+pub(crate) fn is_foreign<S: Alter + Drop>(
+    alloc: Global,
+    conn: Connection<S>,
+) -> Option<Connection<S>>
     requires { conn.in_transaction ≡ false }
 {
     let mut keeper = SqliteKeeper::over(alloc, conn);
@@ -278,8 +285,8 @@ fn is_foreign<S: Alter + Drop>(alloc: Global, conn: Connection<S>) -> Option<Con
     }
 }
 
-// How many tables and views it has.
-fn names_in<S: Alter + Drop>(mut conn: Connection<S>) -> Option<usize> {
+/// How many tables and views it has.
+pub(crate) fn names_in<S: Alter + Drop>(mut conn: Connection<S>) -> Option<usize> {
     let names = conn.query_all("SELECT name FROM sqlite_schema", &[]).ok()?;
     Some(names.len())
 }

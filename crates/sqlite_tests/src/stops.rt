@@ -185,7 +185,7 @@ fn are_of(tables: &Tables, records: usize, is_published: bool) -> bool {
         tables.covered == 0 && worths.is_empty()
     };
     let stored = tables.records.as_slice();
-    tables.version == 1 && stored.len() == records && are_first(stored) && are_covered
+    tables.version == 2 && stored.len() == records && are_first(stored) && are_covered
 }
 
 // Whether the tables are those that were acknowledged, or those and the next change.
