@@ -15,7 +15,7 @@ use stock_io::listener::Listener;
 pub struct Talkers<R> {
     waiting: Vec<Script<R>>,
     hung_up: Vec<Talker<R>>,
-    port: Option<u16>,
+    asked: Option<(u16, Option<u32>)>,
     accepts: u64,
     hang_ups: u64,
     faults: u64,
@@ -27,7 +27,7 @@ impl<R> Model for Talkers<R> {
 
     ghost Value = { Port };
 
-    ghost view = { λ s. record { hang_ups = s.hang_ups; outstanding = s.accepts - s.hang_ups; faults = s.faults; number = s.port } };
+    ghost view = { λ s. record { hang_ups = s.hang_ups; outstanding = s.accepts - s.hang_ups; faults = s.faults; asked = s.asked } };
 
     ghost invariant = { λ s. s.hang_ups ≤ s.accepts };
 }
@@ -40,7 +40,7 @@ impl<R> Talkers<R> {
         Talkers {
             waiting,
             hung_up,
-            port: None,
+            asked: None,
             accepts: 0,
             hang_ups: 0,
             faults: 0,
@@ -88,16 +88,16 @@ impl<R: Wait + Send + Drop> Listener for Talkers<R> {
 
     ghost faults = { λ s. s.faults };
 
-    ghost listens_to = { λ s. s.number };
+    ghost listens_to = { λ s. s.asked };
 
     ghost no_more_hung_up = { λ s. le-add_right s.hang_ups s.outstanding };
 
-    fn listen(&mut self, port: u16) -> Result<(), Failed>
+    fn listen(&mut self, port: u16, idle: Option<u32>) -> Result<(), Failed>
         ensures never_falls { NeverFalls self.old.faults self.new.faults }
-        ensures after_ok { OnOk result (self.new ≡ after_listening port self.old) }
+        ensures after_ok { OnOk result (self.new ≡ after_listening port idle self.old) }
         ensures after_failed { OnErr result (self.new ≡ after_port_fault self.old) }
     {
-        self.port = Some(port);
+        self.asked = Some((port, idle));
         Ok(())
     }
 

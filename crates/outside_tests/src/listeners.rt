@@ -87,7 +87,7 @@ fn next_peer<L: Listener>(listener: &mut L) -> Read {
 }
 
 fn listens<L: Listener>(listener: &mut L) -> bool {
-    listener.listen(8080).is_ok()
+    listener.listen(8080, None).is_ok()
 }
 
 // How many peers were hung up, and how many calls failed.

@@ -9,7 +9,7 @@ use stock_io::net_link::NetLink;
 use stock_io::net_listener::NetListener;
 
 fn listens<L: Listener>(listener: &mut L) -> bool {
-    listener.listen(0).is_ok()
+    listener.listen(0, None).is_ok()
 }
 
 // A listener at a port that the system chose, and the port; port 0 where there is none.

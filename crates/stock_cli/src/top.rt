@@ -7,6 +7,7 @@ ghost use Rattle.stock_keeper.specs.Keeping.{AsksAt, AsksAtMost};
 ghost use Rattle.repost_worker.specs.Paces.{Pace, first_pace};
 ghost use Rattle.stock_io.specs.Heard.{heard};
 ghost use Rattle.desk_service.specs.Service.{IsPeerServed};
+ghost use Rattle.stock_words.specs.ServeWords.{Service};
 ghost use Rattle.stock_words.specs.Words.{IsAudit, IsBatch, IsBatchOver, IsImport, IsLoad, IsServe};
 ghost use Rattle.stock_ends.specs.declared.end.End.{End};
 ghost use Rattle.stock_ends.specs.Statuses.{status_of, note_text, usage_text, WritesOrFails, TellsEnd, CountsNoFault};
@@ -76,7 +77,7 @@ pub fn stockd<
     ensures words { (result.status ≡ 2) ↔ ((IsBatch words.now → ⊥) × ((path : List ℕ) → IsBatchOver words.now path → ⊥)
         × ((path : List ℕ) → IsImport words.now path → ⊥) × ((path : List ℕ) → IsAudit words.now path → ⊥)
         × ((n : ℕ) → IsLoad words.now n → ⊥)
-        × ((path : List ℕ) (port desks : ℕ) → IsServe words.now path port desks → ⊥)) }
+        × ((service : Service) → IsServe words.now service → ⊥)) }
     ensures nothing_taken { result.status ≡ 2 → input.new ≡ input.old }
     ensures nothing_written { result.status ≡ 2 → output.new ≡ output.old }
     ensures nothing_opened { (result.status ≡ 2) ⊎ IsBatch words.now → shelf.new ≡ shelf.old }
@@ -117,25 +118,25 @@ pub fn stockd<
 
     // A service serves desks over a file that was opened, settles, and writes how many records are covered and accepted; or an end
     // comes before, and why. It takes nothing from the input. Nothing else listens.
-    ensures serve { (path : List ℕ) (port desks : ℕ) → IsServe words.now path port desks → (end : End)
+    ensures serve { (service : Service) → IsServe words.now service → (end : End)
         × TellsEnd N.written N.faults notes.old notes.new result.status end
         × ServesOverShelf H.Kept.tells H.tells H.plan H.faults H.kept_faults
         (heard L.waiting L.hung_up L.accepts L.hang_ups L.faults) O.written O.faults
         (IsPeerServed P.left P.taken P.written P.Source.faults P.ended)
-        (IsFresh P.taken P.written P.Source.faults P.ended) desks
+        (IsFresh P.taken P.written P.Source.faults P.ended) service.desks
         shelf.old shelf.new listener result.listener output.old output.new end }
-    ensures serve_takes_nothing { (path : List ℕ) (port desks : ℕ) → IsServe words.now path port desks → input.new ≡ input.old }
-    ensures nothing_heard { ((path : List ℕ) (port desks : ℕ) → IsServe words.now path port desks → ⊥) → result.listener ≡ listener }
+    ensures serve_takes_nothing { (service : Service) → IsServe words.now service → input.new ≡ input.old }
+    ensures nothing_heard { ((service : Service) → IsServe words.now service → ⊥) → result.listener ≡ listener }
 
     // A run, an import, an audit or a service over a file asks the shelf for one keeper, at the path of its words, and a service listens
-    // to the port of its words; unless an end came before.
+    // to the port of its words, with the limit of silence that they say; unless an end came before.
     ensures over_opens { (path : List ℕ) → IsBatchOver words.now path → AsksAtMost H.opened H.openings path shelf.old shelf.new }
     ensures import_opens { (path : List ℕ) → IsImport words.now path → AsksAtMost H.opened H.openings path shelf.old shelf.new }
     ensures audit_opens { (path : List ℕ) → IsAudit words.now path → AsksAtMost H.opened H.openings path shelf.old shelf.new }
-    ensures serve_opens { (path : List ℕ) (port desks : ℕ) → IsServe words.now path port desks
-        → AsksAtMost H.opened H.openings path shelf.old shelf.new }
-    ensures serve_listens { (path : List ℕ) (port desks : ℕ) → IsServe words.now path port desks
-        → ListensTo L.listens_to L.accepts port listener result.listener }
+    ensures serve_opens { (service : Service) → IsServe words.now service
+        → AsksAtMost H.opened H.openings service.path shelf.old shelf.new }
+    ensures serve_listens { (service : Service) → IsServe words.now service
+        → ListensTo L.listens_to L.accepts service.port service.idle listener result.listener }
 
     // Without a fault, and with fewer bytes than are too many, only want of memory keeps it from being done.
     ensures complete { IsBatch words.now
@@ -174,7 +175,7 @@ pub fn stockd<
         → (result.status ≡ 0) ⊎ (result.status ≡ 3) }
 
     // And of a service, where neither the listener, the output, the shelf nor its keeper had a fault.
-    ensures complete_serve { (path : List ℕ) (port desks : ℕ) → IsServe words.now path port desks
+    ensures complete_serve { (service : Service) → IsServe words.now service
         → CountsNoFault (H.faults shelf.old) (H.faults shelf.new)
         → CountsNoFault 0 (H.kept_faults shelf.new)
         → CountsNoFault (L.faults listener) (L.faults result.listener)
@@ -250,7 +251,7 @@ fn serve_asked<
         (IsFresh P.taken P.written P.Source.faults P.ended) asked.entry.desks
         shelf.old shelf.new listener result.listener output.old output.new end }
     ensures opens { AsksAt H.opened H.openings asked.entry.path.now shelf.old shelf.new }
-    ensures listens { ListensTo L.listens_to L.accepts asked.entry.port listener result.listener }
+    ensures listens { ListensTo L.listens_to L.accepts asked.entry.port asked.entry.idle listener result.listener }
     ensures complete { CountsNoFault (H.faults shelf.old) (H.faults shelf.new)
         → CountsNoFault 0 (H.kept_faults shelf.new)
         → CountsNoFault (L.faults listener) (L.faults result.listener)
@@ -267,6 +268,7 @@ fn serve_asked<
         listener,
         asked.path,
         asked.port,
+        asked.idle,
         asked.desks,
         output,
     );

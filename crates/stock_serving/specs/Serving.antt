@@ -173,7 +173,8 @@ module _ {H Kt L P O : Type 0} (kept_tells : Kt → Tables → Type 0) (tells : 
       IsNotOpened kept_tells tells plan faults kept_faults shelf_before shelf_after listener_before listener_after output_before output_after end
       ⊎ IsServedOver shelf_before shelf_after listener_before listener_after output_before output_after end
 
--- the listener listens to this port; or it listens as it did before, and nobody was accepted
-abbrev pub ListensTo : {L : Type 0} → (L → Option ℕ) → (L → ℕ) → ℕ → L → L → Type 0
-ListensTo listens_to accepts port before after =
-    (listens_to after ≡ Some port) ⊎ ((listens_to after ≡ listens_to before) × (accepts after ≡ accepts before))
+-- the listener listens to this port, where a peer may be silent for so many seconds if that is limited; or it listens as it did before, and
+-- nobody was accepted
+abbrev pub ListensTo : {L : Type 0} → (L → Option (ℕ × Option ℕ)) → (L → ℕ) → ℕ → Option ℕ → L → L → Type 0
+ListensTo listens_to accepts port idle before after =
+    (listens_to after ≡ Some (port, idle)) ⊎ ((listens_to after ≡ listens_to before) × (accepts after ≡ accepts before))

@@ -50,7 +50,7 @@ struct BookEnd<K: Keeper, L> {
 }
 
 /// Listens at the port and serves so many peers, each by a desk in a thread of its own, over the ledger that the shelf has at
-/// this path. Once all sessions have ended it publishes what was accepted, puts the keeper back, and writes how many records are
+/// this path. A peer that is silent for `idle` seconds, if that is given, has its connection ended. Once all sessions have ended it publishes what was accepted, puts the keeper back, and writes how many records are
 /// covered and accepted. Each keeper that is handed out is put back. Where fewer peers come it ends as soon as those are served.
 /// It may wait, for peers and for the lock.
 pub fn serve_over<
@@ -66,6 +66,7 @@ pub fn serve_over<
     listener: L,
     path: &str,
     port: u16,
+    idle: Option<u32>,
     desks: u32,
     output: &mut O,
 ) -> ServiceEnd<L>
@@ -76,7 +77,7 @@ pub fn serve_over<
         (IsFresh P.taken P.written P.Source.faults P.ended) desks
         shelf.old shelf.new listener result.listener output.old output.new result.end }
     ensures opens { AsksAt H.opened H.openings path.now shelf.old shelf.new }
-    ensures listens { ListensTo L.listens_to L.accepts port listener result.listener }
+    ensures listens { ListensTo L.listens_to L.accepts port idle listener result.listener }
     ensures shelf_never_falls { NeverFalls (H.faults shelf.old) (H.faults shelf.new) }
     ensures listener_never_falls { NeverFalls (L.faults listener) (L.faults result.listener) }
     ensures output_never_falls { NeverFalls (O.faults output.old) (O.faults output.new) }
@@ -94,7 +95,7 @@ pub fn serve_over<
         summary,
         keeper,
         listener,
-    } = serve_kept(rt, alloc, keeper, listener, port, desks);
+    } = serve_kept(rt, alloc, keeper, listener, port, idle, desks);
     let back = put_back(shelf, keeper);
     let end = write_summary(back, summary, output);
     ServiceEnd { end, listener }
@@ -107,6 +108,7 @@ fn serve_kept<K: Keeper + Send, P: Link, L: Listener<Peer = P> + Drop, R: Thread
     keeper: K,
     listener: L,
     port: u16,
+    idle: Option<u32>,
     desks: u32,
 ) -> KeptEnd<K, L>
     requires settled { Within (K.tells keeper) (K.may_leave keeper) }
@@ -116,7 +118,7 @@ fn serve_kept<K: Keeper + Send, P: Link, L: Listener<Peer = P> + Drop, R: Thread
         (IsPeerServed P.left P.taken P.written P.Source.faults P.ended)
         (IsFresh P.taken P.written P.Source.faults P.ended) desks
         result.summary keeper result.keeper listener result.listener }
-    ensures listens { ListensTo L.listens_to L.accepts port listener result.listener }
+    ensures listens { ListensTo L.listens_to L.accepts port idle listener result.listener }
     ensures never_falls { NeverFalls (L.faults listener) (L.faults result.listener) }
 {
     match RevaluedBook::begin(alloc, keeper) {
@@ -125,7 +127,7 @@ fn serve_kept<K: Keeper + Send, P: Link, L: Listener<Peer = P> + Drop, R: Thread
                 summary,
                 book,
                 listener,
-            } = serve_book(rt, alloc, book, listener, port, desks);
+            } = serve_book(rt, alloc, book, listener, port, idle, desks);
             KeptEnd {
                 summary,
                 keeper: keeper_of(book),
@@ -147,6 +149,7 @@ fn serve_book<K: Keeper + Send, P: Link, L: Listener<Peer = P> + Drop, R: Thread
     book: RevaluedBook<K>,
     mut listener: L,
     port: u16,
+    idle: Option<u32>,
     desks: u32,
 ) -> BookEnd<K, L>
     requires desks { (0 < desks) × (desks ≤ MAX_DESK) }
@@ -155,10 +158,10 @@ fn serve_book<K: Keeper + Send, P: Link, L: Listener<Peer = P> + Drop, R: Thread
         (IsFresh P.taken P.written P.Source.faults P.ended) desks result.summary book result.book
         (heard L.waiting L.hung_up L.accepts L.hang_ups L.faults listener)
         (heard L.waiting L.hung_up L.accepts L.hang_ups L.faults result.listener) }
-    ensures listens { ListensTo L.listens_to L.accepts port listener result.listener }
+    ensures listens { ListensTo L.listens_to L.accepts port idle listener result.listener }
     ensures never_falls { NeverFalls (L.faults listener) (L.faults result.listener) }
 {
-    match listener.listen(port) {
+    match listener.listen(port, idle) {
         Ok(()) => serve_peers(rt, alloc, book, listener, desks),
         Err(_) => BookEnd {
             summary: Err(End::ListenFailed),

@@ -5,8 +5,9 @@ use Rattle.stock_keeper.specs.Keeping.{AsksAt, AsksAtMost}
 use Rattle.repost_worker.specs.Paces.{first_pace}
 use Rattle.stock_io.specs.Heard.{heard}
 use Rattle.desk_service.specs.Service.{IsPeerServed}
+use Rattle.stock_words.specs.ServeWords.{Service}
 use Rattle.stock_words.specs.Words.{Spells, IsFaultOf}
-use Rattle.stock_words.proofs.ServeWords.{one_service, one_service_path, one_service_port}
+use Rattle.stock_words.proofs.ServeWords.{one_service}
 use Rattle.stock_words.proofs.Forms.{batch_begins, over_begins, import_begins, audit_begins, load_begins, serve_begins, load_once, one_path, one_import_path, one_audit_path}
 use Rattle.stock_ends.specs.Statuses.{TellsEnd}
 use Rattle.stock_ends.specs.declared.end.End.{End}
@@ -56,22 +57,22 @@ returns-in-Ok-Batch-clause-complete_load g c n load none =
     absurd (omega (arith, load_begins words n load, batch_begins words spells))
 
 pub returns-in-Ok-Batch-clause-serve : goal.returns-in-Ok-Batch-clause-serve
-returns-in-Ok-Batch-clause-serve g c path port desks serve =
+returns-in-Ok-Batch-clause-serve g c service serve =
     let words = map string_bytes c.args.words.now in
     let spells = subst (Spells words) c.in-Ok-Batch.field-0-is c.in-Ok-Batch.ensures.asked in
-    absurd (omega (arith, serve_begins words path port desks serve, batch_begins words spells))
+    absurd (omega (arith, serve_begins words service serve, batch_begins words spells))
 
 pub returns-in-Ok-Batch-clause-serve_takes_nothing : goal.returns-in-Ok-Batch-clause-serve_takes_nothing
-returns-in-Ok-Batch-clause-serve_takes_nothing g c path port desks serve =
+returns-in-Ok-Batch-clause-serve_takes_nothing g c service serve =
     let words = map string_bytes c.args.words.now in
     let spells = subst (Spells words) c.in-Ok-Batch.field-0-is c.in-Ok-Batch.ensures.asked in
-    absurd (omega (arith, serve_begins words path port desks serve, batch_begins words spells))
+    absurd (omega (arith, serve_begins words service serve, batch_begins words spells))
 
 pub returns-in-Ok-Batch-clause-complete_serve : goal.returns-in-Ok-Batch-clause-complete_serve
-returns-in-Ok-Batch-clause-complete_serve g c path port desks serve shelf kept listener output =
+returns-in-Ok-Batch-clause-complete_serve g c service serve shelf kept listener output =
     let words = map string_bytes c.args.words.now in
     let spells = subst (Spells words) c.in-Ok-Batch.field-0-is c.in-Ok-Batch.ensures.asked in
-    absurd (omega (arith, serve_begins words path port desks serve, batch_begins words spells))
+    absurd (omega (arith, serve_begins words service serve, batch_begins words spells))
 
 pub returns-in-Ok-Batch-clause-run : goal.returns-in-Ok-Batch-clause-run
 returns-in-Ok-Batch-clause-run g c batch = (c.run-end.result, c.tell-status.ensures.told, c.run-end.ensures.0, c.run-end.ensures.1)
@@ -112,22 +113,22 @@ returns-in-Ok-BatchOver-clause-complete_load g c n load none =
     absurd (omega (arith, load_begins words n load, over_begins words _ spells))
 
 pub returns-in-Ok-BatchOver-clause-serve : goal.returns-in-Ok-BatchOver-clause-serve
-returns-in-Ok-BatchOver-clause-serve g c path port desks serve =
+returns-in-Ok-BatchOver-clause-serve g c service serve =
     let words = map string_bytes c.args.words.now in
     let spells = subst (Spells words) c.in-Ok-BatchOver.field-0-is c.in-Ok-BatchOver.ensures.asked in
-    absurd (omega (arith, serve_begins words path port desks serve, over_begins words _ spells))
+    absurd (omega (arith, serve_begins words service serve, over_begins words _ spells))
 
 pub returns-in-Ok-BatchOver-clause-serve_takes_nothing : goal.returns-in-Ok-BatchOver-clause-serve_takes_nothing
-returns-in-Ok-BatchOver-clause-serve_takes_nothing g c path port desks serve =
+returns-in-Ok-BatchOver-clause-serve_takes_nothing g c service serve =
     let words = map string_bytes c.args.words.now in
     let spells = subst (Spells words) c.in-Ok-BatchOver.field-0-is c.in-Ok-BatchOver.ensures.asked in
-    absurd (omega (arith, serve_begins words path port desks serve, over_begins words _ spells))
+    absurd (omega (arith, serve_begins words service serve, over_begins words _ spells))
 
 pub returns-in-Ok-BatchOver-clause-complete_serve : goal.returns-in-Ok-BatchOver-clause-complete_serve
-returns-in-Ok-BatchOver-clause-complete_serve g c path port desks serve shelf kept listener output =
+returns-in-Ok-BatchOver-clause-complete_serve g c service serve shelf kept listener output =
     let words = map string_bytes c.args.words.now in
     let spells = subst (Spells words) c.in-Ok-BatchOver.field-0-is c.in-Ok-BatchOver.ensures.asked in
-    absurd (omega (arith, serve_begins words path port desks serve, over_begins words _ spells))
+    absurd (omega (arith, serve_begins words service serve, over_begins words _ spells))
 
 -- `load`
 
@@ -189,22 +190,22 @@ returns-in-Ok-Load-clause-load_opens_nothing g c n load =
     refl
 
 pub returns-in-Ok-Load-clause-serve : goal.returns-in-Ok-Load-clause-serve
-returns-in-Ok-Load-clause-serve g c path port desks serve =
+returns-in-Ok-Load-clause-serve g c service serve =
     let words = map string_bytes c.args.words.now in
     let spells = subst (Spells words) c.in-Ok-Load.field-0-is c.in-Ok-Load.ensures.asked in
-    absurd (omega (arith, serve_begins words path port desks serve, load_begins words _ spells))
+    absurd (omega (arith, serve_begins words service serve, load_begins words _ spells))
 
 pub returns-in-Ok-Load-clause-serve_takes_nothing : goal.returns-in-Ok-Load-clause-serve_takes_nothing
-returns-in-Ok-Load-clause-serve_takes_nothing g c path port desks serve =
+returns-in-Ok-Load-clause-serve_takes_nothing g c service serve =
     let words = map string_bytes c.args.words.now in
     let spells = subst (Spells words) c.in-Ok-Load.field-0-is c.in-Ok-Load.ensures.asked in
-    absurd (omega (arith, serve_begins words path port desks serve, load_begins words _ spells))
+    absurd (omega (arith, serve_begins words service serve, load_begins words _ spells))
 
 pub returns-in-Ok-Load-clause-complete_serve : goal.returns-in-Ok-Load-clause-complete_serve
-returns-in-Ok-Load-clause-complete_serve g c path port desks serve shelf kept listener output =
+returns-in-Ok-Load-clause-complete_serve g c service serve shelf kept listener output =
     let words = map string_bytes c.args.words.now in
     let spells = subst (Spells words) c.in-Ok-Load.field-0-is c.in-Ok-Load.ensures.asked in
-    absurd (omega (arith, serve_begins words path port desks serve, load_begins words _ spells))
+    absurd (omega (arith, serve_begins words service serve, load_begins words _ spells))
 
 pub returns-in-Ok-Load-clause-complete : goal.returns-in-Ok-Load-clause-complete
 returns-in-Ok-Load-clause-complete g c batch source output few =
@@ -247,7 +248,7 @@ pub returns-in-Ok-Serve-clause-words : goal.returns-in-Ok-Serve-clause-words
 returns-in-Ok-Serve-clause-words g c =
     let words = map string_bytes c.args.words.now in
     let spells = subst (Spells words) c.in-Ok-Serve.field-0-is c.in-Ok-Serve.ensures.asked in
-    ((λ two. absurd (c.serve_asked.ensures.served two)), (λ none. absurd (none.5 _ _ _ spells)))
+    ((λ two. absurd (c.serve_asked.ensures.served two)), (λ none. absurd (none.5 _ spells)))
 
 pub returns-in-Ok-Serve-clause-nothing_written : goal.returns-in-Ok-Serve-clause-nothing_written
 returns-in-Ok-Serve-clause-nothing_written g c two =
@@ -258,7 +259,7 @@ returns-in-Ok-Serve-clause-nothing_opened g c (inl two) = absurd (c.serve_asked.
 returns-in-Ok-Serve-clause-nothing_opened g c (inr batch) =
     let words = map string_bytes c.args.words.now in
     let spells = subst (Spells words) c.in-Ok-Serve.field-0-is c.in-Ok-Serve.ensures.asked in
-    absurd (omega (arith, batch_begins words batch, serve_begins words _ _ _ spells))
+    absurd (omega (arith, batch_begins words batch, serve_begins words _ spells))
 
 pub returns-in-Ok-Serve-clause-usage : goal.returns-in-Ok-Serve-clause-usage
 returns-in-Ok-Serve-clause-usage g c two =
@@ -268,44 +269,44 @@ pub returns-in-Ok-Serve-clause-run : goal.returns-in-Ok-Serve-clause-run
 returns-in-Ok-Serve-clause-run g c batch =
     let words = map string_bytes c.args.words.now in
     let spells = subst (Spells words) c.in-Ok-Serve.field-0-is c.in-Ok-Serve.ensures.asked in
-    absurd (omega (arith, batch_begins words batch, serve_begins words _ _ _ spells))
+    absurd (omega (arith, batch_begins words batch, serve_begins words _ spells))
 
 pub returns-in-Ok-Serve-clause-over : goal.returns-in-Ok-Serve-clause-over
 returns-in-Ok-Serve-clause-over g c path over =
     let words = map string_bytes c.args.words.now in
     let spells = subst (Spells words) c.in-Ok-Serve.field-0-is c.in-Ok-Serve.ensures.asked in
-    absurd (omega (arith, over_begins words path over, serve_begins words _ _ _ spells))
+    absurd (omega (arith, over_begins words path over, serve_begins words _ spells))
 
 pub returns-in-Ok-Serve-clause-load : goal.returns-in-Ok-Serve-clause-load
 returns-in-Ok-Serve-clause-load g c n load =
     let words = map string_bytes c.args.words.now in
     let spells = subst (Spells words) c.in-Ok-Serve.field-0-is c.in-Ok-Serve.ensures.asked in
-    absurd (omega (arith, load_begins words n load, serve_begins words _ _ _ spells))
+    absurd (omega (arith, load_begins words n load, serve_begins words _ spells))
 
 pub returns-in-Ok-Serve-clause-load_opens_nothing : goal.returns-in-Ok-Serve-clause-load_opens_nothing
 returns-in-Ok-Serve-clause-load_opens_nothing g c n load =
     let words = map string_bytes c.args.words.now in
     let spells = subst (Spells words) c.in-Ok-Serve.field-0-is c.in-Ok-Serve.ensures.asked in
-    absurd (omega (arith, load_begins words n load, serve_begins words _ _ _ spells))
+    absurd (omega (arith, load_begins words n load, serve_begins words _ spells))
 
 pub returns-in-Ok-Serve-clause-complete_load : goal.returns-in-Ok-Serve-clause-complete_load
 returns-in-Ok-Serve-clause-complete_load g c n load none =
     let words = map string_bytes c.args.words.now in
     let spells = subst (Spells words) c.in-Ok-Serve.field-0-is c.in-Ok-Serve.ensures.asked in
-    absurd (omega (arith, load_begins words n load, serve_begins words _ _ _ spells))
+    absurd (omega (arith, load_begins words n load, serve_begins words _ spells))
 
 pub returns-in-Ok-Serve-clause-serve : goal.returns-in-Ok-Serve-clause-serve
-returns-in-Ok-Serve-clause-serve g c path port desks serve =
+returns-in-Ok-Serve-clause-serve g c service serve =
     let words = map string_bytes c.args.words.now in
     let spells = subst (Spells words) c.in-Ok-Serve.field-0-is c.in-Ok-Serve.ensures.asked in
-    let same = one_service words _ _ _ _ _ _ spells serve in
-    subst (λ (n : ℕ). (end : End)
+    let same = one_service words _ service spells serve in
+    subst (λ (of : Service). (end : End)
     × TellsEnd g.N.Sink.written g.N.Sink.faults c.args.notes.now c.serve_asked.new.notes c.serve_asked.result.status end
     × ServesOverShelf g.H.Kept.Keeper.tells g.H.Shelf.tells g.H.Shelf.plan g.H.Shelf.faults g.H.Shelf.kept_faults
     (heard g.L.Listener.waiting g.L.Listener.hung_up g.L.Listener.accepts g.L.Listener.hang_ups g.L.Listener.faults)
     g.O.Sink.written g.O.Sink.faults
     (IsPeerServed g.P.Source.left g.P.Source.taken g.P.Sink.written g.P.Source.faults g.P.Link.ended)
-    (IsFresh g.P.Source.taken g.P.Sink.written g.P.Source.faults g.P.Link.ended) n
+    (IsFresh g.P.Source.taken g.P.Sink.written g.P.Source.faults g.P.Link.ended) of.desks
     c.args.shelf.now c.serve_asked.new.shelf c.args.listener c.serve_asked.result.listener c.args.output.now c.serve_asked.new.output end) same
     c.serve_asked.ensures.serves
 
@@ -313,22 +314,22 @@ pub returns-in-Ok-Serve-clause-nothing_heard : goal.returns-in-Ok-Serve-clause-n
 returns-in-Ok-Serve-clause-nothing_heard g c none =
     let words = map string_bytes c.args.words.now in
     let spells = subst (Spells words) c.in-Ok-Serve.field-0-is c.in-Ok-Serve.ensures.asked in
-    absurd (none _ _ _ spells)
+    absurd (none _ spells)
 
 pub returns-in-Ok-Serve-clause-complete : goal.returns-in-Ok-Serve-clause-complete
 returns-in-Ok-Serve-clause-complete g c batch source output few =
     let words = map string_bytes c.args.words.now in
     let spells = subst (Spells words) c.in-Ok-Serve.field-0-is c.in-Ok-Serve.ensures.asked in
-    absurd (omega (arith, batch_begins words batch, serve_begins words _ _ _ spells))
+    absurd (omega (arith, batch_begins words batch, serve_begins words _ spells))
 
 pub returns-in-Ok-Serve-clause-complete_over : goal.returns-in-Ok-Serve-clause-complete_over
 returns-in-Ok-Serve-clause-complete_over g c path over source output shelf kept few =
     let words = map string_bytes c.args.words.now in
     let spells = subst (Spells words) c.in-Ok-Serve.field-0-is c.in-Ok-Serve.ensures.asked in
-    absurd (omega (arith, over_begins words path over, serve_begins words _ _ _ spells))
+    absurd (omega (arith, over_begins words path over, serve_begins words _ spells))
 
 pub returns-in-Ok-Serve-clause-complete_serve : goal.returns-in-Ok-Serve-clause-complete_serve
-returns-in-Ok-Serve-clause-complete_serve g c path port desks serve shelf kept listener output =
+returns-in-Ok-Serve-clause-complete_serve g c service serve shelf kept listener output =
     c.serve_asked.ensures.complete shelf kept listener output
 
 pub returns-in-Ok-Serve-clause-noted : goal.returns-in-Ok-Serve-clause-noted
@@ -379,16 +380,16 @@ returns-in-Err-Unknown-clause-complete_load g c n load none =
     absurd (nothing.4 n load)
 
 pub returns-in-Err-Unknown-clause-serve : goal.returns-in-Err-Unknown-clause-serve
-returns-in-Err-Unknown-clause-serve g c path port desks serve =
+returns-in-Err-Unknown-clause-serve g c service serve =
     let words = map string_bytes c.args.words.now in
     let nothing = subst (IsFaultOf words) c.in-Err-Unknown.field-0-is c.in-Err-Unknown.ensures.fault in
-    absurd (nothing.5 path port desks serve)
+    absurd (nothing.5 service serve)
 
 pub returns-in-Err-Unknown-clause-complete_serve : goal.returns-in-Err-Unknown-clause-complete_serve
-returns-in-Err-Unknown-clause-complete_serve g c path port desks serve shelf kept listener output =
+returns-in-Err-Unknown-clause-complete_serve g c service serve shelf kept listener output =
     let words = map string_bytes c.args.words.now in
     let nothing = subst (IsFaultOf words) c.in-Err-Unknown.field-0-is c.in-Err-Unknown.ensures.fault in
-    absurd (nothing.5 path port desks serve)
+    absurd (nothing.5 service serve)
 
 pub returns-in-Err-Unknown-clause-load_takes_nothing : goal.returns-in-Err-Unknown-clause-load_takes_nothing
 returns-in-Err-Unknown-clause-load_takes_nothing g c n load =
@@ -399,7 +400,7 @@ returns-in-Err-Unknown-clause-load_opens_nothing g c n load =
     refl
 
 pub returns-in-Err-Unknown-clause-serve_takes_nothing : goal.returns-in-Err-Unknown-clause-serve_takes_nothing
-returns-in-Err-Unknown-clause-serve_takes_nothing g c path port desks serve =
+returns-in-Err-Unknown-clause-serve_takes_nothing g c service serve =
     refl
 
 -- memory was wanting while the words were read
@@ -445,7 +446,7 @@ returns-in-Err-NoMemory-clause-over g c path over = (
 )
 
 pub returns-in-Err-NoMemory-clause-serve : goal.returns-in-Err-NoMemory-clause-serve
-returns-in-Err-NoMemory-clause-serve g c path port desks serve = (
+returns-in-Err-NoMemory-clause-serve g c service serve = (
   NoMemory,
   record {
     told = NoMemory;
@@ -477,7 +478,7 @@ returns-in-Err-NoMemory-clause-load_opens_nothing g c n load =
     refl
 
 pub returns-in-Err-NoMemory-clause-serve_takes_nothing : goal.returns-in-Err-NoMemory-clause-serve_takes_nothing
-returns-in-Err-NoMemory-clause-serve_takes_nothing g c path port desks serve =
+returns-in-Err-NoMemory-clause-serve_takes_nothing g c service serve =
     refl
 
 pub returns-in-Err-NoMemory-clause-complete_load : goal.returns-in-Err-NoMemory-clause-complete_load
@@ -485,7 +486,7 @@ returns-in-Err-NoMemory-clause-complete_load g c n load none =
     inr c.without_memory-status.ensures.status
 
 pub returns-in-Err-NoMemory-clause-complete_serve : goal.returns-in-Err-NoMemory-clause-complete_serve
-returns-in-Err-NoMemory-clause-complete_serve g c path port desks serve shelf kept listener output =
+returns-in-Err-NoMemory-clause-complete_serve g c service serve shelf kept listener output =
     inr (inl c.without_memory-status.ensures.status)
 
 -- which file is opened, and which port is listened to
@@ -504,43 +505,43 @@ pub returns-in-Ok-Serve-clause-over_opens : goal.returns-in-Ok-Serve-clause-over
 returns-in-Ok-Serve-clause-over_opens g c path over =
     let words = map string_bytes c.args.words.now in
     let spells = subst (Spells words) c.in-Ok-Serve.field-0-is c.in-Ok-Serve.ensures.asked in
-    absurd (omega (arith, over_begins words path over, serve_begins words _ _ _ spells))
+    absurd (omega (arith, over_begins words path over, serve_begins words _ spells))
 
 pub returns-in-Ok-Batch-clause-serve_opens : goal.returns-in-Ok-Batch-clause-serve_opens
-returns-in-Ok-Batch-clause-serve_opens g c path port desks serve =
+returns-in-Ok-Batch-clause-serve_opens g c service serve =
     let words = map string_bytes c.args.words.now in
     let spells = subst (Spells words) c.in-Ok-Batch.field-0-is c.in-Ok-Batch.ensures.asked in
-    absurd (omega (arith, serve_begins words path port desks serve, batch_begins words spells))
+    absurd (omega (arith, serve_begins words service serve, batch_begins words spells))
 
 pub returns-in-Ok-Batch-clause-serve_listens : goal.returns-in-Ok-Batch-clause-serve_listens
-returns-in-Ok-Batch-clause-serve_listens g c path port desks serve =
+returns-in-Ok-Batch-clause-serve_listens g c service serve =
     let words = map string_bytes c.args.words.now in
     let spells = subst (Spells words) c.in-Ok-Batch.field-0-is c.in-Ok-Batch.ensures.asked in
-    absurd (omega (arith, serve_begins words path port desks serve, batch_begins words spells))
+    absurd (omega (arith, serve_begins words service serve, batch_begins words spells))
 
 pub returns-in-Ok-BatchOver-clause-serve_opens : goal.returns-in-Ok-BatchOver-clause-serve_opens
-returns-in-Ok-BatchOver-clause-serve_opens g c path port desks serve =
+returns-in-Ok-BatchOver-clause-serve_opens g c service serve =
     let words = map string_bytes c.args.words.now in
     let spells = subst (Spells words) c.in-Ok-BatchOver.field-0-is c.in-Ok-BatchOver.ensures.asked in
-    absurd (omega (arith, serve_begins words path port desks serve, over_begins words _ spells))
+    absurd (omega (arith, serve_begins words service serve, over_begins words _ spells))
 
 pub returns-in-Ok-BatchOver-clause-serve_listens : goal.returns-in-Ok-BatchOver-clause-serve_listens
-returns-in-Ok-BatchOver-clause-serve_listens g c path port desks serve =
+returns-in-Ok-BatchOver-clause-serve_listens g c service serve =
     let words = map string_bytes c.args.words.now in
     let spells = subst (Spells words) c.in-Ok-BatchOver.field-0-is c.in-Ok-BatchOver.ensures.asked in
-    absurd (omega (arith, serve_begins words path port desks serve, over_begins words _ spells))
+    absurd (omega (arith, serve_begins words service serve, over_begins words _ spells))
 
 pub returns-in-Ok-Load-clause-serve_opens : goal.returns-in-Ok-Load-clause-serve_opens
-returns-in-Ok-Load-clause-serve_opens g c path port desks serve =
+returns-in-Ok-Load-clause-serve_opens g c service serve =
     let words = map string_bytes c.args.words.now in
     let spells = subst (Spells words) c.in-Ok-Load.field-0-is c.in-Ok-Load.ensures.asked in
-    absurd (omega (arith, serve_begins words path port desks serve, load_begins words _ spells))
+    absurd (omega (arith, serve_begins words service serve, load_begins words _ spells))
 
 pub returns-in-Ok-Load-clause-serve_listens : goal.returns-in-Ok-Load-clause-serve_listens
-returns-in-Ok-Load-clause-serve_listens g c path port desks serve =
+returns-in-Ok-Load-clause-serve_listens g c service serve =
     let words = map string_bytes c.args.words.now in
     let spells = subst (Spells words) c.in-Ok-Load.field-0-is c.in-Ok-Load.ensures.asked in
-    absurd (omega (arith, serve_begins words path port desks serve, load_begins words _ spells))
+    absurd (omega (arith, serve_begins words service serve, load_begins words _ spells))
 
 pub returns-in-Ok-BatchOver-clause-over_opens : goal.returns-in-Ok-BatchOver-clause-over_opens
 returns-in-Ok-BatchOver-clause-over_opens g c path over =
@@ -550,18 +551,18 @@ returns-in-Ok-BatchOver-clause-over_opens g c path over =
     (one_path words _ path spells over) c.run_over-end.ensures.opens
 
 pub returns-in-Ok-Serve-clause-serve_opens : goal.returns-in-Ok-Serve-clause-serve_opens
-returns-in-Ok-Serve-clause-serve_opens g c path port desks serve =
+returns-in-Ok-Serve-clause-serve_opens g c service serve =
     let words = map string_bytes c.args.words.now in
     let spells = subst (Spells words) c.in-Ok-Serve.field-0-is c.in-Ok-Serve.ensures.asked in
-    inl (subst (λ (p : List ℕ). AsksAt g.H.Shelf.opened g.H.Shelf.openings p c.args.shelf.now c.serve_asked.new.shelf)
-    (one_service_path words _ path _ port _ desks spells serve) c.serve_asked.ensures.opens)
+    inl (subst (λ (of : Service). AsksAt g.H.Shelf.opened g.H.Shelf.openings of.path c.args.shelf.now c.serve_asked.new.shelf)
+    (one_service words _ service spells serve) c.serve_asked.ensures.opens)
 
 pub returns-in-Ok-Serve-clause-serve_listens : goal.returns-in-Ok-Serve-clause-serve_listens
-returns-in-Ok-Serve-clause-serve_listens g c path port desks serve =
+returns-in-Ok-Serve-clause-serve_listens g c service serve =
     let words = map string_bytes c.args.words.now in
     let spells = subst (Spells words) c.in-Ok-Serve.field-0-is c.in-Ok-Serve.ensures.asked in
-    subst (λ (p : ℕ). ListensTo g.L.Listener.listens_to g.L.Listener.accepts p c.args.listener c.serve_asked.result.listener)
-    (one_service_port words _ path _ port _ desks spells serve) c.serve_asked.ensures.listens
+    subst (λ (of : Service). ListensTo g.L.Listener.listens_to g.L.Listener.accepts of.port of.idle c.args.listener c.serve_asked.result.listener)
+    (one_service words _ service spells serve) c.serve_asked.ensures.listens
 
 pub returns-in-Err-Unknown-clause-over_opens : goal.returns-in-Err-Unknown-clause-over_opens
 returns-in-Err-Unknown-clause-over_opens g c path over =
@@ -570,25 +571,25 @@ returns-in-Err-Unknown-clause-over_opens g c path over =
     absurd (nothing.1 path over)
 
 pub returns-in-Err-Unknown-clause-serve_opens : goal.returns-in-Err-Unknown-clause-serve_opens
-returns-in-Err-Unknown-clause-serve_opens g c path port desks serve =
+returns-in-Err-Unknown-clause-serve_opens g c service serve =
     let words = map string_bytes c.args.words.now in
     let nothing = subst (IsFaultOf words) c.in-Err-Unknown.field-0-is c.in-Err-Unknown.ensures.fault in
-    absurd (nothing.5 path port desks serve)
+    absurd (nothing.5 service serve)
 
 pub returns-in-Err-Unknown-clause-serve_listens : goal.returns-in-Err-Unknown-clause-serve_listens
-returns-in-Err-Unknown-clause-serve_listens g c path port desks serve =
+returns-in-Err-Unknown-clause-serve_listens g c service serve =
     let words = map string_bytes c.args.words.now in
     let nothing = subst (IsFaultOf words) c.in-Err-Unknown.field-0-is c.in-Err-Unknown.ensures.fault in
-    absurd (nothing.5 path port desks serve)
+    absurd (nothing.5 service serve)
 
 pub returns-in-Err-NoMemory-clause-over_opens : goal.returns-in-Err-NoMemory-clause-over_opens
 returns-in-Err-NoMemory-clause-over_opens g c path over = inr refl
 
 pub returns-in-Err-NoMemory-clause-serve_opens : goal.returns-in-Err-NoMemory-clause-serve_opens
-returns-in-Err-NoMemory-clause-serve_opens g c path port desks serve = inr refl
+returns-in-Err-NoMemory-clause-serve_opens g c service serve = inr refl
 
 pub returns-in-Err-NoMemory-clause-serve_listens : goal.returns-in-Err-NoMemory-clause-serve_listens
-returns-in-Err-NoMemory-clause-serve_listens g c path port desks serve = inr (refl, refl)
+returns-in-Err-NoMemory-clause-serve_listens g c service serve = inr (refl, refl)
 
 -- `import`
 
@@ -656,16 +657,16 @@ returns-in-Ok-ImportInto-clause-load_opens_nothing g c n load =
     absurd (omega (arith, load_begins words n load, import_begins words _ spells))
 
 pub returns-in-Ok-ImportInto-clause-serve : goal.returns-in-Ok-ImportInto-clause-serve
-returns-in-Ok-ImportInto-clause-serve g c path port desks serve =
+returns-in-Ok-ImportInto-clause-serve g c service serve =
     let words = map string_bytes c.args.words.now in
     let spells = subst (Spells words) c.in-Ok-ImportInto.field-0-is c.in-Ok-ImportInto.ensures.asked in
-    absurd (omega (arith, serve_begins words path port desks serve, import_begins words _ spells))
+    absurd (omega (arith, serve_begins words service serve, import_begins words _ spells))
 
 pub returns-in-Ok-ImportInto-clause-serve_takes_nothing : goal.returns-in-Ok-ImportInto-clause-serve_takes_nothing
-returns-in-Ok-ImportInto-clause-serve_takes_nothing g c path port desks serve =
+returns-in-Ok-ImportInto-clause-serve_takes_nothing g c service serve =
     let words = map string_bytes c.args.words.now in
     let spells = subst (Spells words) c.in-Ok-ImportInto.field-0-is c.in-Ok-ImportInto.ensures.asked in
-    absurd (omega (arith, serve_begins words path port desks serve, import_begins words _ spells))
+    absurd (omega (arith, serve_begins words service serve, import_begins words _ spells))
 
 pub returns-in-Ok-ImportInto-clause-over_opens : goal.returns-in-Ok-ImportInto-clause-over_opens
 returns-in-Ok-ImportInto-clause-over_opens g c path over =
@@ -674,16 +675,16 @@ returns-in-Ok-ImportInto-clause-over_opens g c path over =
     absurd (omega (arith, over_begins words path over, import_begins words _ spells))
 
 pub returns-in-Ok-ImportInto-clause-serve_opens : goal.returns-in-Ok-ImportInto-clause-serve_opens
-returns-in-Ok-ImportInto-clause-serve_opens g c path port desks serve =
+returns-in-Ok-ImportInto-clause-serve_opens g c service serve =
     let words = map string_bytes c.args.words.now in
     let spells = subst (Spells words) c.in-Ok-ImportInto.field-0-is c.in-Ok-ImportInto.ensures.asked in
-    absurd (omega (arith, serve_begins words path port desks serve, import_begins words _ spells))
+    absurd (omega (arith, serve_begins words service serve, import_begins words _ spells))
 
 pub returns-in-Ok-ImportInto-clause-serve_listens : goal.returns-in-Ok-ImportInto-clause-serve_listens
-returns-in-Ok-ImportInto-clause-serve_listens g c path port desks serve =
+returns-in-Ok-ImportInto-clause-serve_listens g c service serve =
     let words = map string_bytes c.args.words.now in
     let spells = subst (Spells words) c.in-Ok-ImportInto.field-0-is c.in-Ok-ImportInto.ensures.asked in
-    absurd (omega (arith, serve_begins words path port desks serve, import_begins words _ spells))
+    absurd (omega (arith, serve_begins words service serve, import_begins words _ spells))
 
 pub returns-in-Ok-ImportInto-clause-complete : goal.returns-in-Ok-ImportInto-clause-complete
 returns-in-Ok-ImportInto-clause-complete g c batch source output few =
@@ -704,10 +705,10 @@ returns-in-Ok-ImportInto-clause-complete_load g c n load none =
     absurd (omega (arith, load_begins words n load, import_begins words _ spells))
 
 pub returns-in-Ok-ImportInto-clause-complete_serve : goal.returns-in-Ok-ImportInto-clause-complete_serve
-returns-in-Ok-ImportInto-clause-complete_serve g c path port desks serve shelf kept listener output =
+returns-in-Ok-ImportInto-clause-complete_serve g c service serve shelf kept listener output =
     let words = map string_bytes c.args.words.now in
     let spells = subst (Spells words) c.in-Ok-ImportInto.field-0-is c.in-Ok-ImportInto.ensures.asked in
-    absurd (omega (arith, serve_begins words path port desks serve, import_begins words _ spells))
+    absurd (omega (arith, serve_begins words service serve, import_begins words _ spells))
 
 pub returns-in-Ok-ImportInto-clause-import : goal.returns-in-Ok-ImportInto-clause-import
 returns-in-Ok-ImportInto-clause-import g c path import =
@@ -803,19 +804,19 @@ pub returns-in-Ok-Serve-clause-import : goal.returns-in-Ok-Serve-clause-import
 returns-in-Ok-Serve-clause-import g c path import =
     let words = map string_bytes c.args.words.now in
     let spells = subst (Spells words) c.in-Ok-Serve.field-0-is c.in-Ok-Serve.ensures.asked in
-    absurd (omega (arith, import_begins words path import, serve_begins words _ _ _ spells))
+    absurd (omega (arith, import_begins words path import, serve_begins words _ spells))
 
 pub returns-in-Ok-Serve-clause-import_opens : goal.returns-in-Ok-Serve-clause-import_opens
 returns-in-Ok-Serve-clause-import_opens g c path import =
     let words = map string_bytes c.args.words.now in
     let spells = subst (Spells words) c.in-Ok-Serve.field-0-is c.in-Ok-Serve.ensures.asked in
-    absurd (omega (arith, import_begins words path import, serve_begins words _ _ _ spells))
+    absurd (omega (arith, import_begins words path import, serve_begins words _ spells))
 
 pub returns-in-Ok-Serve-clause-complete_import : goal.returns-in-Ok-Serve-clause-complete_import
 returns-in-Ok-Serve-clause-complete_import g c path import source output shelf kept few =
     let words = map string_bytes c.args.words.now in
     let spells = subst (Spells words) c.in-Ok-Serve.field-0-is c.in-Ok-Serve.ensures.asked in
-    absurd (omega (arith, import_begins words path import, serve_begins words _ _ _ spells))
+    absurd (omega (arith, import_begins words path import, serve_begins words _ spells))
 
 pub returns-in-Err-Unknown-clause-import : goal.returns-in-Err-Unknown-clause-import
 returns-in-Err-Unknown-clause-import g c path import =
@@ -922,16 +923,16 @@ returns-in-Ok-AuditOf-clause-load_opens_nothing g c n load =
     absurd (omega (arith, load_begins words n load, audit_begins words _ spells))
 
 pub returns-in-Ok-AuditOf-clause-serve : goal.returns-in-Ok-AuditOf-clause-serve
-returns-in-Ok-AuditOf-clause-serve g c path port desks serve =
+returns-in-Ok-AuditOf-clause-serve g c service serve =
     let words = map string_bytes c.args.words.now in
     let spells = subst (Spells words) c.in-Ok-AuditOf.field-0-is c.in-Ok-AuditOf.ensures.asked in
-    absurd (omega (arith, serve_begins words path port desks serve, audit_begins words _ spells))
+    absurd (omega (arith, serve_begins words service serve, audit_begins words _ spells))
 
 pub returns-in-Ok-AuditOf-clause-serve_takes_nothing : goal.returns-in-Ok-AuditOf-clause-serve_takes_nothing
-returns-in-Ok-AuditOf-clause-serve_takes_nothing g c path port desks serve =
+returns-in-Ok-AuditOf-clause-serve_takes_nothing g c service serve =
     let words = map string_bytes c.args.words.now in
     let spells = subst (Spells words) c.in-Ok-AuditOf.field-0-is c.in-Ok-AuditOf.ensures.asked in
-    absurd (omega (arith, serve_begins words path port desks serve, audit_begins words _ spells))
+    absurd (omega (arith, serve_begins words service serve, audit_begins words _ spells))
 
 pub returns-in-Ok-AuditOf-clause-over_opens : goal.returns-in-Ok-AuditOf-clause-over_opens
 returns-in-Ok-AuditOf-clause-over_opens g c path over =
@@ -940,16 +941,16 @@ returns-in-Ok-AuditOf-clause-over_opens g c path over =
     absurd (omega (arith, over_begins words path over, audit_begins words _ spells))
 
 pub returns-in-Ok-AuditOf-clause-serve_opens : goal.returns-in-Ok-AuditOf-clause-serve_opens
-returns-in-Ok-AuditOf-clause-serve_opens g c path port desks serve =
+returns-in-Ok-AuditOf-clause-serve_opens g c service serve =
     let words = map string_bytes c.args.words.now in
     let spells = subst (Spells words) c.in-Ok-AuditOf.field-0-is c.in-Ok-AuditOf.ensures.asked in
-    absurd (omega (arith, serve_begins words path port desks serve, audit_begins words _ spells))
+    absurd (omega (arith, serve_begins words service serve, audit_begins words _ spells))
 
 pub returns-in-Ok-AuditOf-clause-serve_listens : goal.returns-in-Ok-AuditOf-clause-serve_listens
-returns-in-Ok-AuditOf-clause-serve_listens g c path port desks serve =
+returns-in-Ok-AuditOf-clause-serve_listens g c service serve =
     let words = map string_bytes c.args.words.now in
     let spells = subst (Spells words) c.in-Ok-AuditOf.field-0-is c.in-Ok-AuditOf.ensures.asked in
-    absurd (omega (arith, serve_begins words path port desks serve, audit_begins words _ spells))
+    absurd (omega (arith, serve_begins words service serve, audit_begins words _ spells))
 
 pub returns-in-Ok-AuditOf-clause-complete : goal.returns-in-Ok-AuditOf-clause-complete
 returns-in-Ok-AuditOf-clause-complete g c batch source output few =
@@ -970,10 +971,10 @@ returns-in-Ok-AuditOf-clause-complete_load g c n load none =
     absurd (omega (arith, load_begins words n load, audit_begins words _ spells))
 
 pub returns-in-Ok-AuditOf-clause-complete_serve : goal.returns-in-Ok-AuditOf-clause-complete_serve
-returns-in-Ok-AuditOf-clause-complete_serve g c path port desks serve shelf kept listener output =
+returns-in-Ok-AuditOf-clause-complete_serve g c service serve shelf kept listener output =
     let words = map string_bytes c.args.words.now in
     let spells = subst (Spells words) c.in-Ok-AuditOf.field-0-is c.in-Ok-AuditOf.ensures.asked in
-    absurd (omega (arith, serve_begins words path port desks serve, audit_begins words _ spells))
+    absurd (omega (arith, serve_begins words service serve, audit_begins words _ spells))
 
 pub returns-in-Ok-AuditOf-clause-audit : goal.returns-in-Ok-AuditOf-clause-audit
 returns-in-Ok-AuditOf-clause-audit g c path audit =
@@ -1084,19 +1085,19 @@ pub returns-in-Ok-Serve-clause-audit : goal.returns-in-Ok-Serve-clause-audit
 returns-in-Ok-Serve-clause-audit g c path audit =
     let words = map string_bytes c.args.words.now in
     let spells = subst (Spells words) c.in-Ok-Serve.field-0-is c.in-Ok-Serve.ensures.asked in
-    absurd (omega (arith, audit_begins words path audit, serve_begins words _ _ _ spells))
+    absurd (omega (arith, audit_begins words path audit, serve_begins words _ spells))
 
 pub returns-in-Ok-Serve-clause-audit_opens : goal.returns-in-Ok-Serve-clause-audit_opens
 returns-in-Ok-Serve-clause-audit_opens g c path audit =
     let words = map string_bytes c.args.words.now in
     let spells = subst (Spells words) c.in-Ok-Serve.field-0-is c.in-Ok-Serve.ensures.asked in
-    absurd (omega (arith, audit_begins words path audit, serve_begins words _ _ _ spells))
+    absurd (omega (arith, audit_begins words path audit, serve_begins words _ spells))
 
 pub returns-in-Ok-Serve-clause-complete_audit : goal.returns-in-Ok-Serve-clause-complete_audit
 returns-in-Ok-Serve-clause-complete_audit g c path audit output shelf kept =
     let words = map string_bytes c.args.words.now in
     let spells = subst (Spells words) c.in-Ok-Serve.field-0-is c.in-Ok-Serve.ensures.asked in
-    absurd (omega (arith, audit_begins words path audit, serve_begins words _ _ _ spells))
+    absurd (omega (arith, audit_begins words path audit, serve_begins words _ spells))
 
 pub returns-in-Ok-ImportInto-clause-audit : goal.returns-in-Ok-ImportInto-clause-audit
 returns-in-Ok-ImportInto-clause-audit g c path audit =

@@ -1,0 +1,3 @@
+pub mod Visiting
+pub mod WayTurns
+pub mod AtDesk

@@ -1,0 +1,15 @@
+-- The peer was served, and is handed back as it is then.
+use Rattle.std.proofs.Common.{refl}
+use Rattle.desk_connections.proofs.desk.serve_one.Goals as goal
+
+pub returns-clause-served : goal.returns-clause-served
+returns-clause-served g c =
+    let left = c.serve_desk-left in
+    record {
+      visit = record { peer = c.args.peer; peer_then = left.new.link; old = c.args.desk.pass.view; new = left.result.pass.view };
+      is = record { over = left.ensures.ended; end = left.result.end; serves = left.ensures.serves; still_open = left.ensures.still_open };
+      of = refl;
+      old = refl;
+      new = refl;
+      went = c.give_back.ensures.noted;
+    }

@@ -1,0 +1,3 @@
+pub mod Visits
+pub mod Ways
+pub mod Desks
