@@ -137,8 +137,11 @@ none_behind words before first behind is none after ([], spelled, gives) =
     no_option first behind (subst (λ (ws : List (List ℕ)). BeginsWithSetting ws first behind) spelled is)
 none_behind words before first behind is none after (setting ∷ settings, (rest, begins, more), gives) =
     let same = one_setting words first setting behind rest is begins in
-    none after (settings, subst (λ (ws : List (List ℕ)). SpellsSettings ws settings) (sym same.1) more,
-    subst (λ (x : Setting). Gives settings (with_value x before) after) (sym same.0) gives.1)
+    none after (
+      settings,
+      subst (λ (ws : List (List ℕ)). SpellsSettings ws settings) (sym same.1) more,
+      subst (λ (x : Setting). Gives settings (with_value x before) after) (sym same.0) gives.1,
+    )
 
 -- so what words that begin with a new one give is what those behind it give
 pub with_first : (words : List (List ℕ)) (before more : Given) (first : Setting) (behind : List (List ℕ)) (found : Option Options)

@@ -217,10 +217,22 @@ impl<'a> Options<'a> {
     {
         let value = Some(value);
         match name {
-            Name::File => Options { file: value, ..self },
-            Name::Port => Options { port: value, ..self },
-            Name::Desks => Options { desks: value, ..self },
-            Name::Idle => Options { idle: value, ..self },
+            Name::File => Options {
+                file: value,
+                ..self
+            },
+            Name::Port => Options {
+                port: value,
+                ..self
+            },
+            Name::Desks => Options {
+                desks: value,
+                ..self
+            },
+            Name::Idle => Options {
+                idle: value,
+                ..self
+            },
         }
     }
 }

@@ -20,9 +20,10 @@ pub returns-clause-noted : goal.returns-clause-noted
 returns-clause-noted g c =
     let noted = c.hang_up.ensures.noted in
     let taken = ap (λ s. s.log) c.book.ensures.value ∙ c.take-held.ensures.history in
-    let before = ap (λ v. v.made) c.take-held.ensures.pass.1 in
-    (noted.0,
-    made-added c.take-held.result.taken c.hang_up.new.self.log ((c.args.number.0, HungUp noted.0) ∷ []) c.take-held.result.view.made
-    c.give.result.view.made (noted.1 ∙ ap (λ l. l ++ (c.args.number.0, HungUp noted.0) ∷ []) taken) c.give.ensures.made
-    ∙ ap (λ l. l ++ (c.args.number.0, HungUp noted.0) ∷ []) before,
-    noted.2)
+    let before = ap (λ v. v.made) c.take-held.ensures.pass.1 in (
+      noted.0,
+      made-added c.take-held.result.taken c.hang_up.new.self.log ((c.args.number.0, HungUp noted.0) ∷ []) c.take-held.result.view.made
+          c.give.result.view.made (noted.1 ∙ ap (λ l. l ++ (c.args.number.0, HungUp noted.0) ∷ []) taken) c.give.ensures.made
+          ∙ ap (λ l. l ++ (c.args.number.0, HungUp noted.0) ∷ []) before,
+      noted.2,
+    )
