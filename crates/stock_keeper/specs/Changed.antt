@@ -11,8 +11,8 @@ use Rattle.stock_keeper.specs.declared.tables.Tables.{Tables}
 abbrev pub current_version : ℤ
 current_version = pos 2
 
--- The tables of version 1 as those of the version after it, and tables of each other version as they are. In version 1 no record closes
--- the past or takes another back, and else it is the same.
+-- Tables of version 1 as those of the version that is written now, and tables of each other version as they are. The two differ in
+-- nothing else: programs that write version 1 may not know records that close the past or take another back.
 abbrev pub upgraded : Tables → Tables
 upgraded tables =
     record tables { version = if int_eq tables.version (pos 1) then current_version else tables.version }

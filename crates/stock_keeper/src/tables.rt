@@ -10,8 +10,8 @@ use stock_nums::lines::Lines;
 use stock_nums::memory::NoMemory;
 use stock_nums::numbers::RecordNo;
 
-/// The version of the tables that are written now. Those of version 1 have no record that closes the past or takes another back, and
-/// are else the same.
+/// The version of the tables that are written now. Those of version 1 are kept alike, by programs that may not know records that close
+/// the past or take another back.
 pub const VERSION: i64 = 2;
 
 /// A record as it is kept.
