@@ -2,29 +2,31 @@
 use Rattle.std.proofs.Common.{◌≡◌, ◌≢◌, ◌↔◌, ℕ, List, [], ◌∷◌, ◌++◌, inl, inr, length, get_or, refl, sym, ap, ◌∙◌, subst, arith, codes, length-append}
 use Rattle.std.proofs.lemmas.List.{append_cancel_left}
 use Rattle.std.specs.Prelude.{Option, Some, None, MatchOption, ◌==◌, if◌then◌else◌}
-use Rattle.stock_words.specs.ServeWords.{Setting, BeginsWithSetting, BeginsWithNone, IsNotFirst, SpellsSettings, Given, none_given, Gives, SpellsGiven, SpellsNotGiven, Service, Means, MeansNothing, TellsNumber, TellsIdle, SpellsServe, SpellsNoService, given_of, service_of, option_text, value_of, with_value}
+use Rattle.stock_words.specs.ServeWords.{Setting, BeginsWithSetting, BeginsWithNone, IsNotFirst, SpellsSettings, Given, none_given, Gives, SpellsGiven, SpellsNotGiven, Service, Means, MeansNothing, TellsNumber, TellsConnections, TellsIdle, SpellsServe, SpellsNoService, given_of, service_of, option_text, value_of, with_value}
 use Rattle.std.specs.Str.Parse.{digits_value}
 use Rattle.stock_words.specs.declared.serve_words.Options.{Options}
 use Rattle.stock_words.specs.declared.serve_words.ServeWords.{ServeWords}
 use Rattle.stock_words.specs.declared.serve_words.Name.{Name}
-use Rattle.stock_words.specs.declared.serve_words.Name.TheVariants.{File, Port, Desks, Idle}
+use Rattle.stock_words.specs.declared.serve_words.Name.TheVariants.{File, Port, Desks, Connections, Idle}
 
 -- the byte by which an option is known
 abbrev initial : Name → ℕ
 initial File = 102
 initial Port = 112
 initial Desks = 100
+initial Connections = 99
 initial Idle = 105
 
 -- the option that is known by a byte
 abbrev name_by : ℕ → Name
 name_by byte =
-    if byte == 102 then File else (if byte == 112 then Port else (if byte == 100 then Desks else Idle))
+    if byte == 102 then File else (if byte == 112 then Port else (if byte == 100 then Desks else (if byte == 99 then Connections else Idle)))
 
 known_by : (name : Name) → name_by (initial name) ≡ name
 known_by File = refl
 known_by Port = refl
 known_by Desks = refl
+known_by Connections = refl
 known_by Idle = refl
 
 one_name : (a b : Name) → initial a ≡ initial b → a ≡ b
@@ -43,12 +45,14 @@ bare : (name : Name) → get_or (option_text name) 2 0 ≡ initial name
 bare File = refl
 bare Port = refl
 bare Desks = refl
+bare Connections = refl
 bare Idle = refl
 
 behind_it : (name : Name) (more : List ℕ) → get_or (option_text name ++ more) 2 0 ≡ initial name
 behind_it File more = refl
 behind_it Port more = refl
 behind_it Desks more = refl
+behind_it Connections more = refl
 behind_it Idle more = refl
 
 known : (words : List (List ℕ)) (setting : Setting) (rest : List (List ℕ)) → BeginsWithSetting words setting rest
@@ -103,13 +107,14 @@ one_spelling words (x ∷ xs) (y ∷ ys) (rest, begins, more) (rest', begins', m
     let others = one_spelling rest xs ys more (subst (λ (ws : List (List ℕ)). SpellsSettings ws ys) (sym same.1) more') in
     λ i. same.0 i ∷ others i
 
--- a word that begins with none of the four is no option
-pub none_of_four : (words : List (List ℕ)) → IsNotFirst words File → IsNotFirst words Port → IsNotFirst words Desks
-    → IsNotFirst words Idle → BeginsWithNone words
-none_of_four words file port desks idle (File, value) rest begins = file value rest begins
-none_of_four words file port desks idle (Port, value) rest begins = port value rest begins
-none_of_four words file port desks idle (Desks, value) rest begins = desks value rest begins
-none_of_four words file port desks idle (Idle, value) rest begins = idle value rest begins
+-- a word that begins with none of the five is no option
+pub none_of_five : (words : List (List ℕ)) → IsNotFirst words File → IsNotFirst words Port → IsNotFirst words Desks
+    → IsNotFirst words Connections → IsNotFirst words Idle → BeginsWithNone words
+none_of_five words file port desks connections idle (File, value) rest begins = file value rest begins
+none_of_five words file port desks connections idle (Port, value) rest begins = port value rest begins
+none_of_five words file port desks connections idle (Desks, value) rest begins = desks value rest begins
+none_of_five words file port desks connections idle (Connections, value) rest begins = connections value rest begins
+none_of_five words file port desks connections idle (Idle, value) rest begins = idle value rest begins
 
 -- words that don't begin with an option are none
 pub none_first : (words : List (List ℕ)) (before : Given) → words ≢ [] → BeginsWithNone words → SpellsNotGiven words before
@@ -169,6 +174,10 @@ one_number : (most : ℕ) (value : Option (List ℕ)) (m n : ℕ) → TellsNumbe
 one_number most None m n first second = absurd first
 one_number most (Some word) m n first second = sym first.told ∙ second.told
 
+one_count : (value : Option (List ℕ)) (desks m n : ℕ) → TellsConnections value desks m → TellsConnections value desks n → m ≡ n
+one_count None desks m n first second = first ∙ sym second
+one_count (Some word) desks m n first second = sym first.0.told ∙ second.0.told
+
 one_limit : (value : Option (List ℕ)) (a b : Option ℕ) → TellsIdle value a → TellsIdle value b → a ≡ b
 one_limit None None None first second = refl
 one_limit None None (Some n) first second = absurd second
@@ -183,8 +192,10 @@ one_meaning given a b first second =
     let path = same_some a.path b.path (sym first.path ∙ second.path) in
     let port = one_number _ given.port a.port b.port first.port second.port in
     let desks = one_number _ given.desks a.desks b.desks first.desks second.desks in
+    let connections = one_count given.connections b.desks a.connections b.connections
+    (subst (λ (n : ℕ). TellsConnections given.connections n a.connections) desks first.connections) second.connections in
     let idle = one_limit given.idle a.idle b.idle first.idle second.idle in
-    λ i. record { path = path i; port = port i; desks = desks i; idle = idle i }
+    λ i. record { path = path i; port = port i; desks = desks i; connections = connections i; idle = idle i }
 
 pub one_service : (words : List (List ℕ)) (a b : Service) → SpellsServe words a → SpellsServe words b → a ≡ b
 one_service words a b one other =

@@ -1,8 +1,8 @@
 //! The words of `serve`: its options, each at most once, in any order.
-ghost use Rattle.std.specs.Prelude.{◌≡◌, ◌≢◌, ◌∷◌, ℕ, List, None, MatchOption, codes, map, string_bytes};
+ghost use Rattle.std.specs.Prelude.{◌≡◌, ◌≢◌, ◌≤◌, ◌∷◌, ℕ, List, None, MatchOption, codes, map, string_bytes};
 ghost use Rattle.std.specs.Option.{option_map};
 ghost use Rattle.stock_words.specs.NumberWords.{IsNumber, IsNoNumber};
-ghost use Rattle.stock_words.specs.ServeWords.{SpellsServe, SpellsNoService, BeginsWithSetting, BeginsWithNone, IsNotFirst, SpellsGiven, SpellsNotGiven, Means, MeansNothing, TellsNumber, given_of, none_given, option_text, service_of, value_of, with_value};
+ghost use Rattle.stock_words.specs.ServeWords.{SpellsServe, SpellsNoService, BeginsWithSetting, BeginsWithNone, IsNotFirst, SpellsGiven, SpellsNotGiven, Means, MeansNothing, TellsNumber, TellsConnections, given_of, none_given, option_text, service_of, value_of, with_value};
 
 use crate::number_words::number_in;
 use crate::words::is_path;
@@ -10,6 +10,9 @@ use stock_nums::limits::MAX_DESK;
 
 /// The greatest number of a port.
 pub(crate) const MAX_PORT: u32 = 65_535;
+
+/// The most connections of a service.
+pub(crate) const MAX_CONNECTIONS: u32 = 4_294_967_295;
 
 /// The most seconds that a peer may be silent, where that is limited: a day.
 pub(crate) const MAX_IDLE: u32 = 86_400;
@@ -23,6 +26,8 @@ pub struct ServeWords<'a> {
     pub port: u16,
     /// How many desks, from 1 to 16.
     pub desks: u32,
+    /// How many connections, no fewer than desks. As many where that isn't said.
+    pub connections: u32,
     /// After how many seconds a silent peer is ended, from 1 to 86,400, where that is said.
     pub idle: Option<u32>,
 }
@@ -33,6 +38,7 @@ pub enum Name {
     File,
     Port,
     Desks,
+    Connections,
     Idle,
 }
 
@@ -42,6 +48,7 @@ pub struct Options<'a> {
     file: Option<&'a str>,
     port: Option<&'a str>,
     desks: Option<&'a str>,
+    connections: Option<&'a str>,
     idle: Option<&'a str>,
 }
 
@@ -120,6 +127,9 @@ fn any_option<'a>(word: &'a str, behind: &'a [String]) -> Option<Next<'a>>
     if let Some(next) = option_of(Name::Desks, word, behind) {
         return Some(next);
     }
+    if let Some(next) = option_of(Name::Connections, word, behind) {
+        return Some(next);
+    }
     if let Some(next) = option_of(Name::Idle, word, behind) {
         return Some(next);
     }
@@ -171,6 +181,7 @@ fn option_text(name: Name) -> &'static str
         Name::File => "--file",
         Name::Port => "--port",
         Name::Desks => "--desks",
+        Name::Connections => "--connections",
         Name::Idle => "--idle",
     }
 }
@@ -184,6 +195,7 @@ impl<'a> Options<'a> {
             file: None,
             port: None,
             desks: None,
+            connections: None,
             idle: None,
         }
     }
@@ -196,6 +208,7 @@ impl<'a> Options<'a> {
             Name::File => self.file,
             Name::Port => self.port,
             Name::Desks => self.desks,
+            Name::Connections => self.connections,
             Name::Idle => self.idle,
         }
     }
@@ -229,6 +242,10 @@ impl<'a> Options<'a> {
                 desks: value,
                 ..self
             },
+            Name::Connections => Options {
+                connections: value,
+                ..self
+            },
             Name::Idle => Options {
                 idle: value,
                 ..self
@@ -250,10 +267,14 @@ fn asked_by(options: Options<'_>) -> Option<ServeWords<'_>>
     let Some(desks) = number_of(options.desks, MAX_DESK as u32) else {
         return None;
     };
+    let Some(connections) = connections_of(options.connections, desks) else {
+        return None;
+    };
     let asked = ServeWords {
         path,
         port: port as u16,
         desks,
+        connections,
         idle: None,
     };
     match options.idle {
@@ -276,5 +297,19 @@ fn number_of(value: Option<&str>, most: u32) -> Option<u32>
     match value {
         Some(word) => number_in(word, most),
         None => None,
+    }
+}
+
+// How many connections the value tells, for so many desks: as many where there is none.
+fn connections_of(value: Option<&str>, desks: u32) -> Option<u32>
+    ensures { MatchOption result ((n : ℕ) → TellsConnections (option_map (λ word. word.now) value.entry) desks n → ⊥)
+        (TellsConnections (option_map (λ word. word.now) value.entry) desks) }
+{
+    let Some(word) = value else {
+        return Some(desks);
+    };
+    match number_in(word, MAX_CONNECTIONS) {
+        Some(connections) if desks <= connections => Some(connections),
+        _ => None,
     }
 }
