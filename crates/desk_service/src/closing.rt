@@ -5,7 +5,7 @@ use std::sync::Wait;
 use std::sync::atomic::{AtomicU64, Ordering};
 use std::time::Duration;
 
-// How long a worker rests where it found nothing to do, or a turn was refused.
+// The short time for which a worker rests where it found nothing to do, in milliseconds.
 const REST_MILLIS: u64 = 10;
 
 /// Whether the desks have ended: 1 then, and 0 before.
@@ -55,11 +55,12 @@ impl<'a, R: Wait> Shutdown for Watch<'a, R> {
 
     ghost begun = { λ watch. watch.is_closed };
 
-    fn rest(&mut self) {
+    fn rest(&mut self, times: u32) {
+        let millis = REST_MILLIS * u64::from(times);
         self.closing
             .word
-            .park_timeout(self.rt, 0, Duration::from_millis(REST_MILLIS));
-        self.rests = self.rests.saturating_add(1);
+            .park_timeout(self.rt, 0, Duration::from_millis(millis));
+        self.rests = self.rests.saturating_add(u64::from(times));
     }
 
     fn has_begun(&mut self) -> bool {

@@ -43,9 +43,7 @@ pub fn work<K: Keeper, L: Ledger, R: Wait>(
 {
     let Worker { pass, mut build } = worker;
     let mut steps = Steps::<L>::new(blank);
-    let mut gate = UntilShutdown {
-        shutdown: Watch::new(rt, closing),
-    };
+    let mut gate = UntilShutdown::new(Watch::new(rt, closing));
     let pass = run_worker(rt, alloc, lock, pass, &mut build, &mut gate, &mut steps);
     Worker { pass, build }
 }
