@@ -1,6 +1,4 @@
-pub mod Effects
 pub mod FaultSteps
-pub mod GoneWith
 pub mod HeldBalances
 pub mod MarkedSpots
 pub mod MovedRows

@@ -1,5 +1,4 @@
 pub mod Comparing
-pub mod Effects
 pub mod Findings
 pub mod KeySums
 pub mod LegalJournals

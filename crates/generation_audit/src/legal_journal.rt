@@ -5,9 +5,9 @@ ghost use Rattle.stock_model.specs.Entries.{entries};
 ghost use Rattle.stock_model.specs.Faults.{voucher_fault, full, fault_but_short, fault};
 ghost use Rattle.stock_model.specs.Journals.{AreLegal};
 ghost use Rattle.stock_model.specs.PostingOrder.{posting_line};
-ghost use Rattle.generation_audit.specs.Effects.{gone_with};
+ghost use Rattle.record_effects.specs.Effects.{gone_with};
 
-use crate::effect::Effect;
+use record_effects::effect::Effect;
 use quantity_check::running::Running;
 use std::alloc::Global;
 use std::marker::Model;

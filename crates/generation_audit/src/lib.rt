@@ -5,7 +5,6 @@ pub mod audit_laws;
 pub mod auditing;
 mod charges;
 mod comparing;
-mod effect;
 mod finding;
 mod legal_journal;
 mod moved;

@@ -1,6 +1,4 @@
 pub mod Books
-pub mod Effects
-pub mod GoneWith
 pub mod Filters
 pub mod ChangedRows
 pub mod OwnFaults

@@ -5,4 +5,3 @@ pub mod Refusals
 pub mod Handed
 pub mod Follows
 pub mod ClosedRows
-pub mod Effects

@@ -17,12 +17,12 @@ ghost use Rattle.repost_fetch.specs.Fetched.{IsFetchedOf};
 ghost use Rattle.kept_tables.specs.Kept.{IsKept};
 ghost use Rattle.generation_book.specs.State.{first_book};
 ghost use Rattle.generation_book.specs.ClosedRows.{HasClosedRows};
-ghost use Rattle.generation_book.specs.Effects.{gone_with};
+ghost use Rattle.record_effects.specs.Effects.{gone_with};
 ghost use Rattle.generation_book.specs.Handed.{IsHanded, AreHanded};
 ghost use Rattle.generation_book.specs.Refusals.{refusal_of, IsRefusalOf, IsAfterRefusal, HasTried, HasTriedFor, HasAsked, HasAskedFor};
 
 use crate::covered_heads::covered_heads;
-use crate::effect::Effect;
+use record_effects::effect::Effect;
 use crate::events::Event;
 use crate::merging::renewed_rows;
 use crate::selecting::count_until;

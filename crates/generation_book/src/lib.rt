@@ -5,7 +5,6 @@ pub use stock_model::queries::{Format, Need, Query, SelectFault, Selected, Sheet
 
 pub mod book;
 mod covered_heads;
-mod effect;
 pub mod events;
 pub mod logged;
 mod merging;

@@ -4,9 +4,9 @@ use Rattle.stock_model.specs.Entries.{entries}
 use Rattle.stock_model.specs.Faults.{fault}
 use Rattle.stock_model.specs.declared.records.Record.{Record}
 use Rattle.stock_laws.proofs.Legality.{NoFault-from}
-use Rattle.generation_audit.specs.Effects.{gone_with}
+use Rattle.record_effects.specs.Effects.{gone_with}
 use Rattle.generation_audit.specs.LegalJournals.{IsLegalJournal}
-use Rattle.generation_audit.proofs.Effects.{IsEffect, effect-line, effect-apart, effect-few, effect-enough}
+use Rattle.record_effects.proofs.Effects.{IsEffect, effect-line, effect-apart, effect-few, effect-enough}
 use Rattle.generation_audit.proofs.FaultSteps.{legal-more, IsLegalJournal-from}
 use Rattle.generation_audit.proofs.legal_journal.LegalJournal.add.Goals as goal
 

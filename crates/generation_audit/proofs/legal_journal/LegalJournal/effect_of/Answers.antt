@@ -6,7 +6,7 @@ use Rattle.stock_model.specs.Enough.{shortage}
 use Rattle.stock_model.specs.Faults.{fault_but_short, short_of}
 use Rattle.stock_model.specs.PostingOrder.{posting_line}
 use Rattle.stock_laws.proofs.Legality.{room-from}
-use Rattle.generation_audit.proofs.Effects.{IsEffect, effect-line, effect-apart, effect-held, effect-once, effect-few}
+use Rattle.record_effects.proofs.Effects.{IsEffect, effect-line, effect-apart, effect-held, effect-once, effect-few}
 use Rattle.generation_audit.proofs.FaultSteps.{fault-at_once, fault-short, fault-none, has_one}
 use Rattle.generation_audit.proofs.legal_journal.LegalJournal.effect_of.Goals as goal
 

@@ -8,10 +8,10 @@ use Rattle.stock_model.specs.Faults.{fault_but_short}
 use Rattle.stock_model.specs.PostingOrder.{posting_line}
 use Rattle.generation_book.specs.State.{BookState}
 use Rattle.generation_book.specs.Book.{deeds}
-use Rattle.generation_book.specs.Effects.{gone_with}
+use Rattle.record_effects.specs.Effects.{gone_with}
 use Rattle.stock_laws.proofs.Legality.{room-from}
 use Rattle.generation_book.proofs.Books.{history-records, fault-at_once, fault-short, fault-none}
-use Rattle.generation_book.proofs.Effects.{IsEffect, effect-line, effect-apart, effect-held, effect-once, effect-few}
+use Rattle.record_effects.proofs.Effects.{IsEffect, effect-line, effect-apart, effect-held, effect-once, effect-few}
 use Rattle.generation_book.proofs.book.Book.effect_of.Goals as goal
 
 pub returns-in-Some-clause-fault : goal.returns-in-Some-clause-fault

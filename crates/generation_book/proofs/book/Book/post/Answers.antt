@@ -19,14 +19,14 @@ use Rattle.kept_tables.specs.TablesOf.{tables_of}
 use Rattle.kept_tables.proofs.KeptRecords.{Follows-next}
 use Rattle.generation_book.specs.State.{BookState}
 use Rattle.generation_book.specs.Book.{deeds}
-use Rattle.generation_book.specs.Effects.{gone_with}
+use Rattle.record_effects.specs.Effects.{gone_with}
 use Rattle.generation_book.specs.Handed.{IsHanded}
 use Rattle.generation_book.specs.Refusals.{IsRefusalOf, HasTriedFor, HasAskedFor}
 use Rattle.generation_book.specs.declared.events.Event.{Event}
 use Rattle.generation_book.specs.declared.events.Event.TheVariants.{Kept}
 use Rattle.generation_book.proofs.Books.{records-deeds, history-records, IsBook-kept, deeds-kept, legal-kept, at_once-none, popped}
 use Rattle.generation_book.proofs.ClosedBooks.{closed-kept}
-use Rattle.generation_book.proofs.Effects.{IsEffect, effect-line, effect-apart, effect-few, effect-enough}
+use Rattle.record_effects.proofs.Effects.{IsEffect, effect-line, effect-apart, effect-few, effect-enough}
 use Rattle.generation_book.proofs.KeptBooks.{kept-appended, kept-unappended}
 use Rattle.generation_book.proofs.OwnFaults.{refused-for, refused-uncalled, refused-by, tried-uncalled, tried-by, asked-uncalled, asked-by}
 use Rattle.generation_book.proofs.book.Book.post.Goals as goal

@@ -2,9 +2,9 @@
 use Rattle.std.proofs.Common.{◌≡◌, ◌≤◌, [], length, filter, inl, inr, sym, ◌∙◌, arith}
 use Rattle.std.proofs.lemmas.Result.{IfOk-weaker}
 use Rattle.stock_model.specs.Entries.{is_of_record, all_entries}
-use Rattle.generation_audit.proofs.GoneWith.{none-dead, none-beyond, all-live}
-use Rattle.generation_audit.proofs.effect.live_entries_of.Goals as goal
-use Rattle.generation_audit.proofs.effect.live_entries_of.Goals.{then-number-eq0-via-then-number-eq0, then-number-eq0-via-else-number-eq0+then-number-count, then-number-eq0-via-else-number-eq0+else-number-count+then-not-is_live}
+use Rattle.record_effects.proofs.GoneWith.{none-dead, none-beyond, all-live}
+use Rattle.record_effects.proofs.effect.live_entries_of.Goals as goal
+use Rattle.record_effects.proofs.effect.live_entries_of.Goals.{then-number-eq0-via-then-number-eq0, then-number-eq0-via-else-number-eq0+then-number-count, then-number-eq0-via-else-number-eq0+else-number-count+then-not-is_live}
 
 pub returns-then-number-eq0 : goal.returns-then-number-eq0
 returns-then-number-eq0 c =

@@ -22,7 +22,7 @@ use Rattle.quantity_check.specs.OwnPlaces.{StandApart, HaveOwnPlaces}
 use Rattle.quantity_check.proofs.Members.{IsIn, IsIn-filter, IsIn-filtered, Contains-IsIn, Each-own, Each-in, Each-from_in, Each-put_all, AnyOf-put_all_new}
 use Rattle.quantity_check.proofs.OwnPlaceLemmas.{HaveOwnPlaces-related, HaveOwnPlaces-filter, HaveOwnPlaces-put_first}
 use Rattle.quantity_check.proofs.SplitLines.{line_without-kept}
-use Rattle.generation_book.specs.Effects.{is_taken_back, gone_with}
+use Rattle.record_effects.specs.Effects.{is_taken_back, gone_with}
 
 -- movements that differ stand at different places
 StandApart-Differ : (a b : Entry) → Differ a b → StandApart a b

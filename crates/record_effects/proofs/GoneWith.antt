@@ -9,8 +9,8 @@ use Rattle.stock_model.proofs.Pairwise.{Each}
 use Rattle.stock_laws.proofs.GoneEntries.{own-live}
 use Rattle.stock_laws.proofs.LiveEntries.{IsBetween, entries_after-between, filter-fails, Each-live}
 use Rattle.quantity_check.proofs.Members.{IsIn, Each-own, Each-from_in}
-use Rattle.generation_book.specs.Effects.{is_taken_back, gone_with}
-use Rattle.generation_book.proofs.Effects.{in_force, taken_back-spared}
+use Rattle.record_effects.specs.Effects.{is_taken_back, gone_with}
+use Rattle.record_effects.proofs.Effects.{in_force, taken_back-spared}
 
 -- what takes nothing back takes no movement
 pub gone_with-none : (journal : List Record) (item : Record) → ((k : ℕ) → takes_back k item ≡ false) → gone_with journal item ≡ []

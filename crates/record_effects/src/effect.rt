@@ -1,7 +1,7 @@
-//! What a record does to the movements of a book.
+//! Which movements come and which go with a record.
 ghost use Rattle.std.specs.Prelude.{◌≡◌, filter, IfOk};
 ghost use Rattle.stock_model.specs.Entries.{entries, is_of_record, all_entries};
-ghost use Rattle.generation_book.specs.Effects.{gone_with};
+ghost use Rattle.record_effects.specs.Effects.{gone_with};
 
 use std::alloc::Global;
 use stock_model::names::Returns;
@@ -15,16 +15,16 @@ use voucher_kinds::journal::Journal;
 
 /// Which movements come, and which go, where a record is accepted.
 #[derive(Drop)]
-pub(crate) struct Effect {
+pub struct Effect {
     /// The record's own.
-    pub(crate) adds: Lines<Entry>,
+    pub adds: Lines<Entry>,
     /// Those of earlier records that are in force no more.
-    pub(crate) gone: Lines<Entry>,
+    pub gone: Lines<Entry>,
 }
 
 impl Effect {
     /// What the record would do as the next one of the journal. The only error is want of memory.
-    pub(crate) fn of(alloc: Global, journal: &Journal, item: &Record) -> Result<Effect, NoMemory>
+    pub fn of(alloc: Global, journal: &Journal, item: &Record) -> Result<Effect, NoMemory>
         ensures adds { IfOk result (λ effect. effect.adds ≡ entries journal.now item.now) }
         ensures gone { IfOk result (λ effect. effect.gone ≡ gone_with journal.now item.now) }
     {

@@ -6,8 +6,8 @@ use Rattle.stock_nums.specs.declared.numbers.RecordNo.{RecordNo}
 use Rattle.stock_model.specs.declared.vouchers.What.{What}
 use Rattle.stock_model.specs.declared.vouchers.What.TheVariants.{Item, Store, Receipt, Issue, Transfer, CustomerReturn, SupplierReturn, Landed, Freeze, Cancel}
 use Rattle.stock_model.specs.Entries.{cancels}
-use Rattle.generation_audit.proofs.GoneWith.{gone_with-none, gone_with-one}
-use Rattle.generation_audit.proofs.effect.gone_with.Goals as goal
+use Rattle.record_effects.proofs.GoneWith.{gone_with-none, gone_with-one}
+use Rattle.record_effects.proofs.effect.gone_with.Goals as goal
 
 takes-named : (what : What) (target : RecordNo) → what ≡ Cancel target → (k : ℕ) → cancels k what ≡ nat_eq target.0 k
 unfolding cancels
