@@ -25,11 +25,11 @@ use crate::covered_heads::covered_heads;
 use record_effects::effect::Effect;
 use crate::events::Event;
 use crate::merging::renewed_rows;
-use crate::selecting::count_until;
 use crate::tried::Tried;
 use cost_links::replay;
 use kept_tables::publishing::changes_of;
 use quantity_check::running::Running;
+use report_selection::until::rows_until;
 use repost_fetch::fetch::{Fetched, fetch};
 use shared_list::list::SharedList;
 use std::alloc::Global;
@@ -378,10 +378,9 @@ impl<K: Keeper> Book<K> {
         ensures selected { IfOk result (λ chosen. (query : Query) → query.until ≡ until → chosen ≡ selected self.now.history query) }
         ensures of_book { IfOk result (λ chosen. (query : Query) → query.until ≡ until → IsSelected query chosen) }
     {
-        let count = count_until(self.rows.as_slice(), until);
         Ok(Selected {
             covered: self.covered,
-            rows: self.rows.front(count)?,
+            rows: rows_until(&self.rows, until)?,
             heads: self.heads.front(self.heads.len())?,
         })
     }

@@ -8,6 +8,5 @@ mod covered_heads;
 pub mod events;
 pub mod logged;
 mod merging;
-mod selecting;
 mod sending;
 mod tried;

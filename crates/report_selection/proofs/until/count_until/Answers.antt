@@ -5,8 +5,8 @@ use Rattle.std.proofs.lemmas.List.{take_all}
 use Rattle.std.proofs.lemmas.List.Sorted.{IsPartitionPoint-from_clause}
 use Rattle.stock_nums.specs.declared.moment.Moment.{Moment}
 use Rattle.stock_model.specs.Reports.{is_until}
-use Rattle.generation_book.proofs.Filters.{all-kept, front-passes}
-use Rattle.generation_book.proofs.selecting.count_until.Goals as goal
+use Rattle.report_selection.proofs.Filters.{all-kept, front-passes}
+use Rattle.report_selection.proofs.until.count_until.Goals as goal
 
 pub returns-in-Some-clause-front : goal.returns-in-Some-clause-front
 returns-in-Some-clause-front c =
