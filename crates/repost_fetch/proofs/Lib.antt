@@ -1,3 +1,4 @@
 pub mod FetchSteps
 pub mod ChargeSteps
 pub mod TakenRecords
+pub mod NoCancels

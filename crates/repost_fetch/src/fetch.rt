@@ -5,7 +5,7 @@ ghost use Rattle.cost_links.specs.Charged.{charge_pairs};
 ghost use Rattle.repost_fetch.specs.Fetched.{IsFetchedOf, going, uncharged_after};
 ghost use Rattle.repost_laws.specs.Changes.{coming};
 
-use crate::taken_back::{is_in_force, is_taken};
+use crate::taken_back::{has_cancel, is_in_force, is_taken};
 use cost_links::charges::{Charge, charges_from};
 use std::alloc::Global;
 use stock_nums::entry::Entry;
@@ -32,9 +32,9 @@ pub struct Fetched {
     pub uncharged: Lines<Charge>,
 }
 
-/// What the records of the journal after the first `after` ones bring and take back, nothing where there are no more. It goes
-/// over the records and asks of each whether a later one takes it back, and reads those that come or go, and the lines that they
-/// name.
+/// What the records of the journal after the first `after` ones bring and take back, nothing where there are no more. It reads
+/// those that come or go, and the lines that they name. Only where one of them takes another record back does it go over the
+/// earlier ones, and asks of each whether a later one takes it back.
 pub fn fetch(alloc: Global, journal: &Journal, after: RecordNo) -> Result<Fetched, NoMemory>
     requires within { after.0 ≤ length journal.now }
     ensures { IfOk result (IsFetchedOf (take after.0 journal.now) (drop after.0 journal.now)) }
@@ -80,6 +80,9 @@ fn entries_going(
     requires within { after.0 ≤ length journal.now }
     ensures { IfOk result (λ es. es ≡ going (take after.0 journal.now) (drop after.0 journal.now)) }
 {
+    if !has_cancel(&journal.records()[after.0 as usize..]) {
+        return Ok(Lines::new(alloc));
+    }
     let mut entries = Lines::new(alloc);
     for index in 0..after.0 {
         let number = RecordNo(index + 1);
@@ -101,6 +104,9 @@ fn charges_going(
     ensures { IfOk result (λ charges. charge_pairs charges ≡ uncharged_after (take after.0 journal.now) (drop after.0 journal.now)) }
 {
     let records = journal.records();
+    if !has_cancel(&records[after.0 as usize..]) {
+        return Ok(Lines::new(alloc));
+    }
     let mut charges = Lines::new(alloc);
     for index in 0..journal.count() {
         let number = RecordNo(index + 1);

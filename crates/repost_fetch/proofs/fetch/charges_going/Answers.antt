@@ -8,6 +8,7 @@ use Rattle.cost_links.specs.Charged.{charge_pairs}
 use Rattle.cost_links.specs.declared.charges.Charge.{Charge}
 use Rattle.repost_fetch.specs.Fetched.{is_taken, taken_charge}
 use Rattle.repost_fetch.proofs.ChargeSteps.{charged-next, nothing-next}
+use Rattle.repost_fetch.proofs.NoCancels.{uncharged-none, none-lent}
 use Rattle.repost_fetch.proofs.TakenRecords.{taken-whole}
 use Rattle.repost_fetch.proofs.fetch.charges_going.Goals as goal
 use Rattle.repost_fetch.proofs.fetch.charges_going.Goals.{then-is_taken+in_ok-own+in_ok-push_charges, else-is_taken}
@@ -18,6 +19,13 @@ read-in : (shown journal : List Record) (i : ℕ) (own : List Charge) → shown 
     → charge_pairs own ≡ flat_map (record_charged (take (i + 1) journal)) (drop i (take (i + 1) journal))
 read-in shown journal i own same read =
     read ∙ ap (λ (j : List Record). flat_map (record_charged (take (i + 1) j)) (drop i (take (i + 1) j))) same
+
+pub returns-then-not-has_cancel : goal.returns-then-not-has_cancel
+returns-then-not-has_cancel c =
+    let journal = c.args.journal.now in
+    let after = c.args.after.0 in
+    let none = none-lent c.records-records.result.now journal after c.records-records.ensures.records (sym c.has_cancel.ensures ∙ c.if-not-has_cancel.true) in
+    ap charge_pairs c.new.ensures ∙ sym (uncharged-none (take after journal) (drop after journal) none)
 
 pub loop-index-preserved : goal.loop-index-preserved
 loop-index-preserved c =

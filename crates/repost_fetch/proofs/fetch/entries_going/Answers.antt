@@ -7,9 +7,17 @@ use Rattle.stock_model.specs.declared.records.Record.{Record}
 use Rattle.repost_laws.specs.Touched.{is_gone}
 use Rattle.repost_fetch.specs.Fetched.{is_taken}
 use Rattle.repost_fetch.proofs.FetchSteps.{passed-next, left-out, entries_of-take}
+use Rattle.repost_fetch.proofs.NoCancels.{going-none, none-lent}
 use Rattle.repost_fetch.proofs.TakenRecords.{taken-whole}
 use Rattle.repost_fetch.proofs.fetch.entries_going.Goals as goal
 use Rattle.repost_fetch.proofs.fetch.entries_going.Goals.{then-is_taken+in_ok-own+in_ok-push_all, else-is_taken}
+
+pub returns-then-not-has_cancel : goal.returns-then-not-has_cancel
+returns-then-not-has_cancel c =
+    let journal = c.args.journal.now in
+    let after = c.args.after.0 in
+    let none = none-lent c.records.result.now journal after c.records.ensures.records (sym c.has_cancel.ensures ∙ c.if-not-has_cancel.true) in
+    c.new.ensures ∙ sym (going-none (take after journal) (drop after journal) none)
 
 pub loop-index-preserved : goal.loop-index-preserved
 loop-index-preserved c =
