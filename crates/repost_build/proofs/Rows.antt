@@ -54,8 +54,30 @@ valued-rows slots in_order =
     let found : AreFound slots slots = λ s held. Contains-found slots s in_order held in
     sym (valued-part slots slots found) ∙ ap (filter (is_valued (revalued_of slots))) (rows-part slots slots found)
 
+-- the first ones with one more
+front-next : (slots : List Slot) (i : ℕ) (s : Slot) → i < length slots → s ≡ get_or slots i s → take (i + 1) slots ≡ take i slots ++ s ∷ []
+front-next slots i s within is =
+    let next : i + 1 ≡ suc i = omega arith in
+    ap (λ (k : ℕ). take k slots) next ∙ take-suc slots i s within ∙ ap (λ (t : Slot). take i slots ++ t ∷ []) (sym is)
+
+-- and the rows of all are
+pub all-rows : (slots : List Slot) → IsInPostingOrder (map slot_entry slots)
+    → map slot_row slots ≡ found_rows (found_of slots) (map slot_entry slots)
+all-rows slots in_order = rows-part slots slots (λ s held. Contains-found slots s in_order held)
+
 pub valued-append : (xs ys : List Slot) → valued_rows (xs ++ ys) ≡ valued_rows xs ++ valued_rows ys
 valued-append xs ys = ap (map slot_row) (filter-append is_revalued xs ys) ∙ map-append slot_row (filter is_revalued xs) (filter is_revalued ys)
+
+-- the rows with one movement more
+pub rows-next : (slots : List Slot) (i : ℕ) (s : Slot) (before old new : List Row) → i < length slots → s ≡ get_or slots i s
+    → before ≡ old ++ map slot_row (take i slots) → new ≡ before ++ slot_row s ∷ []
+    → new ≡ old ++ map slot_row (take (i + 1) slots)
+rows-next slots i s before old new within is so_far now =
+    let front = front-next slots i s within is in
+    now ∙ ap (λ (rows : List Row). rows ++ slot_row s ∷ []) so_far
+    ∙ append_assoc old (map slot_row (take i slots)) (slot_row s ∷ [])
+    ∙ ap (λ (rows : List Row). old ++ rows) (sym (map-append slot_row (take i slots) (s ∷ [])))
+    ∙ ap (λ (ss : List Slot). old ++ map slot_row ss) (sym front)
 
 -- a movement's row, where it was valued
 abbrev pub own_row : Bool → Slot → List Row
@@ -66,9 +88,7 @@ pub valued-next : (slots : List Slot) (i : ℕ) (s : Slot) (before old new : Lis
     → before ≡ old ++ valued_rows (take i slots) → new ≡ before ++ own_row s.is_revalued s
     → new ≡ old ++ valued_rows (take (i + 1) slots)
 valued-next slots i s before old new within is so_far now =
-    let next : i + 1 ≡ suc i = omega arith in
-    let front : take (i + 1) slots ≡ take i slots ++ s ∷ [] =
-    ap (λ (k : ℕ). take k slots) next ∙ take-suc slots i s within ∙ ap (λ (t : Slot). take i slots ++ t ∷ []) (sym is) in
+    let front = front-next slots i s within is in
     now ∙ ap (λ (rows : List Row). rows ++ own_row s.is_revalued s) so_far
     ∙ append_assoc old (valued_rows (take i slots)) (own_row s.is_revalued s)
     ∙ ap (λ (rows : List Row). old ++ (valued_rows (take i slots) ++ rows)) (by_cases s.is_revalued)
@@ -94,3 +114,11 @@ valued-run slots run i old new beside so_far now =
     ∙ ap (λ (ss : List Slot). valued_rows (take i slots) ++ valued_rows ss) beside
     ∙ sym (valued-append (take i slots) (take (length run) (drop i slots)))
     ∙ ap valued_rows (sym (take-both i (length run) slots))
+
+pub rows-run : (slots run : List Slot) (i : ℕ) (old new : List Row) → run ≡ take (length run) (drop i slots)
+    → old ≡ map slot_row (take i slots) → new ≡ old ++ map slot_row run → new ≡ map slot_row (take (i + length run) slots)
+rows-run slots run i old new beside so_far now =
+    now ∙ ap (λ (rows : List Row). rows ++ map slot_row run) so_far
+    ∙ ap (λ (ss : List Slot). map slot_row (take i slots) ++ map slot_row ss) beside
+    ∙ sym (map-append slot_row (take i slots) (take (length run) (drop i slots)))
+    ∙ ap (map slot_row) (sym (take-both i (length run) slots))

@@ -166,6 +166,29 @@ impl Build {
         Some(entry.place)
     }
 
+    /// All movements, each with what it is worth, in posting order: the rows of the replay of the build's records. It goes over the
+    /// movements once, and looks at no record.
+    ///
+    /// # Errors
+    ///
+    /// `NoMemory`: memory was wanting.
+    pub fn rows(&self, alloc: Global) -> Result<Lines<Row>, NoMemory>
+        ghost journal: { List Record }
+        requires of { IsOf journal self.now }
+        requires clean { IsClean (posting_line journal) (suspects_in self.now) }
+        ensures { IfOk result (λ rows. rows ≡ replay journal) }
+    {
+        let count = self.movements.len();
+        let mut rows = Lines::from_vec(Vec::with_capacity(alloc, count)?);
+        let mut index = 0;
+        while index < count {
+            let run = self.movements.run_from(index);
+            push_rows(&mut rows, run)?;
+            index += run.len();
+        }
+        Ok(rows)
+    }
+
     /// The movements that were valued since the last publication, each with what it is worth, in posting order: these rows of
     /// the replay of the build's records replace those of the records that were published last, and all others stay but for those
     /// that are gone.
@@ -246,6 +269,16 @@ fn spot_of(entry: &Entry) -> Spot
         line: entry.place.line,
         side: entry.place.side,
     }
+}
+
+// Adds the rows of these movements at the end.
+fn push_rows(rows: &mut Lines<Row>, slots: &[Slot]) -> Result<(), NoMemory>
+    ensures { OnOk result (rows.new ≡ rows.old ++ map slot_row slots.now) }
+{
+    for slot in slots {
+        rows.push(row_of(slot))?;
+    }
+    Ok(())
 }
 
 // Adds the rows of those that were valued since the last publication at the end.
