@@ -4,6 +4,7 @@ ghost use Rattle.repost_fetch.specs.Changes.{spot_of_entry};
 
 use crate::records::{ITEM, RECEIPT, SALE, STORE, record};
 use generation_book::book::Book;
+use shared_list::list::SharedList;
 use std::alloc::Global;
 use stock_keeper::fault::KeepFault;
 use stock_keeper::keeper::Keeper;
@@ -43,10 +44,12 @@ fn publish_all(alloc: Global, book: &mut Book<Nowhere>) -> Result<RecordNo, Keep
     if covered.0 >= accepted.0 {
         return Ok(accepted);
     }
-    let rows = book.replayed(alloc)?;
+    let replayed = book.replayed(alloc)?;
+    let rows = SharedList::of(alloc, replayed)?;
     let fetched = book.fetch(alloc, covered)?;
     let gone = spots(alloc, fetched.gone.as_slice())?;
-    book.publish(alloc, accepted, rows.as_slice(), gone.as_slice())?;
+    let changed = rows.as_slice();
+    book.publish(alloc, accepted, &rows, changed, gone.as_slice())?;
     Ok(accepted)
 }
 

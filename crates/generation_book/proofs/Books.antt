@@ -39,8 +39,6 @@ use Rattle.generation_book.specs.declared.events.Event.TheVariants.{Kept, Publis
 use Rattle.repost_laws.proofs.JournalFronts.{AreLegal-front}
 use Rattle.repost_fetch.specs.Changes.{AreChanges}
 use Rattle.generation_book.specs.Book.{deeds, kept_count, IsBook}
-use Rattle.generation_book.specs.Merged.{is_live_row, merged}
-use Rattle.generation_book.proofs.ChangedRows.{left-live, merged-replay}
 
 -- the records of the history are those of the journal
 pub records-deeds : (events : List Event) (journal : List Record) → kept_count events ≡ length journal → history.records (deeds events journal) ≡ journal
@@ -189,26 +187,6 @@ pub AreBounded-first : (events : List Event) (journal : List Record) (line : Lis
 AreBounded-first events journal line c rows n book =
     AreBounded-replay (take n journal)
     (AreLegal-front (take n journal) (drop n journal) (subst AreLegal (sym (take-append-drop n journal)) (IsBook-legal events journal line c rows book)))
-
--- the rows that its first records were published with, by what changed of those that stay
-pub rows-changed : (events : List Event) (journal : List Record) (line : List Entry) (c : ℕ) (rows : List Row) (n : ℕ)
-    → IsBook events journal line c rows → c ≤ n → rows ≡ replay (take c (take n journal))
-rows-changed events journal line c rows n book early = book.valued ∙ ap replay (sym (take-take c n journal early))
-
--- a book after its first records were published by what changed
-pub IsBook-changed : (events : List Event) (journal : List Record) (line : List Entry) (c : ℕ) (rows : List Row) (n : RecordNo) (changed : List Row)
-    (spots : List Spot) → IsBook events journal line c rows → n.0 ≤ length journal → c < n.0 → AreChanges (take n.0 journal) c changed spots
-    → IsBook (events ++ Published n ∷ []) journal line n.0 (merged (filter (is_live_row (take n.0 journal)) rows) changed)
-IsBook-changed events journal line c rows n changed spots book within more are =
-    let first = take n.0 journal in
-    let old : rows ≡ replay (take c first) = rows-changed events journal line c rows n.0 book (omega (arith, more)) in
-    let left = filter (is_live_row first) rows in
-    let all : merged left changed ≡ replay first =
-    ap (λ (es : List Row). merged (filter (is_live_row first) es) changed) old
-    ∙ ap (λ (es : List Row). merged es changed) (sym (left-live first c (replay (take c first))))
-    ∙ merged-replay first c changed spots are in
-    IsBook-published events journal line c rows n (merged left changed) book within more all
-    (subst AreBounded (sym all) (AreBounded-first events journal line c rows n.0 book))
 
 -- the empty book
 pub IsBook-start : IsBook [] [] [] 0 []

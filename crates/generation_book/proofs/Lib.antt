@@ -1,5 +1,4 @@
 pub mod Books
-pub mod ChangedRows
 pub mod OwnFaults
 pub mod KeptBooks
 pub mod Following

@@ -1,6 +1,5 @@
 pub mod State
 pub mod Book
-pub mod Merged
 pub mod Refusals
 pub mod Handed
 pub mod Follows

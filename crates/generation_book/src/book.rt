@@ -22,13 +22,12 @@ ghost use Rattle.generation_book.specs.Handed.{IsHanded, AreHanded};
 ghost use Rattle.generation_book.specs.Refusals.{refusal_of, IsRefusalOf, IsAfterRefusal, HasTried, HasTriedFor, HasAsked, HasAskedFor};
 
 use crate::covered_heads::covered_heads;
-use record_effects::effect::Effect;
 use crate::events::Event;
-use crate::merging::renewed_rows;
 use crate::tried::Tried;
 use cost_links::replay;
 use kept_tables::publishing::changes_of;
 use quantity_check::running::Running;
+use record_effects::effect::Effect;
 use report_selection::until::rows_until;
 use repost_fetch::fetch::{Fetched, fetch};
 use shared_list::list::SharedList;
@@ -279,24 +278,29 @@ impl<K: Keeper> Book<K> {
         fetch(alloc, &self.journal, after)
     }
 
-    /// Publishes the first `n` records. `changed` are the rows of their replay that differ from those of the generation or are
-    /// new, in posting order; rows that stayed may be among them. `gone` are the spots of the rows of the generation whose records
-    /// are in force no more. It costs one pass over the rows, one more where some go, and no replay. All memory is taken first and
-    /// the keeper is called last.
+    /// Publishes the first `n` records. `rows` are those of their replay, made beforehand, and become the generation; of these
+    /// `changed` are those that differ from the rows of the generation before or are new, in posting order, and rows that stayed may
+    /// be among them. `gone` are the spots of the rows of the generation before whose records are in force no more. It goes over
+    /// what changed and the records that were not covered, and over no other row. All memory is taken first and the keeper is
+    /// called last. The generation before is answered, so that whoever has the book under a lock may free it once the book is given
+    /// back.
     ///
     /// # Errors
     ///
-    /// `Failed` where the keeper failed; `NoMemory` for want of memory. The history stays.
+    /// `Failed` where the keeper failed; `NoMemory` for want of memory, or where 2^63 hold the rows already. The history stays.
     pub fn publish(
         &mut self,
         alloc: Global,
         n: RecordNo,
+        rows: &SharedList<Row>,
         changed: &[Row],
         gone: &[Spot],
-    ) -> Result<(), KeepFault>
+    ) -> Result<SharedList<Row>, KeepFault>
         requires later { history.covered self.old.history < n.0 }
         requires within { n.0 ≤ history.accepted self.old.history }
+        requires rows { rows.now ≡ replay (take n.0 (history.records self.old.history)) }
         requires changed { AreChanges (take n.0 (history.records self.old.history)) (history.covered self.old.history) changed.now gone.now }
+        ensures before { IfOk result (λ before. before ≡ replay (history.covered_records self.old.history)) }
         ensures published { OnOk result (self.new.history ≡ self.old.history ++ deed.Published n ∷ []) }
         ensures unchanged { OnErr result (self.new.history ≡ self.old.history) }
         ensures opened { self.new.opened ≡ self.old.opened }
@@ -310,10 +314,8 @@ impl<K: Keeper> Book<K> {
         ensures asked { IfErr result (λ f. HasAsked f self.old.calls self.new.calls) }
         ensures legal { OnOk result (history.IsLegal self.new.history) }
     {
-        let most = self.movements.timeline().len();
-        let old = self.rows.as_slice();
-        let renewed = renewed_rows(alloc, &self.journal, n, old, changed, gone, most)?;
-        let rows = SharedList::of(alloc, renewed)?;
+        let before = shared(&self.rows)?;
+        let generation = shared(rows)?;
         let records = &self.journal.records()[..n.0 as usize];
         let heads = covered_heads(alloc, &self.heads, records, self.covered)?;
         let changes = handed_changes(alloc, &self.keeper, changed, gone)?;
@@ -328,9 +330,9 @@ impl<K: Keeper> Book<K> {
         self.tried = Tried::new();
         self.events.push_reserved(Event::Published(n));
         self.covered = n;
-        self.rows = rows;
+        self.rows = generation;
         self.heads = heads;
-        Ok(())
+        Ok(before)
     }
 
     /// Whether the generation covers the record that the report has to cover. It takes no memory.
@@ -452,6 +454,13 @@ impl<K: Keeper> Book<K> {
         } = self;
         keeper
     }
+}
+
+// The same list once more, of which nothing is copied. The only error is that 2^63 hold it already.
+fn shared<T: Drop>(list: &SharedList<T>) -> Result<SharedList<T>, NoMemory>
+    ensures { IfOk result (λ same. same ≡ list.now) }
+{
+    list.front(list.len())
 }
 
 // What a keeper is handed of a record: its stored text, or nothing where nothing is kept. The only error is want of memory.

@@ -7,6 +7,5 @@ pub mod book;
 mod covered_heads;
 pub mod events;
 pub mod logged;
-mod merging;
 mod sending;
 mod tried;

@@ -1,3 +1,4 @@
+pub mod Publications
 pub mod Turns
 pub mod Published
 pub mod Runs

@@ -2,6 +2,7 @@
 #![tactic(auto)]
 
 pub mod opening;
+pub mod publication;
 pub mod revalued_book;
 pub mod run;
 pub mod run_laws;

@@ -7,6 +7,7 @@ ghost use Rattle.stock_keeper.specs.Calls.{IsDone, IsRefused, AreDone};
 ghost use Rattle.repost_build.specs.Readings.{target_of, IsUnchanged};
 ghost use Rattle.repost_worker.specs.Turns.{IsWorkOf, IsCleanOf, CanFetch, CanPublish, IsFetched, IsPublished, IsTurnTo, publications, valuations};
 
+use crate::publication::Publication;
 use generation_book::book::Book;
 use repost_build::build::Build;
 use std::alloc::Global;
@@ -104,8 +105,9 @@ fn turn_of<K: Keeper, L: Ledger>(
     Ok(Turned::Idle)
 }
 
-// Whether records wait that the next turn may fetch.
-fn can_fetch<K: Keeper>(book: &Book<K>, build: &Build) -> bool
+/// Whether records wait that the next turn may fetch: fewer than 4 fetches were made since the last publication. It takes no
+/// memory.
+pub fn can_fetch<K: Keeper>(book: &Book<K>, build: &Build) -> bool
     ensures { IsTrue result ↔ CanFetch book.now.history build.now }
 {
     build.target().0 < book.accepted().0 && build.fetches() < MAX_FETCHES
@@ -153,8 +155,9 @@ fn publish_all<K: Keeper>(
     ensures build_stays { OnErr result (build.new ≡ build.old) }
 {
     let target = build.target();
-    let changed = build.changed(alloc)?;
-    book.publish(alloc, target, changed.as_slice(), build.gone())?;
+    let ready = Publication::of(alloc, build)?;
+    let changed = ready.changed.as_slice();
+    book.publish(alloc, target, &ready.rows, changed, build.gone())?;
     build.published();
     Ok(target)
 }

@@ -1,9 +1,10 @@
 -- What the build valued is what the book has to change.
-use Rattle.std.proofs.Common.{ℕ, List, length, take, sym, ap, ◌∙◌, subst}
+use Rattle.std.proofs.Common.{◌≡◌, ℕ, List, length, take, sym, ap, ◌∙◌, subst}
 use Rattle.stock_nums.specs.declared.entry.Row.{Row}
 use Rattle.stock_nums.specs.declared.place.Spot.{Spot}
 use Rattle.stock_model.specs.History.{covered}
 use Rattle.stock_model.specs.PostingOrder.{posting_line}
+use Rattle.stock_model.specs.Replay.{replay}
 use Rattle.stock_model.specs.declared.deeds.Deed.{Deed}
 use Rattle.stock_model.specs.declared.records.Record.{Record}
 use Rattle.repost_fetch.specs.Changes.{AreChanges}
@@ -25,14 +26,21 @@ pub publish-requires-clause-changed : goal.publish-requires-clause-changed
 publish-requires-clause-changed g c =
     let build = c.args.build.now in
     let history = c.args.book.now.history in
-    let rows = c.as_slice.result.now in
+    let rows = c.as_slice-changed.result.now in
     let spots = c.gone.result.now in
     subst (λ (rs : List Record). AreChanges (take c.target-target.result.0 rs) (covered history) rows spots) (sym c.requires.1.0)
     (subst (λ (n : ℕ). AreChanges (take n g.all) (covered history) rows spots) (sym c.target-target.ensures)
     (subst (λ (b : ℕ). AreChanges (take (target_of build) g.all) b rows spots) c.requires.1.1.0.base
-    (subst (λ (changed : List Row). AreChanges (take (target_of build) g.all) (base_of build) changed spots) (sym c.as_slice.ensures)
-    (subst (λ (gone : List Spot). AreChanges (take (target_of build) g.all) (base_of build) c.in_ok-changed.changed gone) (sym c.gone.ensures)
-    c.in_ok-changed.ensures.changes))))
+    (subst (λ (changed : List Row). AreChanges (take (target_of build) g.all) (base_of build) changed spots) (sym c.as_slice-changed.ensures)
+    (subst (λ (gone : List Spot). AreChanges (take (target_of build) g.all) (base_of build) c.in_ok-ready.ready.changed gone) (sym c.gone.ensures)
+    c.in_ok-ready.ensures.changes))))
+
+pub publish-requires-clause-rows : goal.publish-requires-clause-rows
+publish-requires-clause-rows g c =
+    let build = c.args.build.now in
+    let rows = c.in_ok-ready.ready.rows in
+    subst (λ (rs : List Record). rows ≡ replay (take c.target-target.result.0 rs)) (sym c.requires.1.0)
+    (subst (λ (n : ℕ). rows ≡ replay (take n g.all)) (sym c.target-target.ensures) c.in_ok-ready.ensures.rows)
 
 pub returns-clause-published : goal.returns-clause-published
 returns-clause-published g c =

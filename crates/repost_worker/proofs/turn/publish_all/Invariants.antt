@@ -3,8 +3,8 @@ use Rattle.std.specs.Prelude.{take}
 use Rattle.repost_build.specs.Readings.{target_of}
 use Rattle.repost_worker.proofs.turn.publish_all.Given as goal
 
-abbrev pub ghost-changed : goal.ghost-changed
-ghost-changed g a = take (target_of a.self.now) g.all
+abbrev pub ghost-of : goal.ghost-of
+ghost-of g a = take (target_of a.build.now) g.all
 
 abbrev pub ghost-published : goal.ghost-published
 ghost-published g a = take (target_of a.self.now) g.all
