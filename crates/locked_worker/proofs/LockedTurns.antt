@@ -1,5 +1,5 @@
 -- A build that works for what a pass has seen works for what the lock hands out, and its turn there is one of the policy.
-use Rattle.std.proofs.Common.{◌≡◌, List, ◌++◌, length, take, drop, Result, Ok, Err, IfOk, OnErr, sym, ap, ◌∙◌, subst, length-append, arith}
+use Rattle.std.proofs.Common.{◌≡◌, ℕ, List, ◌++◌, length, take, drop, Result, Ok, Err, IfOk, OnErr, sym, ap, ◌∙◌, subst, length-append, arith}
 use Rattle.std.proofs.lemmas.Bool.{false≢true}
 use Rattle.std.proofs.lemmas.List.{take-append-le}
 use Rattle.stock_nums.specs.declared.place.Place.{Place}
@@ -15,7 +15,9 @@ use Rattle.repost_build.specs.Readings.{suspects_in, target_of, IsUnchanged}
 use Rattle.repost_build.specs.declared.build.Build.{Build}
 use Rattle.turn_lock.specs.Histories.{made_by}
 use Rattle.turn_lock.specs.declared.view.View.{View}
-use Rattle.session_laws.specs.Makers.{without_makers}
+use Rattle.session_laws.specs.Makers.{with_makers, without_makers}
+use Rattle.session_laws.proofs.MakersOf.{without_makers-with_makers}
+use Rattle.locked_worker.specs.declared.stop.Stopped.{Stopped}
 use Rattle.locked_worker.specs.LockedTurns.{IsTurnAtStop, IsLockedTurn}
 use Rattle.repost_worker.specs.Turns.{records_of, IsWorkOf, IsCleanOf}
 use Rattle.repost_worker.specs.declared.turn.Turned.{Turned}
@@ -54,10 +56,22 @@ module _ (pass : View Deed) (history : List Deed) (build : Build) (handed : IsHa
       subst (λ (h : List Deed). IsWorkOf h build) (sym (taken-is pass.seen history handed.begins))
       (work-more (without_makers pass.seen) (drop (length pass.seen) history) build none work)
 
+  pub records_of-handed : records_of history build ≡ records_of (without_makers pass.seen) build
+  records_of-handed =
+      ap (λ (h : List Deed). records_of h build) (taken-is pass.seen history handed.begins)
+      ∙ records_of-more (without_makers pass.seen) (drop (length pass.seen) history) build none work
+
   pub clean-handed : IsCleanOf (without_makers pass.seen) build → IsCleanOf history build
   clean-handed clean =
       subst (λ (h : List Deed). IsCleanOf h build) (sym (taken-is pass.seen history handed.begins))
       (clean-more (without_makers pass.seen) (drop (length pass.seen) history) build none work clean)
+
+-- where nothing was added it works for what is seen after the stop
+pub work-stays : (r : Result Stopped KeepFault) (history now : List Deed) (seen : List (ℕ × Deed)) (build : Build) → OnErr r (now ≡ history)
+    → seen ≡ with_makers now → IsWorkOf history build → OnErr r (IsWorkOf (without_makers seen) build)
+work-stays (Ok stopped) history now seen build stays is work = tt
+work-stays (Err fault) history now seen build stays is work =
+    subst (λ (h : List Deed). IsWorkOf h build) (sym (ap without_makers is ∙ without_makers-with_makers now ∙ stays)) work
 
 -- a build that did not change did not change
 unchanged-through : (old mid new : Build) → IsUnchanged old mid → IsUnchanged mid new → IsUnchanged old new

@@ -1,4 +1,4 @@
--- What the lock's clauses say of a turn of the worker, in the words of its stop.
+-- What the lock's clauses say of what a worker does while it holds it, in the words of its stop.
 use Rattle.std.proofs.Common.{◌≡◌, ℕ, ◌+◌, ◌-◌, ◌≤◌, ◌<◌, ◌^◌, List, [], ◌∷◌, ◌++◌, length, Result, Ok, Err, IfOk, IfErr, OnErr, refl, sym, ap, ◌∙◌, subst, append-nil, arith}
 use Rattle.std.specs.Prelude.{All}
 use Rattle.std.proofs.lemmas.List.Elements.{All-nil, All-cons}
@@ -15,32 +15,37 @@ use Rattle.generation_book.specs.State.{BookState}
 use Rattle.generation_book.specs.Follows.{Follows}
 use Rattle.generation_book.proofs.Following.{follows-on}
 use Rattle.session_laws.specs.Makers.{with_makers}
-use Rattle.locked_worker.specs.LockedTurns.{IsStop, IsTurnAtStop, IsRefusedTurn}
-use Rattle.repost_worker.specs.Turns.{IsTurnTo, publications}
+use Rattle.locked_worker.specs.LockedTurns.{IsStop, IsRefusedTurn}
+use Rattle.locked_worker.specs.Stopped.{IsStoppedOn, IsStoppedAt, publications_at}
+use Rattle.repost_worker.specs.Turns.{IsWorkOf, IsCleanOf}
 use Rattle.repost_build.specs.declared.build.Build.{Build}
-use Rattle.repost_worker.specs.declared.turn.Turned.{Turned}
-use Rattle.repost_worker.specs.declared.turn.Turned.TheVariants.{Valued, Fetched, Published, Idle}
+use Rattle.locked_worker.specs.declared.stop.Stopped.{Stopped}
+use Rattle.locked_worker.specs.declared.stop.Stopped.TheVariants.{Fetched, Published, Idle}
 use Rattle.session_laws.proofs.MakersOf.{length-with_makers}
 use Rattle.locked_worker.proofs.LockedHistories.{with_makers-begins, past-grown}
-use Rattle.repost_worker.proofs.Working.{turn-grows}
 
--- what a turn adds to the history, and that number 0 makes it
+-- what is done at a stop adds to the history what it publishes, and that number 0 makes it
 pub record AddsOwn (old new : List Deed) : Type 0 where
   pub added : List Deed
   pub grows : new ≡ old ++ added
   pub own : All (λ (e : ℕ × Deed). e.0 ≡ 0) (with_makers added)
 
-publications-own : (turned : Turned) → All (λ (e : ℕ × Deed). e.0 ≡ 0) (with_makers (publications turned))
-publications-own (Valued place) = All-nil (λ (e : ℕ × Deed). e.0 ≡ 0)
-publications-own (Fetched n) = All-nil (λ (e : ℕ × Deed). e.0 ≡ 0)
-publications-own (Published n) = All-cons (λ (e : ℕ × Deed). e.0 ≡ 0) (0, deed.Published n) [] refl (All-nil (λ (e : ℕ × Deed). e.0 ≡ 0))
+pub stop-grows : (old new : List Deed) (build : Build) (stopped : Stopped) → IsStoppedOn old build stopped new
+    → new ≡ old ++ publications_at stopped
+stop-grows old new build (Fetched n fetched) on = on.4 ∙ sym (append-nil old)
+stop-grows old new build (Published n before) on = on.3
+stop-grows old new build Idle on = on.1 ∙ sym (append-nil old)
+
+publications-own : (stopped : Stopped) → All (λ (e : ℕ × Deed). e.0 ≡ 0) (with_makers (publications_at stopped))
+publications-own (Fetched n fetched) = All-nil (λ (e : ℕ × Deed). e.0 ≡ 0)
+publications-own (Published n before) = All-cons (λ (e : ℕ × Deed). e.0 ≡ 0) (0, deed.Published n) [] refl (All-nil (λ (e : ℕ × Deed). e.0 ≡ 0))
 publications-own Idle = All-nil (λ (e : ℕ × Deed). e.0 ≡ 0)
 
-pub adds-own : (r : Result Turned KeepFault) (old new : List Deed) (build next : Build)
-    → IfOk r (λ turned. IsTurnTo old build turned new next) → OnErr r (new ≡ old) → AddsOwn old new
-adds-own (Ok turned) old new build next turn stays =
-    record { added = publications turned; grows = turn-grows old new build next turned turn; own = publications-own turned }
-adds-own (Err fault) old new build next turn stays =
+pub adds-own : (r : Result Stopped KeepFault) (old new : List Deed) (build : Build)
+    → IfOk r (λ stopped. IsStoppedOn old build stopped new) → OnErr r (new ≡ old) → AddsOwn old new
+adds-own (Ok stopped) old new build on stays =
+    record { added = publications_at stopped; grows = stop-grows old new build stopped on; own = publications-own stopped }
+adds-own (Err fault) old new build on stays =
     record { added = []; grows = stays ∙ sym (append-nil old); own = All-nil (λ (e : ℕ × Deed). e.0 ≡ 0) }
 
 -- what `give` requires of what was added
@@ -63,20 +68,20 @@ no_fault-done [] old new done = ap (λ (k : KeeperState). k.faults) done
 no_fault-done (x ∷ xs) old new done = no_fault-done xs done.0 new done.2 ∙ done.1.no_fault
 
 -- and no count falls
-pub never_falls : (r : Result Turned KeepFault) (old new : KeeperState) → IfOk r (λ turned. AreDone (publications turned) old new)
+pub never_falls : (r : Result Stopped KeepFault) (old new : KeeperState) → IfOk r (λ stopped. AreDone (publications_at stopped) old new)
     → IfErr r (λ fault. IsRefused fault old new) → old.faults ≤ new.faults
-never_falls (Ok turned) old new done refused = omega (arith, no_fault-done (publications turned) old new done)
+never_falls (Ok stopped) old new done refused = omega (arith, no_fault-done (publications_at stopped) old new done)
 never_falls (Err fault) old new done refused = never_falls-refused fault old new refused
 
--- the keeper was called for each event that the turn added
-pub follows-turn : (start : Start) (r : Result Turned KeepFault) (old new : BookState) (build next : Build) → Follows start old
-    → IfOk r (λ turned. IsTurnTo old.history build turned new.history next) → OnErr r (new.history ≡ old.history)
-    → IfOk r (λ turned. AreDone (publications turned) old.keeper new.keeper) → IfErr r (λ fault. IsRefused fault old.keeper new.keeper)
+-- the keeper was called for each event that was added
+pub follows-stop : (start : Start) (r : Result Stopped KeepFault) (old new : BookState) (build : Build) → Follows start old
+    → IfOk r (λ stopped. IsStoppedOn old.history build stopped new.history) → OnErr r (new.history ≡ old.history)
+    → IfOk r (λ stopped. AreDone (publications_at stopped) old.keeper new.keeper) → IfErr r (λ fault. IsRefused fault old.keeper new.keeper)
     → Follows start new
-follows-turn start (Ok turned) old new build next before turn stays done refused =
-    follows-on start old new (publications turned) before (turn-grows old.history new.history build next turned turn)
-    (called-done (publications turned) old.keeper new.keeper done)
-follows-turn start (Err fault) old new build next before turn stays done refused =
+follows-stop start (Ok stopped) old new build before on stays done refused =
+    follows-on start old new (publications_at stopped) before (stop-grows old.history new.history build stopped on)
+    (called-done (publications_at stopped) old.keeper new.keeper done)
+follows-stop start (Err fault) old new build before on stays done refused =
     follows-on start old new [] before (stays ∙ sym (append-nil old.history)) (called-refused fault old.keeper new.keeper refused)
 
 -- what the lock handed out: all that the pass had seen and more, and none of that is of pass 0
@@ -125,24 +130,27 @@ module _ (pass held new : View Deed) (taken : List (ℕ × Deed)) (history now :
             given.rest ∙ ap (λ (v : View Deed). record v { seen = new.seen; seen_faults = new.seen_faults; made = new.made; stops = new.stops; faults = new.faults }) given.same;
       }
 
-  -- the turn that was made
+  -- what was done
   module _ (keeper keeper' : KeeperState) (counted : new.faults ≡ pass.faults + (keeper'.faults - keeper.faults)) where
-    pub made-at_stop : (r : Result Turned KeepFault) (build build' : Build) → IfOk r (λ turned. IsTurnTo history build turned now build')
-        → IfOk r (λ turned. AreDone (publications turned) keeper keeper') → IfOk r (λ turned. IsTurnAtStop pass build turned new build')
-    made-at_stop (Err fault) build build' turn done = tt
-    made-at_stop (Ok turned) build build' turn done =
-        let grows = turn-grows history now build build' turned turn in
+    pub stopped-at : (r : Result Stopped KeepFault) (build : Build) → IsWorkOf history build → IsCleanOf history build
+        → IfOk r (λ stopped. IsStoppedOn history build stopped now) → IfOk r (λ stopped. AreDone (publications_at stopped) keeper keeper')
+        → IfOk r (λ stopped. IsStoppedAt pass build stopped new)
+    stopped-at (Err fault) build work clean on done = tt
+    stopped-at (Ok stopped) build work clean on done =
+        let grows = stop-grows history now build stopped on in
         record {
           taken = history;
-          stop = stop-given (publications turned) grows;
-          turn = subst (λ (h : List Deed). IsTurnTo history build turned h build') grows turn;
-          no_fault = omega (arith, counted, no_fault-done (publications turned) keeper keeper' done);
+          stop = stop-given (publications_at stopped) grows;
+          work = work;
+          clean = clean;
+          on = subst (λ (h : List Deed). IsStoppedOn history build stopped h) grows on;
+          no_fault = omega (arith, counted, no_fault-done (publications_at stopped) keeper keeper' done);
         }
 
-    -- the turn that was refused
-    pub refused-at_stop : (r : Result Turned KeepFault) → OnErr r (now ≡ history) → IfErr r (λ fault. IsRefused fault keeper keeper')
+    -- or that it was refused
+    pub refused-at_stop : (r : Result Stopped KeepFault) → OnErr r (now ≡ history) → IfErr r (λ fault. IsRefused fault keeper keeper')
         → new.seen_faults ≡ keeper'.faults → IfErr r (λ fault. IsRefusedTurn fault pass new)
-    refused-at_stop (Ok turned) stays refused all = tt
+    refused-at_stop (Ok stopped) stays refused all = tt
     refused-at_stop (Err Failed) stays refused all =
         record {
           taken = history;

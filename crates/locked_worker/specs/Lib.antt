@@ -1,2 +1,3 @@
 pub mod LockedTurns
+pub mod Stopped
 pub mod GatedRuns
