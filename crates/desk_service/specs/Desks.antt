@@ -1,36 +1,44 @@
--- What desks do, each for one peer.
-use Rattle.std.specs.Prelude.{ℕ, ◌≡◌, ◌+◌, Bool, true, Option, List, [], ◌∷◌, ◌++◌}
+-- What desks do, each for one peer after another.
+use Rattle.std.specs.Prelude.{ℕ, ◌≡◌, ◌+◌, Bool, true, Option, Some, None, List, [], ◌∷◌, length}
 use Rattle.turn_lock.specs.Passes.{PassView}
 use Rattle.stock_model.specs.declared.deeds.Deed.{Deed}
 use Rattle.desk_server.specs.Exchanging.{LeavesRest}
-use Rattle.desk_server.specs.Served.{Serves, IsServedOpen}
-use Rattle.desk_server.specs.declared.session.End.{End}
+use Rattle.shared_listener.specs.Steps.{has_ended, NotesCame, NotesEnded}
+use Rattle.shared_listener.specs.declared.step.Step.{Step}
+use Rattle.desk_connections.specs.Desks.{HasServed}
+use Rattle.desk_connections.specs.Visits.{IsVisit}
+use Rattle.desk_connections.specs.Ways.{IsWay, LeavesWay}
 
--- the desk with this number served the peer with its pass, and then the connection was ended
-pub record IsAttended {P : Type 0} (left : P → Option (List ℕ)) (taken : P → ℕ) (written : P → Option (List ℕ)) (faults : P → ℕ)
-    (ended : P → Bool) (desk : ℕ) (pass pass' : PassView Deed) (peer peer' : P) : Type 0 where
-  pub number : pass.view.number ≡ desk
-  pub same_lock : pass'.lock ≡ pass.lock
-  pub rest : LeavesRest pass.view pass'.view
-  pub over : ended peer' ≡ true
-  pub end : End
-  pub serves : Serves left taken written faults desk pass.view pass'.view peer peer' end
-  pub still_open : IsServedOpen ended (Serves left taken written faults desk pass.view pass'.view) peer end
+module _ {L P : Type 0} where
+  -- the first thing that the desk did at the listener: this peer came to it, or it was told that none does
+  abbrev pub IsFirst : ℕ → Option P → List (ℕ × Step L P) → Type 0
+  IsFirst number (Some peer) made = NotesCame number peer [] made
+  IsFirst number None made = NotesEnded number [] made
 
--- a desk's pass and peer, before and after
-pub record Work (P : Type 0) : Type 0 where
+  -- The desk with this number served each peer that came to it, one after another, with its pass of the book's lock, and handed it
+  -- back by its way to the listener. Where it is over, the desk was told that no further one comes.
+  pub record IsBegun (left : P → Option (List ℕ)) (taken : P → ℕ) (written : P → Option (List ℕ)) (faults : P → ℕ) (ended : P → Bool)
+      (desk : ℕ) (pass pass' : PassView Deed) (way way' : PassView (Step L P)) (is_over : Bool) : Type 0 where
+    pub number : pass.view.number ≡ desk
+    pub way_number : way.view.number ≡ desk
+    pub same_lock : pass'.lock ≡ pass.lock
+    pub same_way_lock : way'.lock ≡ way.lock
+    pub rest : LeavesRest pass.view pass'.view
+    pub way_rest : LeavesWay way.view way'.view
+    pub is_way : IsWay way'.view
+    pub served : HasServed (IsVisit left taken written faults ended desk) pass.view pass'.view way'.view.made
+    pub told : is_over ≡ true → has_ended way'.view.made ≡ true
+
+-- a desk's pass and way, before and after
+pub record Work (L P : Type 0) : Type 0 where
   pub pass : PassView Deed
-  pub peer : P
   pub pass_then : PassView Deed
-  pub peer_then : P
+  pub way : PassView (Step L P)
+  pub way_then : PassView (Step L P)
 
--- desks, numbered on from this number, did this, each attending to its peer
-abbrev pub AreAttended : {P : Type 0} → (ℕ → PassView Deed → PassView Deed → P → P → Type 0) → ℕ → List (Work P) → Type 0
+-- desks, numbered on from this number, the last one first, did this with their passes and ways
+abbrev pub AreAttended : {L P : Type 0} → (ℕ → PassView Deed → PassView Deed → PassView (Step L P) → PassView (Step L P) → Type 0) → ℕ
+    → List (Work L P) → Type 0
 AreAttended attends number [] = Unit {0}
 AreAttended attends number (work ∷ works) =
-    attends number work.pass work.pass_then work.peer work.peer_then × AreAttended attends (number + 1) works
-
--- of each of these, the first of them last
-abbrev pub last_first : {A B : Type 0} → (A → B) → List A → List B
-last_first f [] = []
-last_first f (x ∷ xs) = last_first f xs ++ f x ∷ []
+    attends (number + length works) work.pass work.pass_then work.way work.way_then × AreAttended attends number works

@@ -1,7 +1,8 @@
 pub mod Passes
+pub mod Locks
+pub mod Ways
 pub mod Rests
 pub mod Desks
-pub mod Listening
 pub mod Serving
 pub mod Working
 pub mod Teams

@@ -1,19 +1,16 @@
--- Peers that are accepted one after another, each served by a desk.
-use Rattle.std.specs.Prelude.{ℕ, ◌≡◌, List, ◌++◌, length, map}
+-- Desks that begin one after another, each as its first peer comes.
+use Rattle.std.specs.Prelude.{ℕ, ◌≡◌, List, map}
 use Rattle.turn_lock.specs.Passes.{PassView}
 use Rattle.stock_model.specs.declared.deeds.Deed.{Deed}
-use Rattle.desk_service.specs.Desks.{Work, AreAttended, last_first}
-use Rattle.stock_io.specs.Heard.{Heard}
-use Rattle.desk_service.specs.Listening.{Accepts}
+use Rattle.shared_listener.specs.declared.step.Step.{Step}
+use Rattle.desk_service.specs.Desks.{Work, AreAttended}
 
--- A peer was wanted for each pass, the last one first. Each that came was served by a desk, numbered on from this number, with
--- its pass. The other passes are left as they were, and the peers that were served are kept behind others, the first of them last.
-pub record Serving {P : Type 0} (attends : ℕ → PassView Deed → PassView Deed → P → P → Type 0) (is_fresh : P → Type 0)
-    (number : ℕ) (passes passes' : List (PassView Deed)) (peers peers' : List P) (old new : Heard P) : Type 0 where
-  pub works : List (Work P)
+-- There is a desk for each pass and way, numbered on from this number, the first of them last. Each served peers with its own.
+pub record Serving {L P : Type 0} (attends : ℕ → PassView Deed → PassView Deed → PassView (Step L P) → PassView (Step L P) → Type 0)
+    (number : ℕ) (passes passes' : List (PassView Deed)) (ways ways' : List (PassView (Step L P))) : Type 0 where
+  pub works : List (Work L P)
   pub attended : AreAttended attends number works
-  pub unused : List (PassView Deed)
-  pub before : passes ≡ unused ++ last_first (λ work. work.pass) works
-  pub after : passes' ≡ unused ++ last_first (λ work. work.pass_then) works
-  pub served : peers' ≡ peers ++ last_first (λ work. work.peer_then) works
-  pub accepted : Accepts is_fresh (length passes) old new (map (λ work. work.peer) works)
+  pub before : passes ≡ map (λ work. work.pass) works
+  pub after : passes' ≡ map (λ work. work.pass_then) works
+  pub ways_before : ways ≡ map (λ work. work.way) works
+  pub ways_after : ways' ≡ map (λ work. work.way_then) works

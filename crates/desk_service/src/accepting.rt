@@ -1,15 +1,20 @@
-//! Peers that are accepted one after another, each served by a desk in a thread of its own.
-ghost use Rattle.std.specs.Prelude.{◌≡◌, ◌+◌, ◌≤◌, ◌<◌, [], ◌∷◌, ◌++◌, vec_len, vec_capacity};
+//! Peers that are accepted one after another, the first ones one for each desk.
+ghost use Rattle.std.specs.Prelude.{◌≡◌, ◌+◌, ◌^◌, ◌<◌, ◌≤◌, [], ◌∷◌, ◌++◌, true, length, vec_len, vec_capacity, IfOk, IfErr};
 ghost use Rattle.stock_nums.specs.declared.limits.TheConstants.{MAX_DESK};
-ghost use Rattle.stock_io.specs.Listeners.{IsFresh};
+ghost use Rattle.desk_connections.specs.Ways.{IsWay, LeavesWay};
 ghost use Rattle.desk_service.specs.Passes.{ArePassesFrom};
-ghost use Rattle.desk_service.specs.Desks.{IsAttended};
-ghost use Rattle.stock_io.specs.Heard.{heard};
+ghost use Rattle.desk_service.specs.Ways.{AreWaysFrom};
+ghost use Rattle.desk_service.specs.Desks.{IsBegun};
 ghost use Rattle.desk_service.specs.Serving.{Serving};
 
-use crate::desk::{Desk, finish, start};
+use crate::alone::Alone;
+use crate::desk::{Attends, Started, finish, start};
+use desk_connections::desk::Desk;
+use desk_connections::finding::{Found, find};
 use generation_book::book::Book;
+use shared_listener::listener::SharedListener;
 use std::alloc::Global;
+use std::snapshot::Snapshot;
 use std::sync::Wait;
 use std::thread::{Scope, Threads};
 use stock_io::link::Link;
@@ -19,104 +24,157 @@ use stock_nums::numbers::DeskNo;
 use turn_lock::lock::TurnLock;
 use turn_lock::pass::Pass;
 
-/// Where peers come from, the passes of the desks, the next one last, and the peers that were served, the first one last.
+/// The passes of desks, and their ways to the listener, as many. Those of the first desk come last.
 #[derive(Drop)]
 pub struct Desks<K: Keeper, L: Listener> {
-    pub listener: L,
     pub passes: Vec<Pass<Book<K>>>,
-    pub peers: Vec<L::Peer>,
+    pub ways: Vec<Pass<SharedListener<L>>>,
 }
 
-/// Accepts a peer for each pass, and serves each in a thread of its own, until all sessions have ended. Where no thread can be
-/// made, the peer is served before the next one is accepted. Once no peer can be had, no further one is accepted.
+/// Accepts a peer for each desk, in order, and lets it serve that peer and those that come after it in a thread of its own, until no
+/// further one comes. A desk for which no thread can be made serves its first peer before the next one is accepted, and those that come
+/// after it once all desks have begun.
 pub fn accept_all<
     's,
     E: 's,
     K: Keeper + Send + 's,
     P: Link + 's,
-    L: Listener<Peer = P>,
+    L: Listener<Peer = P> + Send + 's,
     R: Threads + Wait + Sync + 's,
 >(
     rt: &'s R,
     alloc: Global,
     scope: &'s Scope<'s, E>,
     lock: &'s TurnLock<Book<K>>,
+    shared: &'s TurnLock<SharedListener<L>>,
+    alone: &'s Alone,
     next: DeskNo,
     desks: Desks<K, L>,
 ) -> Desks<K, L>
     requires passes { ArePassesFrom lock.now.lock next.0 desks.passes.items }
+    requires ways { AreWaysFrom shared.now.lock next.0 desks.ways.items }
+    requires as_many { vec_len desks.ways ≡ vec_len desks.passes }
     requires numbers { next.0 + vec_len desks.passes ≤ MAX_DESK + 1 }
-    requires room { vec_len desks.peers + vec_len desks.passes ≤ vec_capacity desks.peers }
     ensures len { vec_len result.passes ≡ vec_len desks.passes }
-    ensures no_more { vec_len result.peers ≤ vec_len desks.peers + vec_len desks.passes }
+    ensures ways_len { vec_len result.ways ≡ vec_len desks.ways }
     ensures passes_room { vec_capacity desks.passes ≤ vec_capacity result.passes }
-    ensures peers_room { vec_capacity desks.peers ≤ vec_capacity result.peers }
-    ensures serving { Serving
-        (IsAttended P.left P.taken P.written P.Source.faults P.ended)
-        (IsFresh P.taken P.written P.Source.faults P.ended)
-        next.0 desks.passes.items result.passes.items desks.peers.items result.peers.items
-        (heard L.waiting L.hung_up L.accepts L.hang_ups L.faults desks.listener)
-        (heard L.waiting L.hung_up L.accepts L.hang_ups L.faults result.listener) }
-    ensures port_kept { L.listens_to result.listener ≡ L.listens_to desks.listener }
+    ensures ways_room { vec_capacity desks.ways ≤ vec_capacity result.ways }
+    ensures serving { Serving (λ desk pass pass' way way'. IsBegun P.left P.taken P.written P.Source.faults P.ended desk pass pass' way way' true)
+        next.0 desks.passes.items result.passes.items desks.ways.items result.ways.items }
 {
     let Desks {
-        mut listener,
         mut passes,
-        peers,
+        mut ways,
     } = desks;
     if passes.is_empty() {
-        return Desks {
-            listener,
-            passes,
-            peers,
-        };
+        return Desks { passes, ways };
     }
-    let Ok(peer) = listener.accept() else {
-        return Desks {
-            listener,
-            passes,
-            peers,
-        };
-    };
     let Some(pass) = passes.pop() else {
         unreachable!()
     };
-    let started = start(rt, alloc, scope, lock, next, Desk { pass, peer });
-    let rest = Desks {
-        listener,
-        passes,
-        peers,
+    let Some(way) = ways.pop() else {
+        unreachable!()
     };
-    let rest = accept_all(rt, alloc, scope, lock, DeskNo(next.0 + 1), rest);
-    with_desk(rest, finish(rt, started))
+    let started = open(
+        rt,
+        alloc,
+        scope,
+        lock,
+        shared,
+        alone,
+        next,
+        Desk { pass, way },
+    );
+    let rest = Desks { passes, ways };
+    let rest = accept_all(
+        rt,
+        alloc,
+        scope,
+        lock,
+        shared,
+        alone,
+        DeskNo(next.0 + 1),
+        rest,
+    );
+    with_desk(rest, finish(rt, alloc, lock, shared, started))
+}
+
+// Finds the desk's first peer, and starts the desk.
+fn open<
+    's,
+    E: 's,
+    K: Keeper + Send + 's,
+    P: Link + 's,
+    L: Listener<Peer = P> + Send + 's,
+    R: Wait + Sync + 's,
+>(
+    rt: &'s R,
+    alloc: Global,
+    scope: &Scope<'s, E>,
+    lock: &'s TurnLock<Book<K>>,
+    shared: &'s TurnLock<SharedListener<L>>,
+    alone: &'s Alone,
+    number: DeskNo,
+    desk: Desk<K, L>,
+) -> Started<K, L>
+    requires same_lock { desk.pass.lock ≡ lock.now.lock }
+    requires same_way_lock { desk.way.lock ≡ shared.now.lock }
+    requires number { number.0 ≡ desk.pass.view.number }
+    requires way_number { number.0 ≡ desk.way.view.number }
+    requires desk { number.0 ≤ MAX_DESK }
+    requires few_turns { length desk.pass.view.stops ≤ 2 ^ 56 }
+    requires way { IsWay desk.way.view }
+    requires nothing { desk.way.view.made ≡ [] }
+    ensures number { result.promise.number.0 ≡ number.0 }
+    ensures pass { result.promise.pass.value ≡ desk.pass }
+    ensures same_way_lock { result.promise.way.value.lock ≡ desk.way.lock }
+    ensures way_rest { LeavesWay desk.way.view result.promise.way.value.view }
+    ensures promised { IfOk result.running (λ thread. (thread.promise.number.0 ≡ result.promise.number.0)
+        × (thread.promise.pass.value ≡ result.promise.pass.value) × (thread.promise.way.value ≡ result.promise.way.value)) }
+    ensures begun { IfErr result.running (λ begun. IsBegun P.left P.taken P.written P.Source.faults P.ended result.promise.number.0
+        result.promise.pass.value begun.desk.pass result.promise.way.value begun.desk.way begun.is_over) }
+{
+    let Desk { pass, way } = desk;
+    let Found { way, next: first } = find(rt, shared, number, way);
+    let promise = Attends {
+        number,
+        pass: Snapshot::of(&pass),
+        way: Snapshot::of(&way),
+    };
+    let running = start(
+        rt,
+        alloc,
+        scope,
+        lock,
+        shared,
+        alone,
+        number,
+        Desk { pass, way },
+        first,
+    );
+    Started { promise, running }
 }
 
 // The same with one desk more, which was before them.
-fn with_desk<K: Keeper, L: Listener>(desks: Desks<K, L>, desk: Desk<K, L::Peer>) -> Desks<K, L>
+fn with_desk<K: Keeper, L: Listener>(desks: Desks<K, L>, desk: Desk<K, L>) -> Desks<K, L>
     requires passes_room { vec_len desks.passes < vec_capacity desks.passes }
-    requires peers_room { vec_len desks.peers < vec_capacity desks.peers }
+    requires ways_room { vec_len desks.ways < vec_capacity desks.ways }
     ensures passes { result.passes.items ≡ desks.passes.items ++ desk.pass ∷ [] }
-    ensures peers { result.peers.items ≡ desks.peers.items ++ desk.peer ∷ [] }
-    ensures listener { result.listener ≡ desks.listener }
+    ensures ways { result.ways.items ≡ desks.ways.items ++ desk.way ∷ [] }
     ensures passes_len { vec_len result.passes ≡ vec_len desks.passes + 1 }
-    ensures peers_len { vec_len result.peers ≡ vec_len desks.peers + 1 }
+    ensures ways_len { vec_len result.ways ≡ vec_len desks.ways + 1 }
     ensures passes_kept { vec_capacity desks.passes ≤ vec_capacity result.passes }
-    ensures peers_kept { vec_capacity desks.peers ≤ vec_capacity result.peers }
+    ensures ways_kept { vec_capacity desks.ways ≤ vec_capacity result.ways }
 {
     let Desks {
-        listener,
         mut passes,
-        mut peers,
+        mut ways,
     } = desks;
     let Ok(()) = passes.push(desk.pass) else {
         unreachable!()
     };
-    let Ok(()) = peers.push(desk.peer) else {
+    let Ok(()) = ways.push(desk.way) else {
         unreachable!()
     };
-    Desks {
-        listener,
-        passes,
-        peers,
-    }
+    Desks { passes, ways }
 }

@@ -1,109 +1,233 @@
-//! A desk in a thread of its own: its pass and its connection go in by value, and come back.
-ghost use Rattle.std.specs.Prelude.{◌≡◌, ◌^◌, ◌≤◌, length, IfOk, IfErr};
+//! A desk in a thread of its own: its pass and its way go in by value, and come back.
+ghost use Rattle.std.specs.Prelude.{◌≡◌, ◌^◌, ◌<◌, ◌≤◌, [], true, length, IfOk, IfErr, OnSome};
 ghost use Rattle.stock_nums.specs.declared.limits.TheConstants.{MAX_DESK};
-ghost use Rattle.desk_service.specs.Desks.{IsAttended};
+ghost use Rattle.shared_listener.specs.Steps.{NotesCame};
+ghost use Rattle.desk_connections.specs.Ways.{IsWay};
+ghost use Rattle.desk_service.specs.Desks.{IsFirst, IsBegun};
 
-use desk_server::session::serve_desk;
+use crate::alone::Alone;
+use desk_connections::desk::{Desk, go_further, serve_one};
 use generation_book::book::Book;
+use shared_listener::listener::SharedListener;
 use std::alloc::Global;
 use std::snapshot::Snapshot;
 use std::sync::Wait;
 use std::thread::{Promise, PromisedHandle, Scope, Threads};
 use stock_io::link::Link;
+use stock_io::listener::Listener;
 use stock_keeper::keeper::Keeper;
 use stock_nums::numbers::DeskNo;
 use turn_lock::lock::TurnLock;
 use turn_lock::pass::Pass;
 
-/// A desk that has a peer, or had one.
+/// A desk that has served its first peer, and whether it was told that no further one comes.
 #[derive(Drop)]
-pub struct Desk<K: Keeper, P: Link> {
-    pub pass: Pass<Book<K>>,
-    pub peer: P,
+pub struct Begun<K: Keeper, L: Listener> {
+    pub desk: Desk<K, L>,
+    pub is_over: bool,
 }
 
-/// That the desk with this number serves its peer.
+/// That the desk with this number serves peers with this pass and way.
 #[derive(Drop)]
-pub struct Attends<K: Keeper, P: Link> {
+pub struct Attends<K: Keeper, L: Listener> {
     pub number: DeskNo,
     pub pass: Snapshot<Pass<Book<K>>>,
-    pub peer: Snapshot<P>,
+    pub way: Snapshot<Pass<SharedListener<L>>>,
 }
 
-impl<K: Keeper, P: Link> Promise<Desk<K, P>> for Attends<K, P> {
-    ghost kept_by = { λ promise desk. IsAttended P.left P.taken P.written P.Source.faults P.ended promise.number.0
-        promise.pass.value desk.pass promise.peer.value desk.peer };
+impl<K: Keeper, L: Listener> Promise<Begun<K, L>> for Attends<K, L> {
+    ghost kept_by = { λ promise begun. IsBegun L.Peer.left L.Peer.taken L.Peer.written L.Peer.Source.faults L.Peer.ended promise.number.0
+        promise.pass.value begun.desk.pass promise.way.value begun.desk.way begun.is_over };
 }
 
-/// Serves the desk's peer until its session ends. It may wait, for the peer and for the lock.
-pub fn attend<K: Keeper, P: Link, R: Wait>(
+/// Serves a peer that came to the desk, and then those that come after it, unless the desk has no thread. It may wait, for peers and
+/// for both locks.
+pub fn begin<K: Keeper, P: Link, L: Listener<Peer = P>, R: Wait>(
     rt: &R,
     alloc: Global,
     lock: &TurnLock<Book<K>>,
+    shared: &TurnLock<SharedListener<L>>,
+    alone: &Alone,
     number: DeskNo,
-    desk: Desk<K, P>,
-) -> Desk<K, P>
+    desk: Desk<K, L>,
+    first: P,
+) -> Begun<K, L>
     requires same_lock { desk.pass.lock ≡ lock.now.lock }
+    requires same_way_lock { desk.way.lock ≡ shared.now.lock }
     requires number { number.0 ≡ desk.pass.view.number }
+    requires way_number { number.0 ≡ desk.way.view.number }
     requires desk { number.0 ≤ MAX_DESK }
     requires few_turns { length desk.pass.view.stops ≤ 2 ^ 56 }
-    ensures { IsAttended P.left P.taken P.written P.Source.faults P.ended number.0 desk.pass result.pass desk.peer result.peer }
+    requires few_way_turns { length desk.way.view.stops < 2 ^ 57 }
+    requires way { IsWay desk.way.view }
+    requires came { NotesCame number.0 first [] desk.way.view.made }
+    ensures { IsBegun P.left P.taken P.written P.Source.faults P.ended number.0 desk.pass result.desk.pass desk.way result.desk.way
+        result.is_over }
 {
-    let Desk { pass, mut peer } = desk;
-    let left = serve_desk(rt, alloc, lock, pass, number, &mut peer);
-    Desk {
-        pass: left.pass,
-        peer,
+    let desk = serve_one(rt, alloc, lock, shared, number, desk, first);
+    if alone.is(number) {
+        return Begun {
+            desk,
+            is_over: false,
+        };
+    }
+    let desk = go_further(rt, alloc, lock, shared, number, desk);
+    Begun {
+        desk,
+        is_over: true,
     }
 }
 
-/// A desk's thread, or the desk itself where no thread could be made and it has served its peer.
-pub type Started<K, P> = Result<PromisedHandle<Desk<K, P>, Attends<K, P>>, Desk<K, P>>;
+/// A desk's thread, or the desk itself where it has none: no thread could be made, and it has served its first peer, or no peer came.
+pub type Running<K, L> = Result<PromisedHandle<Begun<K, L>, Attends<K, L>>, Begun<K, L>>;
 
-/// Lets the desk serve its peer in a thread of the scope. Where none can be made, it serves it before this returns.
-pub fn start<'s, E: 's, K: Keeper + Send + 's, P: Link + 's, R: Wait + Sync + 's>(
+/// A desk that was started, and what is promised of it.
+#[derive(Drop)]
+pub struct Started<K: Keeper, L: Listener> {
+    pub promise: Attends<K, L>,
+    pub running: Running<K, L>,
+}
+
+/// Lets the desk serve its first peer, if one came, and those that come after it in a thread of the scope. Where none can be made, it
+/// has served the first one when this returns.
+pub fn start<
+    's,
+    E: 's,
+    K: Keeper + Send + 's,
+    P: Link + 's,
+    L: Listener<Peer = P> + Send + 's,
+    R: Wait + Sync + 's,
+>(
     rt: &'s R,
     alloc: Global,
     scope: &Scope<'s, E>,
     lock: &'s TurnLock<Book<K>>,
+    shared: &'s TurnLock<SharedListener<L>>,
+    alone: &'s Alone,
     number: DeskNo,
-    desk: Desk<K, P>,
-) -> Started<K, P>
+    desk: Desk<K, L>,
+    first: Option<P>,
+) -> Running<K, L>
     requires same_lock { desk.pass.lock ≡ lock.now.lock }
+    requires same_way_lock { desk.way.lock ≡ shared.now.lock }
     requires number { number.0 ≡ desk.pass.view.number }
+    requires way_number { number.0 ≡ desk.way.view.number }
     requires desk { number.0 ≤ MAX_DESK }
     requires few_turns { length desk.pass.view.stops ≤ 2 ^ 56 }
-    ensures started { IfOk result (λ thread. (thread.promise.number.0 ≡ number.0)
-        × (thread.promise.pass.value ≡ desk.pass) × (thread.promise.peer.value ≡ desk.peer)) }
-    ensures served { IfErr result (λ served. IsAttended P.left P.taken P.written P.Source.faults P.ended number.0
-        desk.pass served.pass desk.peer served.peer) }
+    requires few_way_turns { OnSome first (length desk.way.view.stops < 2 ^ 57) }
+    requires way { IsWay desk.way.view }
+    requires found { IsFirst number.0 first desk.way.view.made }
+    ensures promised { IfOk result (λ thread. (thread.promise.number.0 ≡ number.0)
+        × (thread.promise.pass.value ≡ desk.pass) × (thread.promise.way.value ≡ desk.way)) }
+    ensures begun { IfErr result (λ begun. IsBegun P.left P.taken P.written P.Source.faults P.ended number.0
+        desk.pass begun.desk.pass desk.way begun.desk.way begun.is_over) }
+{
+    match first {
+        Some(first) => start_thread(
+            rt, alloc, scope, lock, shared, alone, number, desk, first,
+        ),
+        None => Err(Begun {
+            desk,
+            is_over: true,
+        }),
+    }
+}
+
+// Lets the desk serve its first peer and those that come after it in a thread of the scope. Where none can be made, it has served the
+// first one when this returns.
+fn start_thread<
+    's,
+    E: 's,
+    K: Keeper + Send + 's,
+    P: Link + 's,
+    L: Listener<Peer = P> + Send + 's,
+    R: Wait + Sync + 's,
+>(
+    rt: &'s R,
+    alloc: Global,
+    scope: &Scope<'s, E>,
+    lock: &'s TurnLock<Book<K>>,
+    shared: &'s TurnLock<SharedListener<L>>,
+    alone: &'s Alone,
+    number: DeskNo,
+    desk: Desk<K, L>,
+    first: P,
+) -> Running<K, L>
+    requires same_lock { desk.pass.lock ≡ lock.now.lock }
+    requires same_way_lock { desk.way.lock ≡ shared.now.lock }
+    requires number { number.0 ≡ desk.pass.view.number }
+    requires way_number { number.0 ≡ desk.way.view.number }
+    requires desk { number.0 ≤ MAX_DESK }
+    requires few_turns { length desk.pass.view.stops ≤ 2 ^ 56 }
+    requires few_way_turns { length desk.way.view.stops < 2 ^ 57 }
+    requires way { IsWay desk.way.view }
+    requires came { NotesCame number.0 first [] desk.way.view.made }
+    ensures promised { IfOk result (λ thread. (thread.promise.number.0 ≡ number.0)
+        × (thread.promise.pass.value ≡ desk.pass) × (thread.promise.way.value ≡ desk.way)) }
+    ensures begun { IfErr result (λ begun. IsBegun P.left P.taken P.written P.Source.faults P.ended number.0
+        desk.pass begun.desk.pass desk.way begun.desk.way begun.is_over) }
 {
     let promise = Attends {
         number,
         pass: Snapshot::of(&desk.pass),
-        peer: Snapshot::of(&desk.peer),
+        way: Snapshot::of(&desk.way),
     };
-    let job = move || -> Desk<K, P>
+    let job = move || -> Begun<K, L>
         requires same_lock { desk.pass.lock ≡ lock.now.lock }
+        requires same_way_lock { desk.way.lock ≡ shared.now.lock }
         requires number { number.0 ≡ desk.pass.view.number }
+        requires way_number { number.0 ≡ desk.way.view.number }
         requires desk { number.0 ≤ MAX_DESK }
         requires few_turns { length desk.pass.view.stops ≤ 2 ^ 56 }
-        ensures { IsAttended P.left P.taken P.written P.Source.faults P.ended number.0 desk.pass result.pass desk.peer result.peer }
-    { attend(rt, alloc, lock, number, desk) };
+        requires few_way_turns { length desk.way.view.stops < 2 ^ 57 }
+        requires way { IsWay desk.way.view }
+        requires came { NotesCame number.0 first [] desk.way.view.made }
+        ensures { IsBegun P.left P.taken P.written P.Source.faults P.ended number.0 desk.pass result.desk.pass desk.way result.desk.way
+            result.is_over }
+    { begin(rt, alloc, lock, shared, alone, number, desk, first) };
     match scope.spawn_with(promise, job) {
         Ok(thread) => Ok(thread),
-        Err(refused) => Err((refused.value)()),
+        Err(refused) => {
+            alone.tell(number);
+            Err((refused.value)())
+        }
     }
 }
 
-/// The desk, once it has served its peer.
-pub fn finish<K: Keeper, P: Link, R: Threads>(rt: &R, started: Started<K, P>) -> Desk<K, P>
-    ensures thread { IfOk started (λ thread. IsAttended P.left P.taken P.written P.Source.faults P.ended thread.promise.number.0
-        thread.promise.pass.value result.pass thread.promise.peer.value result.peer) }
-    ensures here { IfErr started (λ served. result ≡ served) }
+// What the thread leaves, once it has ended.
+fn joined<K: Keeper, L: Listener, R: Threads>(rt: &R, running: Running<K, L>) -> Begun<K, L>
+    ensures thread { IfOk running (λ thread. IsBegun L.Peer.left L.Peer.taken L.Peer.written L.Peer.Source.faults L.Peer.ended
+        thread.promise.number.0 thread.promise.pass.value result.desk.pass thread.promise.way.value result.desk.way result.is_over) }
+    ensures here { IfErr running (λ begun. result ≡ begun) }
 {
-    match started {
+    match running {
         Ok(thread) => thread.join(rt),
-        Err(served) => served,
+        Err(begun) => begun,
     }
+}
+
+/// The desk, once it was told that no further peer comes. One that has no thread serves those that come after its first one here.
+pub fn finish<K: Keeper, P: Link, L: Listener<Peer = P>, R: Threads + Wait>(
+    rt: &R,
+    alloc: Global,
+    lock: &TurnLock<Book<K>>,
+    shared: &TurnLock<SharedListener<L>>,
+    started: Started<K, L>,
+) -> Desk<K, L>
+    requires same_lock { started.promise.pass.value.lock ≡ lock.now.lock }
+    requires same_way_lock { started.promise.way.value.lock ≡ shared.now.lock }
+    requires desk { started.promise.number.0 ≤ MAX_DESK }
+    requires promised { IfOk started.running (λ thread. (thread.promise.number.0 ≡ started.promise.number.0)
+        × (thread.promise.pass.value ≡ started.promise.pass.value) × (thread.promise.way.value ≡ started.promise.way.value)) }
+    requires begun { IfErr started.running (λ begun. IsBegun P.left P.taken P.written P.Source.faults P.ended started.promise.number.0
+        started.promise.pass.value begun.desk.pass started.promise.way.value begun.desk.way begun.is_over) }
+    ensures { IsBegun P.left P.taken P.written P.Source.faults P.ended started.promise.number.0
+        started.promise.pass.value result.pass started.promise.way.value result.way true }
+{
+    let Started { promise, running } = started;
+    let Begun { desk, is_over } = joined(rt, running);
+    if is_over {
+        return desk;
+    }
+    go_further(rt, alloc, lock, shared, promise.number, desk)
 }

@@ -1,11 +1,13 @@
-//! Desks and a worker in threads of their own, over one book.
+//! Desks and a worker in threads of their own, over one book and one listener.
 #![tactic(auto)]
 
 mod accepting;
+mod alone;
 mod closing;
 mod desk;
+mod ending;
 mod gate;
-mod hanging_up;
+mod locking;
 mod passes;
 pub mod service;
 mod worker;

@@ -1,27 +1,32 @@
-//! A service: several desks and a worker in threads of their own, over one book.
-ghost use Rattle.std.specs.Prelude.{◌≡◌, ◌+◌, ◌<◌, ◌≤◌, [], All, reverse, length, vec_len, vec_capacity, IfOk, IfErr};
+//! A service: several desks and a worker in threads of their own, over one book and one listener.
+ghost use Rattle.std.specs.Prelude.{◌≡◌, ◌+◌, ◌<◌, ◌≤◌, [], All, length, true, vec_len, vec_capacity, IfOk, IfErr};
 ghost use Rattle.stock_nums.specs.declared.limits.TheConstants.{MAX_DESK};
+ghost use Rattle.stock_io.specs.Heard.{heard};
 ghost use Rattle.stock_io.specs.Listeners.{IsFresh};
+ghost use Rattle.turn_lock.specs.Views.{opened};
 ghost use Rattle.stock_model.specs.History.{IsLegal};
 ghost use Rattle.generation_book.specs.Follows.{start_of, Follows};
 ghost use Rattle.repost_worker.specs.Turns.{IsWorkOf};
-ghost use Rattle.session_laws.specs.Makers.{without_makers};
-ghost use Rattle.desk_service.specs.Endings.{IsClosed};
-ghost use Rattle.desk_service.specs.Desks.{IsAttended};
-ghost use Rattle.stock_io.specs.Heard.{heard};
-ghost use Rattle.desk_service.specs.Listening.{HangsUp};
+ghost use Rattle.session_laws.specs.Makers.{with_makers, without_makers};
+ghost use Rattle.desk_service.specs.Endings.{IsClosed, IsUnshared};
+ghost use Rattle.desk_service.specs.Desks.{IsBegun};
+ghost use Rattle.desk_service.specs.Locks.{IsLocked, IsNewWay};
 ghost use Rattle.desk_service.specs.Passes.{ArePassesFrom};
-ghost use Rattle.desk_service.specs.Service.{IsService, IsPeerServed};
+ghost use Rattle.desk_service.specs.Service.{IsService, AreServedBy};
 ghost use Rattle.desk_service.specs.Serving.{Serving};
 ghost use Rattle.desk_service.specs.Teams.{IsTeamwork};
+ghost use Rattle.desk_service.specs.Ways.{AreWaysFrom};
 
 use crate::accepting::{Desks, accept_all};
+use crate::alone::Alone;
 use crate::closing::Closing;
-use crate::hanging_up::hang_up_all;
-use crate::passes::{Split, join_all, split_all};
+use crate::ending::{Unshared, close_all, unshare};
+use crate::locking::{Locks, NotLocked, lock_both};
+use crate::passes::{Split, split_all};
 use crate::worker::{Worker, work};
 use generation_book::book::Book;
 use repost_build::build::Build;
+use shared_listener::listener::SharedListener;
 use std::alloc::Global;
 use std::marker::Brand;
 use std::sync::Wait;
@@ -33,7 +38,8 @@ use stock_io::listener::Listener;
 use stock_keeper::keeper::Keeper;
 use stock_laws::selected_laws::the_ledger_keeps_the_stock;
 use stock_nums::numbers::DeskNo;
-use turn_lock::lock::{NotMade, TurnLock};
+use turn_lock::lock::TurnLock;
+use turn_lock::pass::Pass;
 
 /// What a service leaves: the book, the build that works for it, the listener, and how many peers were served.
 #[derive(Drop)]
@@ -41,7 +47,7 @@ pub struct Served<K: Keeper, L> {
     pub book: Book<K>,
     pub build: Build,
     pub listener: L,
-    pub accepted: usize,
+    pub accepted: u32,
 }
 
 /// Memory was wanting for a service, and nothing was done. All comes back.
@@ -59,27 +65,35 @@ struct Team<K: Keeper, L: Listener> {
     desks: Desks<K, L>,
 }
 
-/// Accepts so many peers and serves each by a desk in a thread of its own, while a worker in another thread values and publishes.
-/// Returns once all sessions have ended: each peer was hung up then, in the order in which they came. Where a peer can't be had, no
-/// further one is accepted. It may wait, for peers and for the lock.
+/// Accepts so many peers and serves them by so many desks, each in a thread of its own, while a worker in another thread values and
+/// publishes. The first peers come to the desks in the order of their numbers, one to each. Behind them a desk takes the next peer once
+/// its own was served and hung up. Returns once all sessions have ended. Where a peer can't be had, no further one is accepted. It may
+/// wait, for peers and for the locks.
 ///
 /// # Errors
 ///
 /// `NotServed` where memory was wanting, before any peer was accepted.
-pub fn serve<K: Keeper + Send, P: Link, L: Listener<Peer = P> + Drop, R: Threads + Wait + Sync>(
+pub fn serve<
+    K: Keeper + Send,
+    P: Link,
+    L: Listener<Peer = P> + Send + Drop,
+    R: Threads + Wait + Sync,
+>(
     rt: &R,
     alloc: Global,
     book: Book<K>,
     build: Build,
     listener: L,
     desks: u32,
+    connections: u32,
 ) -> Result<Served<K, L>, NotServed<K, L>>
     requires desks { (0 < desks) × (desks ≤ MAX_DESK) }
+    requires connections { desks ≤ connections }
     requires work { IsWorkOf book.history build }
     ensures served { IfOk result (λ served. IsService
-        (IsPeerServed P.left P.taken P.written P.Source.faults P.ended)
+        (AreServedBy P.left P.taken P.written P.Source.faults P.ended)
         (IsFresh P.taken P.written P.Source.faults P.ended)
-        desks served.accepted book.history served.book.history book.keeper.faults served.book.keeper.faults
+        desks connections served.accepted book.history served.book.history book.keeper.faults served.book.keeper.faults
         (heard L.waiting L.hung_up L.accepts L.hang_ups L.faults listener)
         (heard L.waiting L.hung_up L.accepts L.hang_ups L.faults served.listener)) }
     ensures follows { IfOk result (λ served. Follows (start_of book) served.book) }
@@ -95,35 +109,75 @@ pub fn serve<K: Keeper + Send, P: Link, L: Listener<Peer = P> + Drop, R: Threads
             listener,
         });
     };
-    let Ok(peers) = Vec::with_capacity(alloc, desks as usize) else {
+    let Ok(ways) = Vec::with_capacity(alloc, desks as usize) else {
         return Err(NotServed {
             book,
             build,
             listener,
         });
     };
-    let (lock, pass) = match TurnLock::new(alloc, book, desks + 1) {
-        Ok(made) => made,
-        Err(NotMade { book }) => {
-            return Err(NotServed {
-                book,
-                build,
-                listener,
-            });
-        }
-    };
+    let room = Desks { passes, ways };
+    match lock_both(alloc, book, listener, desks, connections) {
+        Ok(locks) => Ok(serve_under(rt, alloc, locks, build, room)),
+        Err(NotLocked { book, listener }) => Err(NotServed {
+            book,
+            build,
+            listener,
+        }),
+    }
+}
+
+// Lets desks and a worker do their work over what is under the locks, and ends the locks.
+fn serve_under<
+    K: Keeper + Send,
+    P: Link,
+    L: Listener<Peer = P> + Send + Drop,
+    R: Threads + Wait + Sync,
+>(rt: &R, alloc: Global, locks: Locks<K, L>, build: Build, room: Desks<K, L>) -> Served<K, L>
+    requires desks { (0 < locks.desks) × (locks.desks ≤ MAX_DESK) }
+    requires locked { IsLocked locks.lock locks.pass.lock locks.desks }
+    requires pass { locks.pass.view
+        ≡ opened (with_makers locks.book.value.history) locks.book.value.keeper.faults (start_of locks.book.value) }
+    requires shared { IsLocked locks.shared locks.way.lock locks.desks }
+    requires way { IsNewWay locks.listener.value locks.desks locks.connections locks.way.view }
+    requires work { IsWorkOf locks.book.value.history build }
+    requires empty { (room.passes.items ≡ []) × (room.ways.items ≡ []) }
+    requires passes_room { locks.desks ≤ vec_capacity room.passes }
+    requires ways_room { locks.desks ≤ vec_capacity room.ways }
+    ensures served { IsService
+        (AreServedBy P.left P.taken P.written P.Source.faults P.ended)
+        (IsFresh P.taken P.written P.Source.faults P.ended)
+        locks.desks locks.connections result.accepted locks.book.value.history result.book.history
+        locks.book.value.keeper.faults result.book.keeper.faults
+        (heard L.waiting L.hung_up L.accepts L.hang_ups L.faults locks.listener.value)
+        (heard L.waiting L.hung_up L.accepts L.hang_ups L.faults result.listener) }
+    ensures follows { Follows (start_of locks.book.value) result.book }
+    ensures port_kept { L.listens_to result.listener ≡ L.listens_to locks.listener.value }
+    ensures work { IsWorkOf result.book.history result.build }
+{
+    let Locks {
+        lock,
+        pass,
+        shared,
+        way,
+        desks,
+        connections: _,
+        book: _,
+        listener: _,
+    } = locks;
+    let Desks { passes, ways } = room;
     let Split { pass, passes } = split_all(&lock, pass, passes, desks);
+    let Split {
+        pass: way,
+        passes: ways,
+    } = split_all(&shared, way, ways, desks);
     let team = Team {
         worker: Worker { pass, build },
-        desks: Desks {
-            listener,
-            passes,
-            peers,
-        },
+        desks: Desks { passes, ways },
     };
-    let team = in_threads::<K, P, L, Brand, R>(rt, alloc, &lock, team, Blank::new(1));
+    let team = in_threads::<K, P, L, Brand, R>(rt, alloc, &lock, &shared, team, Blank::new(1));
     the_ledger_keeps_the_stock();
-    Ok(ended(lock, team))
+    ended(lock, shared, way, team)
 }
 
 // Lets the worker and the desks do their work in threads of their own. Where none can be made for the worker, it begins once the desks
@@ -131,114 +185,119 @@ pub fn serve<K: Keeper + Send, P: Link, L: Listener<Peer = P> + Drop, R: Threads
 fn in_threads<
     K: Keeper + Send,
     P: Link,
-    L: Listener<Peer = P> + Drop,
+    L: Listener<Peer = P> + Send + Drop,
     N: Ledger + Send,
     R: Threads + Wait + Sync,
->(rt: &R, alloc: Global, lock: &TurnLock<Book<K>>, team: Team<K, L>, blank: Blank) -> Team<K, L>
+>(
+    rt: &R,
+    alloc: Global,
+    lock: &TurnLock<Book<K>>,
+    shared: &TurnLock<SharedListener<L>>,
+    team: Team<K, L>,
+    blank: Blank,
+) -> Team<K, L>
     requires same_lock { team.worker.pass.lock ≡ lock.now.lock }
     requires zero { team.worker.pass.view.number ≡ 0 }
     requires work { IsWorkOf (without_makers team.worker.pass.view.seen) team.worker.build }
     requires passes { ArePassesFrom lock.now.lock 1 team.desks.passes.items }
+    requires ways { AreWaysFrom shared.now.lock 1 team.desks.ways.items }
+    requires as_many { vec_len team.desks.ways ≡ vec_len team.desks.passes }
     requires numbers { vec_len team.desks.passes ≤ MAX_DESK }
-    requires no_peers { team.desks.peers.items ≡ [] }
-    requires room { vec_len team.desks.passes ≤ vec_capacity team.desks.peers }
     requires name { blank.name ≡ N.name }
     requires parts { blank.parts ≡ N.parts }
     requires some_parts { 0 < N.parts }
     ensures teamwork { IsTeamwork
-        (IsAttended P.left P.taken P.written P.Source.faults P.ended)
-        (IsFresh P.taken P.written P.Source.faults P.ended)
+        (λ desk pass pass' way way'. IsBegun P.left P.taken P.written P.Source.faults P.ended desk pass pass' way way' true)
         team.worker.pass team.worker.build result.worker.pass result.worker.build
-        team.desks.passes.items result.desks.passes.items result.desks.peers.items
-        (heard L.waiting L.hung_up L.accepts L.hang_ups L.faults team.desks.listener)
-        (heard L.waiting L.hung_up L.accepts L.hang_ups L.faults result.desks.listener) }
-    ensures port_kept { L.listens_to result.desks.listener ≡ L.listens_to team.desks.listener }
+        team.desks.passes.items result.desks.passes.items team.desks.ways.items result.desks.ways.items }
 {
     let Team { worker, desks } = team;
     let closing = Closing::new();
-    let shared = &closing;
+    let end = &closing;
     let (worker, desks) = thread::join(
         rt,
-        || work::<K, N, R>(rt, alloc, lock, shared, worker, blank),
+        || work::<K, N, R>(rt, alloc, lock, end, worker, blank),
         ||
             requires passes { ArePassesFrom lock.now.lock 1 desks.passes.items }
+            requires ways { AreWaysFrom shared.now.lock 1 desks.ways.items }
+            requires as_many { vec_len desks.ways ≡ vec_len desks.passes }
             requires numbers { vec_len desks.passes ≤ MAX_DESK }
-            requires no_peers { desks.peers.items ≡ [] }
-            requires room { vec_len desks.passes ≤ vec_capacity desks.peers }
-        { attend_all::<K, P, L, R>(rt, alloc, lock, shared, desks) },
+        { attend_all::<K, P, L, R>(rt, alloc, lock, shared, end, desks) },
     );
     Team { worker, desks }
 }
 
-// Serves the peers, each in a thread of its own, and says then that the desks have ended.
-fn attend_all<K: Keeper + Send, P: Link, L: Listener<Peer = P> + Drop, R: Threads + Wait + Sync>(
+// Serves the peers, at desks in threads of their own, and says then that the desks have ended.
+fn attend_all<
+    K: Keeper + Send,
+    P: Link,
+    L: Listener<Peer = P> + Send + Drop,
+    R: Threads + Wait + Sync,
+>(
     rt: &R,
     alloc: Global,
     lock: &TurnLock<Book<K>>,
+    shared: &TurnLock<SharedListener<L>>,
     closing: &Closing,
     desks: Desks<K, L>,
 ) -> Desks<K, L>
     requires passes { ArePassesFrom lock.now.lock 1 desks.passes.items }
+    requires ways { AreWaysFrom shared.now.lock 1 desks.ways.items }
+    requires as_many { vec_len desks.ways ≡ vec_len desks.passes }
     requires numbers { vec_len desks.passes ≤ MAX_DESK }
-    requires no_peers { desks.peers.items ≡ [] }
-    requires room { vec_len desks.passes ≤ vec_capacity desks.peers }
     ensures serving { Serving
-        (IsAttended P.left P.taken P.written P.Source.faults P.ended)
-        (IsFresh P.taken P.written P.Source.faults P.ended)
-        1 desks.passes.items result.passes.items [] result.peers.items
-        (heard L.waiting L.hung_up L.accepts L.hang_ups L.faults desks.listener)
-        (heard L.waiting L.hung_up L.accepts L.hang_ups L.faults result.listener) }
-    ensures port_kept { L.listens_to result.listener ≡ L.listens_to desks.listener }
+        (λ desk pass pass' way way'. IsBegun P.left P.taken P.written P.Source.faults P.ended desk pass pass' way way' true)
+        1 desks.passes.items result.passes.items desks.ways.items result.ways.items }
 {
+    let alone = Alone::new();
+    let word = &alone;
     let desks = thread::scope(
         thread::scope_env(),
         rt,
         move |scope| -> Desks<K, L>
             requires passes { ArePassesFrom lock.now.lock 1 desks.passes.items }
+            requires ways { AreWaysFrom shared.now.lock 1 desks.ways.items }
+            requires as_many { vec_len desks.ways ≡ vec_len desks.passes }
             requires numbers { vec_len desks.passes ≤ MAX_DESK }
-            requires no_peers { desks.peers.items ≡ [] }
-            requires room { vec_len desks.passes ≤ vec_capacity desks.peers }
             ensures serving { Serving
-                (IsAttended P.left P.taken P.written P.Source.faults P.ended)
-                (IsFresh P.taken P.written P.Source.faults P.ended)
-                1 desks.passes.items result.passes.items [] result.peers.items
-                (heard L.waiting L.hung_up L.accepts L.hang_ups L.faults desks.listener)
-                (heard L.waiting L.hung_up L.accepts L.hang_ups L.faults result.listener) }
-            ensures port_kept { L.listens_to result.listener ≡ L.listens_to desks.listener }
-        { accept_all(rt, alloc, scope, lock, DeskNo(1), desks) },
+                (λ desk pass pass' way way'. IsBegun P.left P.taken P.written P.Source.faults P.ended desk pass pass' way way' true)
+                1 desks.passes.items result.passes.items desks.ways.items result.ways.items }
+        { accept_all(rt, alloc, scope, lock, shared, word, DeskNo(1), desks) },
     );
     closing.close();
     desks
 }
 
-// Joins the passes, hangs the peers up, and ends the lock.
-fn ended<K: Keeper, L: Listener>(lock: TurnLock<Book<K>>, team: Team<K, L>) -> Served<K, L>
+// Ends both locks.
+fn ended<K: Keeper, L: Listener>(
+    lock: TurnLock<Book<K>>,
+    shared: TurnLock<SharedListener<L>>,
+    way: Pass<SharedListener<L>>,
+    team: Team<K, L>,
+) -> Served<K, L>
     requires same_lock { team.worker.pass.lock ≡ lock.lock }
     requires of_lock { All (λ other. other.lock ≡ lock.lock) team.desks.passes.items }
     requires zero { team.worker.pass.view.number ≡ 0 }
     requires none_joined { team.worker.pass.view.joined ≡ [] }
     requires split { team.worker.pass.view.split ≡ length team.desks.passes.items }
-    requires outstanding { L.hang_ups team.desks.listener + length team.desks.peers.items ≤ L.accepts team.desks.listener }
-    ensures closed { IsClosed team.worker.pass.view team.desks.passes.items result.book.history result.book.keeper.faults }
+    requires same_way_lock { way.lock ≡ shared.lock }
+    requires of_way_lock { All (λ other. other.lock ≡ shared.lock) team.desks.ways.items }
+    requires way_zero { way.view.number ≡ 0 }
+    requires no_way_joined { way.view.joined ≡ [] }
+    requires ways_split { way.view.split ≡ length team.desks.ways.items }
+    ensures closed { IsClosed team.worker.pass.view team.desks.passes.items (with_makers result.book.history) result.book.keeper.faults }
     ensures legal { IsLegal result.book.history }
     ensures follows { Follows team.worker.pass.view.start result.book }
-    ensures hung_up { HangsUp (heard L.waiting L.hung_up L.accepts L.hang_ups L.faults team.desks.listener)
-        (heard L.waiting L.hung_up L.accepts L.hang_ups L.faults result.listener) (reverse team.desks.peers.items) }
-    ensures port_kept { L.listens_to result.listener ≡ L.listens_to team.desks.listener }
+    ensures unshared { IsUnshared (heard L.waiting L.hung_up L.accepts L.hang_ups L.faults) L.listens_to
+        (IsFresh L.Peer.taken L.Peer.written L.Peer.Source.faults L.Peer.ended) way.view team.desks.ways.items result.listener
+        result.accepted }
     ensures build { result.build ≡ team.worker.build }
-    ensures accepted { result.accepted ≡ length team.desks.peers.items }
 {
     let Team { worker, desks } = team;
     let Worker { pass, build } = worker;
-    let Desks {
-        listener,
-        passes,
-        peers,
-    } = desks;
-    let pass = join_all(&lock, pass, passes);
-    let accepted = peers.len();
-    let listener = hang_up_all(listener, peers);
-    let book = lock.close(pass);
+    let Desks { passes, ways } = desks;
+    let Unshared { listener, accepted } = unshare(shared, way, ways);
+    let book = close_all(lock, pass, passes);
     // Whatever threads did to the book, its history is legal: its own counts tell so.
     let _records = book.accepted();
     Served {

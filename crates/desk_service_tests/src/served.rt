@@ -15,23 +15,25 @@ use stock_nums::numbers::RecordNo;
 /// What a service leaves: how many peers it accepted and how many records, and its listener.
 #[derive(Drop)]
 pub struct Ending<L> {
-    pub accepted: usize,
+    pub accepted: u32,
     pub records: RecordNo,
     pub listener: L,
 }
 
-/// Serves the peers by so many desks; none where memory is wanting. It stands for any listener, so that no test carries the clauses of
+/// Serves so many peers by so many desks; none where memory is wanting. It stands for any listener, so that no test carries the clauses of
 /// a service at its own.
-pub fn served<P: Link, L: Listener<Peer = P> + Drop, R: Threads + Wait + Sync>(
+pub fn served<P: Link, L: Listener<Peer = P> + Send + Drop, R: Threads + Wait + Sync>(
     rt: &R,
     alloc: Global,
     listener: L,
     desks: u32,
+    connections: u32,
 ) -> Option<Ending<L>>
-    requires { (0 < desks) × (desks ≤ MAX_DESK) }
+    requires desks { (0 < desks) × (desks ≤ MAX_DESK) }
+    requires connections { desks ≤ connections }
 {
     let (book, build) = RevaluedBook::<Nowhere>::start(alloc).into_parts();
-    let Ok(served) = serve(rt, alloc, book, build, listener, desks) else {
+    let Ok(served) = serve(rt, alloc, book, build, listener, desks, connections) else {
         return None;
     };
     Some(Ending {

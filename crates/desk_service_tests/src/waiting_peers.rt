@@ -38,7 +38,7 @@ fn have_ended<R: Wait>(listener: &Talkers<R>) -> bool {
 fn two_peers_that_wait_for_one_another_are_served(rt: HostRuntime) -> Result<(), Fail> {
     let alloc = rt.alloc();
     let listener = Talkers::new(two_scripts(&rt, alloc)?, Vec::new(alloc));
-    let Some(ending) = served(&rt, alloc, listener, 2) else {
+    let Some(ending) = served(&rt, alloc, listener, 2, 2) else {
         panic!(rt; "no memory")
     };
     assert!(rt; ending.accepted == 2 && ending.records == RecordNo(2));
