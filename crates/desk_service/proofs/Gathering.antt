@@ -1,8 +1,8 @@
 -- What passes made, gathered as they were joined into pass 0.
-use Rattle.std.proofs.Common.{◌≡◌, ◌≢◌, ℕ, zero, suc, ◌+◌, ◌<◌, List, [], ◌∷◌, ◌++◌, length, map, refl, sym, ap, ◌∙◌, subst, eq-eqb, ne_eqb, arith}
+use Rattle.std.proofs.Common.{◌≡◌, ◌≢◌, ℕ, zero, suc, ◌+◌, ◌<◌, ◌≤◌, List, [], ◌∷◌, ◌++◌, length, map, refl, sym, ap, ◌∙◌, subst, eq-eqb, ne_eqb, arith}
 use mathlib.Core.Logic.{dite}
 use native.Mathlib.Decide.{ℕ_discrete}
-use Rattle.std.specs.Prelude.{All, ◌==◌, if◌then◌else◌, slice_index_or, sum_by}
+use Rattle.std.specs.Prelude.{All, ◌==◌, if◌then◌else◌, sum_by}
 use Rattle.std.proofs.lemmas.List.{map-append}
 use Rattle.std.proofs.lemmas.List.Sums.{sum_by-cons}
 use Rattle.std.proofs.lemmas.List.Elements.{All-nil, All-cons, All-head, All-tail, All-weaker}
@@ -12,6 +12,7 @@ use Rattle.turn_lock.specs.Views.{all_faults, joined_made, kept_of, made_through
 use Rattle.turn_lock.specs.declared.view.Joined.{Joined}
 use Rattle.turn_lock.specs.declared.view.View.{View}
 use Rattle.desk_service.specs.Passes.{fresh, passes_from, joined_all}
+use Rattle.desk_service.specs.Service.{total_to}
 
 -- so many numbers, from the lowest on, which comes last
 abbrev pub IsDown : ℕ → ℕ → List ℕ → Type 0
@@ -117,21 +118,6 @@ module _ {E : Type 0} where
       (All-weaker (λ (p : PassView E). p.view.number < low + n) (λ (p : PassView E). p.view.number < low + suc n)
       (λ p less. omega arith) passes (below low n passes down.1))
 
-  -- of passes with numbers of their own each is found by its number
-  pub found : (low n : ℕ) (passes : List (PassView E)) → IsDown low n (numbers passes)
-      → All (λ pass. made_in pass.view.number passes ≡ pass.view.made) passes
-  found low zero [] down = All-nil (λ (pass : PassView E). made_in pass.view.number [] ≡ pass.view.made)
-  found low zero (pass ∷ passes) down = absurd down
-  found low (suc n) [] down = absurd down
-  found low (suc n) (pass ∷ passes) down =
-      All-cons (λ (p : PassView E). made_in p.view.number (pass ∷ passes) ≡ p.view.made) pass passes
-      (rw (eq-eqb pass.view.number pass.view.number refl) refl)
-      (λ i d within.
-      let other = slice_index_or passes i d in
-      let less = below low n passes down.1 i d within in
-      let own = down.0 in
-      rw (ne_eqb pass.view.number other.view.number (λ same. omega arith)) (found low n passes down.1 i d within))
-
   -- no pass of these has this number
   pub made_in-none : (k : ℕ) (passes : List (PassView E)) → All (λ pass. pass.view.number ≢ k) passes → made_in k passes ≡ []
   made_in-none k [] none = refl
@@ -139,18 +125,46 @@ module _ {E : Type 0} where
       rw (ne_eqb pass.view.number k (All-head (λ (p : PassView E). p.view.number ≢ k) pass passes none))
       (made_in-none k passes (All-tail (λ (p : PassView E). p.view.number ≢ k) pass passes none))
 
-  -- nor has any of these others made anything
-  pub made_in-unused : (k : ℕ) (unused passes : List (PassView E)) → All (λ pass. pass.view.made ≡ []) unused
-      → All (λ pass. pass.view.number ≢ k) passes → made_in k (unused ++ passes) ≡ []
-  made_in-unused k [] passes nothing none = made_in-none k passes none
-  made_in-unused k (pass ∷ unused) passes nothing none =
-      let rest = made_in-unused k unused passes (All-tail (λ (p : PassView E). p.view.made ≡ []) pass unused nothing) none in
-      dite (ℕ_discrete pass.view.number k)
-      (λ same. rw (eq-eqb pass.view.number k same) (All-head (λ (p : PassView E). p.view.made ≡ []) pass unused nothing))
-      (λ other. rw (ne_eqb pass.view.number k other) rest)
+  -- how many faults were counted in the turns of the pass with this number, of these
+  abbrev pub count_in : ℕ → List (PassView E) → ℕ
+  count_in k [] = 0
+  count_in k (pass ∷ passes) = if pass.view.number == k then pass.view.faults else count_in k passes
 
--- of two lists each has what all of their sum have
-pub All-both : {A : Type 0} (P : A → Type 0) (xs ys : List A) → All P xs → All P ys → All P (xs ++ ys)
-All-both P [] ys these those = those
-All-both P (x ∷ xs) ys these those =
-    All-cons P x (xs ++ ys) (All-head P x xs these) (All-both P xs ys (All-tail P x xs these) those)
+  counts-more : (n : ℕ) (pass : PassView E) (passes : List (PassView E)) → n < pass.view.number
+      → total_to n (λ k. count_in k (pass ∷ passes)) ≡ total_to n (λ k. count_in k passes)
+  counts-more zero pass passes before = refl
+  counts-more (suc n) pass passes before =
+      let own : count_in (suc n) (pass ∷ passes) ≡ count_in (suc n) passes = rw (ne_eqb pass.view.number (suc n) (λ same. omega arith)) refl in
+      let rest = counts-more n pass passes (omega arith) in
+      omega (arith, own, rest)
+
+  -- of passes that are numbered from 1 on, the counts of all numbers are those of all passes
+  pub counts-all : (n : ℕ) (passes : List (PassView E)) → IsDown 1 n (numbers passes)
+      → total_to n (λ k. count_in k passes) ≡ sum_by (λ pass. pass.view.faults) passes
+  counts-all zero [] down = refl
+  counts-all zero (pass ∷ passes) down = absurd down
+  counts-all (suc n) [] down = absurd down
+  counts-all (suc n) (pass ∷ passes) down =
+      let is : pass.view.number ≡ suc n = let h = down.0 in omega arith in
+      let own : count_in (suc n) (pass ∷ passes) ≡ pass.view.faults = rw (eq-eqb pass.view.number (suc n) is) refl in
+      let before = counts-more n pass passes (omega (arith, is)) in
+      let rest = counts-all n passes down.1 in
+      omega (arith, own, before, rest, sum_by-cons (λ (p : PassView E). p.view.faults) pass passes)
+
+  pub no_later : (low n k : ℕ) (passes : List (PassView E)) → IsDown low n (numbers passes) → low + n ≤ k
+      → All (λ pass. pass.view.number ≢ k) passes
+  no_later low n k passes down later =
+      All-weaker (λ (p : PassView E). p.view.number < low + n) (λ (p : PassView E). p.view.number ≢ k) (λ p less same. omega arith) passes
+      (below low n passes down)
+
+  no_earlier : (low n k : ℕ) (passes : List (PassView E)) → IsDown low n (numbers passes) → k < low → All (λ pass. pass.view.number ≢ k) passes
+  no_earlier low zero k [] down before = All-nil (λ (p : PassView E). p.view.number ≢ k)
+  no_earlier low zero k (pass ∷ passes) down before = absurd down
+  no_earlier low (suc n) k [] down before = absurd down
+  no_earlier low (suc n) k (pass ∷ passes) down before =
+      let own = down.0 in
+      All-cons (λ (p : PassView E). p.view.number ≢ k) pass passes (λ same. omega arith) (no_earlier low n k passes down.1 before)
+
+  -- of passes that are numbered from 1 on, pass 0 is none
+  pub no_zero : (n : ℕ) (passes : List (PassView E)) → IsDown 1 n (numbers passes) → All (λ pass. pass.view.number ≢ 0) passes
+  no_zero n passes down = no_earlier 1 n 0 passes down (omega arith)

@@ -1,7 +1,9 @@
 pub mod SplitOff
-pub mod Hearing
-pub mod Attending
+pub mod Beginning
 pub mod Gathering
+pub mod AtWork
+pub mod Ended
+pub mod Coming
 pub mod Revaluing
 pub mod KeptReports
 pub mod Together

@@ -8,7 +8,7 @@ use Rattle.turn_lock.specs.Passes.{PassView}
 use Rattle.turn_lock.specs.Views.{opened, split_left, split_right, joined_view}
 use Rattle.turn_lock.specs.declared.view.Start.{Start}
 use Rattle.turn_lock.specs.declared.view.View.{View}
-use Rattle.desk_service.specs.Passes.{fresh, passes_from, ArePassesFrom, joined_all}
+use Rattle.desk_service.specs.Passes.{fresh, passes_from, joined_all}
 
 module _ {E : Type 0} where
   -- the last of them is joined first
@@ -68,27 +68,18 @@ same_last xs ys x y same =
     (sym (reverse-reverse xs) ∙ ap reverse rest ∙ reverse-reverse ys, cc)
 
 -- the last of passes from this number on, and the others
-pub record Popped {E : Type 0} (lock : TableId) (number : ℕ) (rest : List (PassView E)) (pass : PassView E) : Type 0 where
-  pub known : View E
+pub record Popped {E : Type 0} (lock : TableId) (known : View E) (number : ℕ) (rest : List (PassView E)) (pass : PassView E) : Type 0 where
   pub rest_is : rest ≡ passes_from lock known (number + 1) (length rest)
-  pub lock_is : pass.lock ≡ lock
-  pub number_is : pass.view.number ≡ number
-  pub stops_are : pass.view.stops ≡ []
+  pub pass_is : pass ≡ record { lock = lock; view = fresh known number }
 
-pub popped : {E : Type 0} (lock : TableId) (number : ℕ) (all rest : List (PassView E)) (pass : PassView E)
-    → ArePassesFrom lock number all → all ≡ rest ++ pass ∷ [] → Popped lock number rest pass
-popped lock number all rest pass from parts =
+pub popped : {E : Type 0} (lock : TableId) (known : View E) (number : ℕ) (all rest : List (PassView E)) (pass : PassView E)
+    → all ≡ passes_from lock known number (length all) → all ≡ rest ++ pass ∷ [] → Popped lock known number rest pass
+popped lock known number all rest pass from parts =
     let longer : length all ≡ suc (length rest) = omega (arith, ap length parts, length-append rest (pass ∷ [])) in
-    let both = same_last rest (passes_from lock from.0 (number + 1) (length rest)) pass (record { lock = lock; view = fresh from.0 number })
-    (sym parts ∙ from.1 ∙ ap (passes_from lock from.0 number) longer)
+    let both = same_last rest (passes_from lock known (number + 1) (length rest)) pass (record { lock = lock; view = fresh known number })
+    (sym parts ∙ from ∙ ap (passes_from lock known number) longer)
     in
-    record {
-      known = from.0;
-      rest_is = both.0;
-      lock_is = ap (λ p. p.lock) both.1;
-      number_is = ap (λ p. p.view.number) both.1;
-      stops_are = ap (λ p. p.view.stops) both.1;
-    }
+    record { rest_is = both.0; pass_is = both.1 }
 
 -- what is split off a pass that was just opened, and what it knows then
 module _ {E : Type 0} where

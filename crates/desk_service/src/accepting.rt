@@ -62,30 +62,11 @@ pub fn accept_all<
     ensures serving { Serving (λ desk pass pass' way way'. IsBegun P.left P.taken P.written P.Source.faults P.ended desk pass pass' way way' true)
         next.0 desks.passes.items result.passes.items desks.ways.items result.ways.items }
 {
-    let Desks {
-        mut passes,
-        mut ways,
-    } = desks;
-    if passes.is_empty() {
-        return Desks { passes, ways };
+    if desks.passes.is_empty() {
+        return desks;
     }
-    let Some(pass) = passes.pop() else {
-        unreachable!()
-    };
-    let Some(way) = ways.pop() else {
-        unreachable!()
-    };
-    let started = open(
-        rt,
-        alloc,
-        scope,
-        lock,
-        shared,
-        alone,
-        next,
-        Desk { pass, way },
-    );
-    let rest = Desks { passes, ways };
+    let First { desk, others } = first_of(desks);
+    let started = open(rt, alloc, scope, lock, shared, alone, next, desk);
     let rest = accept_all(
         rt,
         alloc,
@@ -94,9 +75,43 @@ pub fn accept_all<
         shared,
         alone,
         DeskNo(next.0 + 1),
-        rest,
+        others,
     );
     with_desk(rest, finish(rt, alloc, lock, shared, started))
+}
+
+// The desk that is next, and the others.
+#[derive(Drop)]
+struct First<K: Keeper, L: Listener> {
+    desk: Desk<K, L>,
+    others: Desks<K, L>,
+}
+
+// Takes the next desk out, which is the last.
+fn first_of<K: Keeper, L: Listener>(desks: Desks<K, L>) -> First<K, L>
+    requires some { 0 < vec_len desks.passes }
+    requires as_many { vec_len desks.ways ≡ vec_len desks.passes }
+    ensures passes { desks.passes.items ≡ result.others.passes.items ++ result.desk.pass ∷ [] }
+    ensures ways { desks.ways.items ≡ result.others.ways.items ++ result.desk.way ∷ [] }
+    ensures passes_len { vec_len desks.passes ≡ vec_len result.others.passes + 1 }
+    ensures ways_len { vec_len desks.ways ≡ vec_len result.others.ways + 1 }
+    ensures passes_kept { vec_capacity result.others.passes ≡ vec_capacity desks.passes }
+    ensures ways_kept { vec_capacity result.others.ways ≡ vec_capacity desks.ways }
+{
+    let Desks {
+        mut passes,
+        mut ways,
+    } = desks;
+    let Some(pass) = passes.pop() else {
+        unreachable!()
+    };
+    let Some(way) = ways.pop() else {
+        unreachable!()
+    };
+    First {
+        desk: Desk { pass, way },
+        others: Desks { passes, ways },
+    }
 }
 
 // Finds the desk's first peer, and starts the desk.

@@ -61,7 +61,7 @@ pub fn begin<K: Keeper, P: Link, L: Listener<Peer = P>, R: Wait>(
     requires few_way_turns { length desk.way.view.stops < 2 ^ 57 }
     requires way { IsWay desk.way.view }
     requires came { NotesCame number.0 first [] desk.way.view.made }
-    ensures { IsBegun P.left P.taken P.written P.Source.faults P.ended number.0 desk.pass result.desk.pass desk.way result.desk.way
+    ensures begun { IsBegun P.left P.taken P.written P.Source.faults P.ended number.0 desk.pass result.desk.pass desk.way result.desk.way
         result.is_over }
 {
     let desk = serve_one(rt, alloc, lock, shared, number, desk, first);
@@ -123,9 +123,7 @@ pub fn start<
         desk.pass begun.desk.pass desk.way begun.desk.way begun.is_over) }
 {
     match first {
-        Some(first) => start_thread(
-            rt, alloc, scope, lock, shared, alone, number, desk, first,
-        ),
+        Some(first) => start_thread(rt, alloc, scope, lock, shared, alone, number, desk, first),
         None => Err(Begun {
             desk,
             is_over: true,
@@ -194,13 +192,19 @@ fn start_thread<
     }
 }
 
-// What the thread leaves, once it has ended.
-fn joined<K: Keeper, L: Listener, R: Threads>(rt: &R, running: Running<K, L>) -> Begun<K, L>
-    ensures thread { IfOk running (λ thread. IsBegun L.Peer.left L.Peer.taken L.Peer.written L.Peer.Source.faults L.Peer.ended
-        thread.promise.number.0 thread.promise.pass.value result.desk.pass thread.promise.way.value result.desk.way result.is_over) }
-    ensures here { IfErr running (λ begun. result ≡ begun) }
+// What the desk has done, once its thread has ended, if it has one.
+fn joined<K: Keeper, P: Link, L: Listener<Peer = P>, R: Threads>(
+    rt: &R,
+    started: Started<K, L>,
+) -> Begun<K, L>
+    requires promised { IfOk started.running (λ thread. (thread.promise.number.0 ≡ started.promise.number.0)
+        × (thread.promise.pass.value ≡ started.promise.pass.value) × (thread.promise.way.value ≡ started.promise.way.value)) }
+    requires begun { IfErr started.running (λ begun. IsBegun P.left P.taken P.written P.Source.faults P.ended started.promise.number.0
+        started.promise.pass.value begun.desk.pass started.promise.way.value begun.desk.way begun.is_over) }
+    ensures begun { IsBegun P.left P.taken P.written P.Source.faults P.ended started.promise.number.0
+        started.promise.pass.value result.desk.pass started.promise.way.value result.desk.way result.is_over }
 {
-    match running {
+    match started.running {
         Ok(thread) => thread.join(rt),
         Err(begun) => begun,
     }
@@ -221,13 +225,13 @@ pub fn finish<K: Keeper, P: Link, L: Listener<Peer = P>, R: Threads + Wait>(
         × (thread.promise.pass.value ≡ started.promise.pass.value) × (thread.promise.way.value ≡ started.promise.way.value)) }
     requires begun { IfErr started.running (λ begun. IsBegun P.left P.taken P.written P.Source.faults P.ended started.promise.number.0
         started.promise.pass.value begun.desk.pass started.promise.way.value begun.desk.way begun.is_over) }
-    ensures { IsBegun P.left P.taken P.written P.Source.faults P.ended started.promise.number.0
+    ensures attended { IsBegun P.left P.taken P.written P.Source.faults P.ended started.promise.number.0
         started.promise.pass.value result.pass started.promise.way.value result.way true }
 {
-    let Started { promise, running } = started;
-    let Begun { desk, is_over } = joined(rt, running);
+    let number = started.promise.number;
+    let Begun { desk, is_over } = joined::<K, P, L, R>(rt, started);
     if is_over {
         return desk;
     }
-    go_further(rt, alloc, lock, shared, promise.number, desk)
+    go_further(rt, alloc, lock, shared, number, desk)
 }

@@ -1,5 +1,5 @@
 //! The two locks that desks share: one round the book, and one round the listener.
-ghost use Rattle.std.specs.Prelude.{◌≡◌, ◌+◌, ◌<◌, ◌≤◌, IfOk, IfErr};
+ghost use Rattle.std.specs.Prelude.{◌≡◌, ℕ, ◌+◌, ◌<◌, ◌≤◌, length, IfOk, IfErr};
 ghost use Rattle.stock_nums.specs.declared.limits.TheConstants.{MAX_DESK};
 ghost use Rattle.turn_lock.specs.Views.{opened};
 ghost use Rattle.session_laws.specs.Makers.{with_makers};
@@ -55,15 +55,9 @@ pub fn lock_both<K: Keeper, L: Listener + Drop>(
 {
     let first = Snapshot::of(&book);
     let source = Snapshot::of(&listener);
-    let shared = SharedListener::new(listener, desks, connections);
-    let (shared, way) = match TurnLock::new(alloc, shared, desks + 1) {
+    let (shared, way) = match share(alloc, listener, desks, connections) {
         Ok(made) => made,
-        Err(NotMade { book: shared }) => {
-            return Err(NotLocked {
-                book,
-                listener: shared.into_listener(),
-            });
-        }
+        Err(listener) => return Err(NotLocked { book, listener }),
     };
     match TurnLock::new(alloc, book, desks + 1) {
         Ok((lock, pass)) => Ok(Locks {
@@ -78,7 +72,36 @@ pub fn lock_both<K: Keeper, L: Listener + Drop>(
         }),
         Err(NotMade { book }) => Err(NotLocked {
             book,
-            listener: shared.close(way).into_listener(),
+            listener: take_back(shared, way),
         }),
     }
+}
+
+// A lock round the listener, and pass 0. The listener comes back where memory is wanting.
+fn share<L: Listener>(
+    alloc: Global,
+    listener: L,
+    desks: u32,
+    connections: u32,
+) -> Result<(TurnLock<SharedListener<L>>, Pass<SharedListener<L>>), L>
+    requires desks { desks ≤ MAX_DESK }
+    ensures shared { IfOk result (λ made. IsLocked made.0 made.1.lock desks) }
+    ensures way { IfOk result (λ made. IsNewWay listener desks connections made.1.view) }
+    ensures not_shared { IfErr result (λ back. back ≡ listener) }
+{
+    let shared = SharedListener::new(listener, desks, connections);
+    match TurnLock::new(alloc, shared, desks + 1) {
+        Ok(made) => Ok(made),
+        Err(NotMade { book }) => Err(book.into_listener()),
+    }
+}
+
+// Ends a lock under which no desk did anything.
+fn take_back<L: Listener>(shared: TurnLock<SharedListener<L>>, way: Pass<SharedListener<L>>) -> L
+    requires same_lock { way.lock ≡ shared.lock }
+    requires zero { way.view.number ≡ 0 }
+    requires all_joined { length way.view.joined ≡ way.view.split }
+    ensures same { (listener : L) (desks wanted : ℕ) → IsNewWay listener desks wanted way.view → result ≡ listener }
+{
+    shared.close(way).into_listener()
 }

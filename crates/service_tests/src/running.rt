@@ -168,7 +168,7 @@ fn run_over(
 fn call<
     H: Shelf,
     P: Link,
-    L: Listener<Peer = P> + Drop,
+    L: Listener<Peer = P> + Send + Drop,
     S: Source,
     O: Sink,
     N: Sink,

@@ -6,7 +6,7 @@ ghost use Rattle.stock_io.specs.Listeners.{IsFresh};
 ghost use Rattle.stock_keeper.specs.Keeping.{AsksAt, AsksAtMost};
 ghost use Rattle.repost_worker.specs.Paces.{Pace, first_pace};
 ghost use Rattle.stock_io.specs.Heard.{heard};
-ghost use Rattle.desk_service.specs.Service.{IsPeerServed};
+ghost use Rattle.desk_service.specs.Service.{AreServedBy};
 ghost use Rattle.stock_words.specs.ServeWords.{Service};
 ghost use Rattle.stock_words.specs.Words.{IsAudit, IsBatch, IsBatchOver, IsImport, IsLoad, IsServe};
 ghost use Rattle.stock_ends.specs.declared.end.End.{End};
@@ -56,7 +56,7 @@ pub struct Finished<L> {
 pub fn stockd<
     H: Shelf,
     P: Link,
-    L: Listener<Peer = P> + Drop,
+    L: Listener<Peer = P> + Send + Drop,
     S: Source,
     O: Sink,
     N: Sink,
@@ -122,8 +122,8 @@ pub fn stockd<
         × TellsEnd N.written N.faults notes.old notes.new result.status end
         × ServesOverShelf H.Kept.tells H.tells H.plan H.faults H.kept_faults
         (heard L.waiting L.hung_up L.accepts L.hang_ups L.faults) O.written O.faults
-        (IsPeerServed P.left P.taken P.written P.Source.faults P.ended)
-        (IsFresh P.taken P.written P.Source.faults P.ended) service.desks
+        (AreServedBy P.left P.taken P.written P.Source.faults P.ended)
+        (IsFresh P.taken P.written P.Source.faults P.ended) service.desks service.desks
         shelf.old shelf.new listener result.listener output.old output.new end }
     ensures serve_takes_nothing { (service : Service) → IsServe words.now service → input.new ≡ input.old }
     ensures nothing_heard { ((service : Service) → IsServe words.now service → ⊥) → result.listener ≡ listener }
@@ -230,7 +230,7 @@ pub fn stockd<
 fn serve_asked<
     H: Shelf,
     P: Link,
-    L: Listener<Peer = P> + Drop,
+    L: Listener<Peer = P> + Send + Drop,
     O: Sink,
     N: Sink,
     R: Threads + Wait + Sync,
@@ -247,8 +247,8 @@ fn serve_asked<
     ensures serves { (end : End) × TellsEnd N.written N.faults notes.old notes.new result.status end
         × ServesOverShelf H.Kept.tells H.tells H.plan H.faults H.kept_faults
         (heard L.waiting L.hung_up L.accepts L.hang_ups L.faults) O.written O.faults
-        (IsPeerServed P.left P.taken P.written P.Source.faults P.ended)
-        (IsFresh P.taken P.written P.Source.faults P.ended) asked.entry.desks
+        (AreServedBy P.left P.taken P.written P.Source.faults P.ended)
+        (IsFresh P.taken P.written P.Source.faults P.ended) asked.entry.desks asked.entry.desks
         shelf.old shelf.new listener result.listener output.old output.new end }
     ensures opens { AsksAt H.opened H.openings asked.entry.path.now shelf.old shelf.new }
     ensures listens { ListensTo L.listens_to L.accepts asked.entry.port asked.entry.idle listener result.listener }
@@ -261,6 +261,7 @@ fn serve_asked<
     ensures silent { result.status ≡ 0 → notes.new ≡ notes.old }
     ensures notes_never_fall { NeverFalls (N.faults notes.old) (N.faults notes.new) }
 {
+    let connections = asked.desks;
     let ServiceEnd { end, listener } = serve_over(
         rt,
         alloc,
@@ -270,6 +271,7 @@ fn serve_asked<
         asked.port,
         asked.idle,
         asked.desks,
+        connections,
         output,
     );
     Finished {

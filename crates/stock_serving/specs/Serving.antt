@@ -16,6 +16,7 @@ use Rattle.repost_worker.specs.Openings.{state_of, opened_history, IsLoaded}
 use Rattle.repost_worker.specs.Paces.{Pace, IsAtRest}
 use Rattle.repost_worker.specs.Published.{Publishes}
 use Rattle.stock_io.specs.Heard.{Heard}
+use Rattle.desk_connections.specs.Visits.{Visit}
 use Rattle.desk_service.specs.Service.{IsService}
 use Rattle.stock_ends.specs.Openings.{IsNotOpened, IsUnbegunFor, IsOpenedAs, IsPutBack}
 use Rattle.stock_ends.specs.declared.end.End.{End}
@@ -66,12 +67,12 @@ pub record IsUnheard {P : Type 0} (first last : Pace) (old new : Heard P) : Type
   pub nothing_kept : last ≡ first
   pub cause : Rose old.faults new.faults
 
-module _ {P : Type 0} (serves : ℕ → ℕ → ℕ → List Deed → List Deed → P → P → Type 0) (is_fresh : P → Type 0) (desks : ℕ) where
+module _ {P : Type 0} (serves : ℕ → ℕ → ℕ → List Deed → List Deed → List (Visit P) → Type 0) (is_fresh : P → Type 0) (desks connections : ℕ) where
   -- fewer peers came than were wanted, as the listener failed: those were served, and nothing was settled
   pub record IsCutShort (first last : Pace) (old new : Heard P) : Type 0 where
     pub came : ℕ
-    pub few : came < desks
-    pub service : IsService serves is_fresh desks came first.history last.history first.keeper.faults last.keeper.faults old new
+    pub few : came < connections
+    pub service : IsService serves is_fresh desks connections came first.history last.history first.keeper.faults last.keeper.faults old new
     pub calls : CallsEach first last
     pub cause : Rose old.faults new.faults
 
@@ -79,7 +80,7 @@ module _ {P : Type 0} (serves : ℕ → ℕ → ℕ → List Deed → List Deed 
   -- legal still.
   pub record IsServedThen (settles : Pace → Pace → Type 0) (first last : Pace) (old new : Heard P) : Type 0 where
     pub served : Pace
-    pub service : IsService serves is_fresh desks desks first.history served.history first.keeper.faults served.keeper.faults old new
+    pub service : IsService serves is_fresh desks connections connections first.history served.history first.keeper.faults served.keeper.faults old new
     pub calls : CallsEach first served
     pub then : settles served last
     pub legal : IsLegal last.history
@@ -142,19 +143,19 @@ pub record IsBegun {Kt : Type 0} (tells may_leave : Kt → Tables → Type 0) (f
 
 -- what a service over a keeper leaves: the text of its summary, or the end that it came to without one
 module _ {Kt L P : Type 0} (tells may_leave : Kt → Tables → Type 0) (faults : Kt → ℕ) (plan : Kt → Option (List ℕ)) (calls : Kt → ℕ)
-    (hears : L → Heard P) (serves : ℕ → ℕ → ℕ → List Deed → List Deed → P → P → Type 0) (is_fresh : P → Type 0) (desks : ℕ) where
+    (hears : L → Heard P) (serves : ℕ → ℕ → ℕ → List Deed → List Deed → List (Visit P) → Type 0) (is_fresh : P → Type 0) (desks connections : ℕ) where
   abbrev pub LeavesKept : Result (String Global) End → Kt → Kt → L → L → Type 0
   LeavesKept (Ok text) keeper_before keeper_after listener_before listener_after =
-      IsBegun tells may_leave faults plan calls (λ first last. Leaves serves is_fresh desks (Ok text) first last (hears listener_before) (hears listener_after))
+      IsBegun tells may_leave faults plan calls (λ first last. Leaves serves is_fresh desks connections (Ok text) first last (hears listener_before) (hears listener_after))
       keeper_before keeper_after
   LeavesKept (Err end) keeper_before keeper_after listener_before listener_after =
       IsUnbegunKeeper tells faults plan calls keeper_before keeper_after listener_before listener_after end
-      ⊎ IsBegun tells may_leave faults plan calls (λ first last. Leaves serves is_fresh desks (Err end) first last (hears listener_before) (hears listener_after))
+      ⊎ IsBegun tells may_leave faults plan calls (λ first last. Leaves serves is_fresh desks connections (Err end) first last (hears listener_before) (hears listener_after))
       keeper_before keeper_after
 
 module _ {H Kt L P O : Type 0} (kept_tells : Kt → Tables → Type 0) (tells : H → Tables → Type 0) (plan : H → Option (List ℕ))
     (faults kept_faults : H → ℕ) (hears : L → Heard P) (written : O → Option (List ℕ)) (write_faults : O → ℕ)
-    (serves : ℕ → ℕ → ℕ → List Deed → List Deed → P → P → Type 0) (is_fresh : P → Type 0) (desks : ℕ) where
+    (serves : ℕ → ℕ → ℕ → List Deed → List Deed → List (Visit P) → Type 0) (is_fresh : P → Type 0) (desks connections : ℕ) where
   -- the ledger was opened and served, the keeper that is back on the shelf has the tables of the last history, which is legal, and
   -- the summary of that was told
   pub record IsServedOver (shelf_before shelf_after : H) (listener_before listener_after : L) (output_before output_after : O) (end : End) : Type 0 where
@@ -162,7 +163,7 @@ module _ {H Kt L P O : Type 0} (kept_tells : Kt → Tables → Type 0) (tells : 
     pub last : Pace
     pub opened : IsOpenedAs kept_tells (tells shelf_before) (plan shelf_before) first
     pub put_back : IsPutBack (tells shelf_after) (plan shelf_after) (kept_faults shelf_after) last
-    pub served : ServesTo serves is_fresh desks end first last (hears listener_before) (hears listener_after)
+    pub served : ServesTo serves is_fresh desks connections end first last (hears listener_before) (hears listener_after)
     pub legal : IsLegal last.history
     pub failed : end ≡ StoreFailed → HasLater (plan shelf_before) (length last.history - length first.history)
     pub told : Tells written write_faults end (summary_text last.history) output_before output_after

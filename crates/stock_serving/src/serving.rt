@@ -8,7 +8,7 @@ ghost use Rattle.stock_keeper.specs.Keeping.{Within, AsksAt};
 ghost use Rattle.repost_worker.specs.Paces.{pace_of};
 ghost use Rattle.repost_worker.specs.Turns.{IsWorkOf};
 ghost use Rattle.stock_io.specs.Heard.{heard};
-ghost use Rattle.desk_service.specs.Service.{IsPeerServed};
+ghost use Rattle.desk_service.specs.Service.{AreServedBy};
 ghost use Rattle.stock_serving.specs.Serving.{summary_text, Settles, Leaves, LeavesKept, IsWritten, ServesOverShelf, ListensTo};
 
 use crate::putting_back::{PutBack, put_back};
@@ -49,14 +49,14 @@ struct BookEnd<K: Keeper, L> {
     listener: L,
 }
 
-/// Listens at the port and serves so many peers, each by a desk in a thread of its own, over the ledger that the shelf has at
+/// Listens at the port and serves so many peers, by so many desks in threads of their own, over the ledger that the shelf has at
 /// this path. A peer that is silent for `idle` seconds, if that is given, has its connection ended. Once all sessions have ended it publishes what was accepted, puts the keeper back, and writes how many records are
 /// covered and accepted. Each keeper that is handed out is put back. Where fewer peers come it ends as soon as those are served.
 /// It may wait, for peers and for the lock.
 pub fn serve_over<
     H: Shelf,
     P: Link,
-    L: Listener<Peer = P> + Drop,
+    L: Listener<Peer = P> + Send + Drop,
     O: Sink,
     R: Threads + Wait + Sync,
 >(
@@ -68,13 +68,15 @@ pub fn serve_over<
     port: u16,
     idle: Option<u32>,
     desks: u32,
+    connections: u32,
     output: &mut O,
 ) -> ServiceEnd<L>
     requires desks { (0 < desks) × (desks ≤ MAX_DESK) }
+    requires connections { desks ≤ connections }
     ensures serves { ServesOverShelf H.Kept.tells H.tells H.plan H.faults H.kept_faults
         (heard L.waiting L.hung_up L.accepts L.hang_ups L.faults) O.written O.faults
-        (IsPeerServed P.left P.taken P.written P.Source.faults P.ended)
-        (IsFresh P.taken P.written P.Source.faults P.ended) desks
+        (AreServedBy P.left P.taken P.written P.Source.faults P.ended)
+        (IsFresh P.taken P.written P.Source.faults P.ended) desks connections
         shelf.old shelf.new listener result.listener output.old output.new result.end }
     ensures opens { AsksAt H.opened H.openings path.now shelf.old shelf.new }
     ensures listens { ListensTo L.listens_to L.accepts port idle listener result.listener }
@@ -95,14 +97,19 @@ pub fn serve_over<
         summary,
         keeper,
         listener,
-    } = serve_kept(rt, alloc, keeper, listener, port, idle, desks);
+    } = serve_kept(rt, alloc, keeper, listener, port, idle, desks, connections);
     let back = put_back(shelf, keeper);
     let end = write_summary(back, summary, output);
     ServiceEnd { end, listener }
 }
 
 // Serves the peers over the ledger that the keeper keeps.
-fn serve_kept<K: Keeper + Send, P: Link, L: Listener<Peer = P> + Drop, R: Threads + Wait + Sync>(
+fn serve_kept<
+    K: Keeper + Send,
+    P: Link,
+    L: Listener<Peer = P> + Send + Drop,
+    R: Threads + Wait + Sync,
+>(
     rt: &R,
     alloc: Global,
     keeper: K,
@@ -110,13 +117,15 @@ fn serve_kept<K: Keeper + Send, P: Link, L: Listener<Peer = P> + Drop, R: Thread
     port: u16,
     idle: Option<u32>,
     desks: u32,
+    connections: u32,
 ) -> KeptEnd<K, L>
     requires settled { Within (K.tells keeper) (K.may_leave keeper) }
     requires desks { (0 < desks) × (desks ≤ MAX_DESK) }
+    requires connections { desks ≤ connections }
     ensures serves { LeavesKept K.tells K.may_leave K.faults K.plan K.calls
         (heard L.waiting L.hung_up L.accepts L.hang_ups L.faults)
-        (IsPeerServed P.left P.taken P.written P.Source.faults P.ended)
-        (IsFresh P.taken P.written P.Source.faults P.ended) desks
+        (AreServedBy P.left P.taken P.written P.Source.faults P.ended)
+        (IsFresh P.taken P.written P.Source.faults P.ended) desks connections
         result.summary keeper result.keeper listener result.listener }
     ensures listens { ListensTo L.listens_to L.accepts port idle listener result.listener }
     ensures never_falls { NeverFalls (L.faults listener) (L.faults result.listener) }
@@ -127,7 +136,7 @@ fn serve_kept<K: Keeper + Send, P: Link, L: Listener<Peer = P> + Drop, R: Thread
                 summary,
                 book,
                 listener,
-            } = serve_book(rt, alloc, book, listener, port, idle, desks);
+            } = serve_book(rt, alloc, book, listener, port, idle, desks, connections);
             KeptEnd {
                 summary,
                 keeper: keeper_of(book),
@@ -143,7 +152,12 @@ fn serve_kept<K: Keeper + Send, P: Link, L: Listener<Peer = P> + Drop, R: Thread
 }
 
 // Listens at the port, and serves the peers over the book.
-fn serve_book<K: Keeper + Send, P: Link, L: Listener<Peer = P> + Drop, R: Threads + Wait + Sync>(
+fn serve_book<
+    K: Keeper + Send,
+    P: Link,
+    L: Listener<Peer = P> + Send + Drop,
+    R: Threads + Wait + Sync,
+>(
     rt: &R,
     alloc: Global,
     book: RevaluedBook<K>,
@@ -151,18 +165,20 @@ fn serve_book<K: Keeper + Send, P: Link, L: Listener<Peer = P> + Drop, R: Thread
     port: u16,
     idle: Option<u32>,
     desks: u32,
+    connections: u32,
 ) -> BookEnd<K, L>
     requires desks { (0 < desks) × (desks ≤ MAX_DESK) }
+    requires connections { desks ≤ connections }
     ensures serves { Leaves
-        (IsPeerServed P.left P.taken P.written P.Source.faults P.ended)
-        (IsFresh P.taken P.written P.Source.faults P.ended) desks result.summary book result.book
+        (AreServedBy P.left P.taken P.written P.Source.faults P.ended)
+        (IsFresh P.taken P.written P.Source.faults P.ended) desks connections result.summary book result.book
         (heard L.waiting L.hung_up L.accepts L.hang_ups L.faults listener)
         (heard L.waiting L.hung_up L.accepts L.hang_ups L.faults result.listener) }
     ensures listens { ListensTo L.listens_to L.accepts port idle listener result.listener }
     ensures never_falls { NeverFalls (L.faults listener) (L.faults result.listener) }
 {
     match listener.listen(port, idle) {
-        Ok(()) => serve_peers(rt, alloc, book, listener, desks),
+        Ok(()) => serve_peers(rt, alloc, book, listener, desks, connections),
         Err(_) => BookEnd {
             summary: Err(End::ListenFailed),
             book,
@@ -171,26 +187,33 @@ fn serve_book<K: Keeper + Send, P: Link, L: Listener<Peer = P> + Drop, R: Thread
     }
 }
 
-// Serves the peers over the book, and settles it once all desks that were wanted have ended.
-fn serve_peers<K: Keeper + Send, P: Link, L: Listener<Peer = P> + Drop, R: Threads + Wait + Sync>(
+// Serves the peers over the book, and settles it once as many were served as were wanted.
+fn serve_peers<
+    K: Keeper + Send,
+    P: Link,
+    L: Listener<Peer = P> + Send + Drop,
+    R: Threads + Wait + Sync,
+>(
     rt: &R,
     alloc: Global,
     book: RevaluedBook<K>,
     listener: L,
     desks: u32,
+    connections: u32,
 ) -> BookEnd<K, L>
     requires desks { (0 < desks) × (desks ≤ MAX_DESK) }
+    requires connections { desks ≤ connections }
     ensures serves { Leaves
-        (IsPeerServed P.left P.taken P.written P.Source.faults P.ended)
-        (IsFresh P.taken P.written P.Source.faults P.ended) desks result.summary book result.book
+        (AreServedBy P.left P.taken P.written P.Source.faults P.ended)
+        (IsFresh P.taken P.written P.Source.faults P.ended) desks connections result.summary book result.book
         (heard L.waiting L.hung_up L.accepts L.hang_ups L.faults listener)
         (heard L.waiting L.hung_up L.accepts L.hang_ups L.faults result.listener) }
     ensures port_kept { L.listens_to result.listener ≡ L.listens_to listener }
     ensures never_falls { NeverFalls (L.faults listener) (L.faults result.listener) }
 {
     let (book, build) = book.into_parts();
-    match serve(rt, alloc, book, build, listener, desks) {
-        Ok(served) => settle_served(alloc, served, desks),
+    match serve(rt, alloc, book, build, listener, desks, connections) {
+        Ok(served) => settle_served(alloc, served, connections),
         Err(
             NotServed {
                 book,
@@ -205,13 +228,17 @@ fn serve_peers<K: Keeper + Send, P: Link, L: Listener<Peer = P> + Drop, R: Threa
     }
 }
 
-// Settles the book once all desks that were wanted have ended.
-fn settle_served<K: Keeper, L>(alloc: Global, served: Served<K, L>, desks: u32) -> BookEnd<K, L>
+// Settles the book once as many peers were served as were wanted.
+fn settle_served<K: Keeper, L>(
+    alloc: Global,
+    served: Served<K, L>,
+    connections: u32,
+) -> BookEnd<K, L>
     requires work { IsWorkOf served.book.history served.build }
     ensures listener { result.listener ≡ served.listener }
-    ensures few { served.accepted < desks
+    ensures few { served.accepted < connections
         → (result.summary ≡ Err End.ListenFailed) × (result.book ≡ pace_of served.book served.build) }
-    ensures all { desks ≤ served.accepted → Settles result.summary (pace_of served.book served.build) result.book }
+    ensures all { connections ≤ served.accepted → Settles result.summary (pace_of served.book served.build) result.book }
     ensures legal { IsLegal served.book.history → IsLegal result.book.history }
 {
     let Served {
@@ -221,7 +248,7 @@ fn settle_served<K: Keeper, L>(alloc: Global, served: Served<K, L>, desks: u32) 
         accepted,
     } = served;
     let mut book = RevaluedBook::from_parts(book, build);
-    let summary = if accepted < desks as usize {
+    let summary = if accepted < connections {
         Err(End::ListenFailed)
     } else {
         settle(alloc, &mut book)

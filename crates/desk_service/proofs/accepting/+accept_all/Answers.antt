@@ -1,77 +1,98 @@
 -- The first peer is served by the first desk, and the others by the rest.
-use Rattle.std.proofs.Common.{ℕ, ◌+◌, ◌<◌, ◌≤◌, ◌≡◌, List, [], ◌∷◌, length, sym, ap, subst, length-append, arith, rules}
-use Rattle.stock_io.specs.Listeners.{IsFresh}
-use Rattle.desk_service.specs.Desks.{IsAttended}
-use Rattle.stock_io.specs.Heard.{heard}
+use Rattle.std.proofs.Common.{ℕ, ◌+◌, ◌<◌, ◌≤◌, ◌≡◌, List, [], ◌∷◌, length, refl, sym, ap, ◌∙◌, subst, arith, rules}
 use Rattle.desk_service.specs.Serving.{Serving}
-use Rattle.desk_service.proofs.Attending.{Serving-none, Serving-more, either_way, as_promised}
-use Rattle.desk_service.proofs.Hearing.{Accepts-none, Accepts-failed, Accepts-more}
+use Rattle.desk_service.proofs.AtWork.{attends}
+use Rattle.desk_service.proofs.Beginning.{Serving-none, Serving-more, IsBegun-found, IsWay-fresh}
 use Rattle.desk_service.proofs.SplitOff.{popped}
 use Rattle.desk_service.proofs.accepting.+accept_all.Goals as goal
 
 pub returns-then-is_empty-clause-serving : goal.returns-then-is_empty-clause-serving
 returns-then-is_empty-clause-serving g t c =
-    let listener = heard g.L.Listener.waiting g.L.Listener.hung_up g.L.Listener.accepts g.L.Listener.hang_ups g.L.Listener.faults c.args.desks.listener in
-    let none : length c.args.desks.passes.items ≡ 0 = grind rules in
-    Serving-none _ _ c.args.next.0 c.args.desks.passes.items c.args.desks.peers.items listener listener
-    (Accepts-none _ (length c.args.desks.passes.items) listener none)
+    let none : c.args.desks.passes.items ≡ [] = grind rules in
+    let no_way : c.args.desks.ways.items ≡ [] = grind rules in
+    Serving-none (attends g.P.Source.left g.P.Source.taken g.P.Sink.written g.P.Source.faults g.P.Link.ended) c.args.next.0
+    c.args.desks.passes.items c.args.desks.ways.items none no_way
 
-pub returns-in_default-clause-serving : goal.returns-in_default-clause-serving
-returns-in_default-clause-serving g t c =
-    let telling = heard g.L.Listener.waiting g.L.Listener.hung_up g.L.Listener.accepts g.L.Listener.hang_ups g.L.Listener.faults in
-    let accept = c.in_default.ensures in
-    let some : 0 < length c.args.desks.passes.items = grind (rules, arith) in
-    Serving-none _ _ c.args.next.0 c.args.desks.passes.items c.args.desks.peers.items (telling c.args.desks.listener) (telling c.accept.new.self)
-    (Accepts-failed _ (length c.args.desks.passes.items) (telling c.args.desks.listener) (telling c.accept.new.self) some
-    accept.waiting_kept accept.hung_up_kept accept.not_counted accept.hang_ups_kept accept.never_falls accept.cause)
+pub open-started-requires-clause-same_lock : goal.open-started-requires-clause-same_lock
+open-started-requires-clause-same_lock g t c κs within =
+    let first = c.first_of-desk in
+    let p = popped c.args.lock.now.lock c.requires.passes.0 c.args.next.0 c.args.desks.passes.items first.result.others.passes.items first.result.desk.pass
+    c.requires.passes.1 first.ensures.passes in
+    ap (λ p. p.lock) p.pass_is
 
-pub start-started-requires-clause-same_lock : goal.start-started-requires-clause-same_lock
-start-started-requires-clause-same_lock g t c κs within =
-    let p = popped c.args.lock.now.lock c.args.next.0 c.args.desks.passes.items c.pop.new.self.items c.in-Some.pass c.requires.passes c.in-Some.ensures.items in
-    p.lock_is
+pub open-started-requires-clause-same_way_lock : goal.open-started-requires-clause-same_way_lock
+open-started-requires-clause-same_way_lock g t c κs within =
+    let first = c.first_of-desk in
+    let p = popped c.args.shared.now.lock c.requires.ways.0 c.args.next.0 c.args.desks.ways.items first.result.others.ways.items first.result.desk.way
+    c.requires.ways.2 first.ensures.ways in
+    ap (λ p. p.lock) p.pass_is
 
-pub start-started-requires-clause-number : goal.start-started-requires-clause-number
-start-started-requires-clause-number g t c κs within =
-    let p = popped c.args.lock.now.lock c.args.next.0 c.args.desks.passes.items c.pop.new.self.items c.in-Some.pass c.requires.passes c.in-Some.ensures.items in
-    sym p.number_is
+pub open-started-requires-clause-number : goal.open-started-requires-clause-number
+open-started-requires-clause-number g t c κs within =
+    let first = c.first_of-desk in
+    let p = popped c.args.lock.now.lock c.requires.passes.0 c.args.next.0 c.args.desks.passes.items first.result.others.passes.items first.result.desk.pass
+    c.requires.passes.1 first.ensures.passes in
+    sym (ap (λ p. p.view.number) p.pass_is)
 
-pub start-started-requires-clause-few_turns : goal.start-started-requires-clause-few_turns
-start-started-requires-clause-few_turns g t c κs within =
-    let p = popped c.args.lock.now.lock c.args.next.0 c.args.desks.passes.items c.pop.new.self.items c.in-Some.pass c.requires.passes c.in-Some.ensures.items in
-    subst (λ (stops : List ℕ). length stops ≤ 72057594037927936) (sym p.stops_are) (omega arith)
+pub open-started-requires-clause-way_number : goal.open-started-requires-clause-way_number
+open-started-requires-clause-way_number g t c κs within =
+    let first = c.first_of-desk in
+    let p = popped c.args.shared.now.lock c.requires.ways.0 c.args.next.0 c.args.desks.ways.items first.result.others.ways.items first.result.desk.way
+    c.requires.ways.2 first.ensures.ways in
+    sym (ap (λ p. p.view.number) p.pass_is)
+
+pub open-started-requires-clause-few_turns : goal.open-started-requires-clause-few_turns
+open-started-requires-clause-few_turns g t c κs within =
+    let first = c.first_of-desk in
+    let p = popped c.args.lock.now.lock c.requires.passes.0 c.args.next.0 c.args.desks.passes.items first.result.others.passes.items first.result.desk.pass
+    c.requires.passes.1 first.ensures.passes in
+    subst (λ (stops : List ℕ). length stops ≤ 72057594037927936) (sym (ap (λ p. p.view.stops) p.pass_is)) (omega arith)
+
+pub open-started-requires-clause-way : goal.open-started-requires-clause-way
+open-started-requires-clause-way g t c κs within =
+    let first = c.first_of-desk in
+    let p = popped c.args.shared.now.lock c.requires.ways.0 c.args.next.0 c.args.desks.ways.items first.result.others.ways.items first.result.desk.way
+    c.requires.ways.2 first.ensures.ways in
+    IsWay-fresh c.requires.ways.0 c.args.next.0 first.result.desk.way c.args.shared.now.lock c.requires.ways.1 p.pass_is
+
+pub open-started-requires-clause-nothing : goal.open-started-requires-clause-nothing
+open-started-requires-clause-nothing g t c κs within =
+    let first = c.first_of-desk in
+    let p = popped c.args.shared.now.lock c.requires.ways.0 c.args.next.0 c.args.desks.ways.items first.result.others.ways.items first.result.desk.way
+    c.requires.ways.2 first.ensures.ways in
+    ap (λ p. p.view.made) p.pass_is
 
 pub accept_all-rest-requires-clause-passes : goal.accept_all-rest-requires-clause-passes
 accept_all-rest-requires-clause-passes g t c κs within =
-    let p = popped c.args.lock.now.lock c.args.next.0 c.args.desks.passes.items c.pop.new.self.items c.in-Some.pass c.requires.passes c.in-Some.ensures.items in
-    (p.known, p.rest_is)
+    let first = c.first_of-desk in
+    let p = popped c.args.lock.now.lock c.requires.passes.0 c.args.next.0 c.args.desks.passes.items first.result.others.passes.items first.result.desk.pass
+    c.requires.passes.1 first.ensures.passes in
+    (c.requires.passes.0, p.rest_is)
+
+pub accept_all-rest-requires-clause-ways : goal.accept_all-rest-requires-clause-ways
+accept_all-rest-requires-clause-ways g t c κs within =
+    let first = c.first_of-desk in
+    let p = popped c.args.shared.now.lock c.requires.ways.0 c.args.next.0 c.args.desks.ways.items first.result.others.ways.items first.result.desk.way
+    c.requires.ways.2 first.ensures.ways in
+    (c.requires.ways.0, c.requires.ways.1, p.rest_is)
 
 pub returns-clause-serving : goal.returns-clause-serving
 returns-clause-serving g t c =
-    let telling = heard g.L.Listener.waiting g.L.Listener.hung_up g.L.Listener.accepts g.L.Listener.hang_ups g.L.Listener.faults in
-    let attends = IsAttended g.P.Source.left g.P.Source.taken g.P.Sink.written g.P.Source.faults g.P.Link.ended in
-    let is_fresh = IsFresh g.P.Source.taken g.P.Sink.written g.P.Source.faults g.P.Link.ended in
-    let pass = c.in-Some.pass in
-    let peer = c.in-Ok.peer in
-    let accept = c.in-Ok.ensures in
-    let passes = c.args.desks.passes.items in
-    let rest = c.pop.new.self.items in
+    let does = attends g.P.Source.left g.P.Source.taken g.P.Sink.written g.P.Source.faults g.P.Link.ended in
+    let first = c.first_of-desk in
+    let pass = first.result.desk.pass in
+    let way = first.result.desk.way in
+    let started = c.open-started in
     let done = c.finish.result in
-    let attended : attends c.args.next.0 pass done.pass peer done.peer =
-    either_way (λ d. attends c.args.next.0 pass d.pass peer d.peer)
-    (λ thread. (thread.promise.number.0 ≡ c.args.next.0) × (thread.promise.pass.value ≡ pass) × (thread.promise.peer.value ≡ peer))
-    (λ thread. attends thread.promise.number.0 thread.promise.pass.value done.pass thread.promise.peer.value done.peer)
-    c.start-started.result done
-    (λ thread starts ends. as_promised attends c.args.next.0 thread.promise.number.0 pass thread.promise.pass.value done.pass peer thread.promise.peer.value done.peer starts ends)
-    c.start-started.ensures.started c.start-started.ensures.served c.finish.ensures.thread c.finish.ensures.here
-    in
-    let longer : length passes ≡ length rest + 1 = omega (arith, ap length c.in-Some.ensures.items, length-append rest (pass ∷ [])) in
-    subst (λ l. Serving attends is_fresh c.args.next.0 passes c.with_desk.result.passes.items c.args.desks.peers.items c.with_desk.result.peers.items
-    (telling c.args.desks.listener) (telling l)) (sym c.with_desk.ensures.listener)
-    (Serving-more attends is_fresh c.args.next.0 (record { pass = pass; peer = peer; pass_then = done.pass; peer_then = done.peer })
-    rest c.accept_all-rest.result.passes.items passes c.with_desk.result.passes.items
-    c.args.desks.peers.items c.accept_all-rest.result.peers.items c.with_desk.result.peers.items
-    (telling c.args.desks.listener) (telling c.accept.new.self) (telling c.accept_all-rest.result.listener)
-    attended c.in-Some.ensures.items c.with_desk.ensures.passes c.with_desk.ensures.peers c.accept_all-rest.ensures.serving
-    (λ more accepted. Accepts-more is_fresh (length passes) (length rest) (telling c.args.desks.listener) (telling c.accept.new.self)
-    (telling c.accept_all-rest.result.listener) peer more longer accept.first accept.fresh accept.counted accept.hung_up_kept accept.hang_ups_kept
-    accept.faults_kept accepted))
+    let rest = c.accept_all-rest.result in
+    let p = popped c.args.shared.now.lock c.requires.ways.0 c.args.next.0 c.args.desks.ways.items first.result.others.ways.items way
+    c.requires.ways.2 first.ensures.ways in
+    let begun = subst (λ (z : ℕ × _). does z.0 z.1 done.pass started.result.promise.way.value done.way)
+    (λ i. (started.ensures.number i, started.ensures.pass i)) c.finish.ensures.attended in
+    let attended : does c.args.next.0 pass done.pass way done.way =
+    IsBegun-found g.P.Source.left g.P.Source.taken g.P.Sink.written g.P.Source.faults g.P.Link.ended c.args.next.0 pass done.pass way
+    started.result.promise.way.value done.way _ (ap (λ p. p.view.number) p.pass_is) started.ensures.same_way_lock started.ensures.way_rest begun in
+    Serving-more does c.args.next.0 (record { pass = pass; pass_then = done.pass; way = way; way_then = done.way })
+    first.result.others.passes.items rest.passes.items c.args.desks.passes.items c.with_desk.result.passes.items
+    first.result.others.ways.items rest.ways.items c.args.desks.ways.items c.with_desk.result.ways.items
+    attended first.ensures.passes c.with_desk.ensures.passes first.ensures.ways c.with_desk.ensures.ways c.accept_all-rest.ensures.serving

@@ -4,7 +4,7 @@ use Rattle.stock_io.specs.Listeners.{IsFresh}
 use Rattle.stock_keeper.specs.Keeping.{AsksAt, AsksAtMost}
 use Rattle.repost_worker.specs.Paces.{first_pace}
 use Rattle.stock_io.specs.Heard.{heard}
-use Rattle.desk_service.specs.Service.{IsPeerServed}
+use Rattle.desk_service.specs.Service.{AreServedBy}
 use Rattle.stock_words.specs.ServeWords.{Service}
 use Rattle.stock_words.specs.Words.{Spells, IsFaultOf}
 use Rattle.stock_words.proofs.ServeWords.{one_service}
@@ -305,8 +305,8 @@ returns-in-Ok-Serve-clause-serve g c service serve =
     × ServesOverShelf g.H.Kept.Keeper.tells g.H.Shelf.tells g.H.Shelf.plan g.H.Shelf.faults g.H.Shelf.kept_faults
     (heard g.L.Listener.waiting g.L.Listener.hung_up g.L.Listener.accepts g.L.Listener.hang_ups g.L.Listener.faults)
     g.O.Sink.written g.O.Sink.faults
-    (IsPeerServed g.P.Source.left g.P.Source.taken g.P.Sink.written g.P.Source.faults g.P.Link.ended)
-    (IsFresh g.P.Source.taken g.P.Sink.written g.P.Source.faults g.P.Link.ended) of.desks
+    (AreServedBy g.P.Source.left g.P.Source.taken g.P.Sink.written g.P.Source.faults g.P.Link.ended)
+    (IsFresh g.P.Source.taken g.P.Sink.written g.P.Source.faults g.P.Link.ended) of.desks of.desks
     c.args.shelf.now c.serve_asked.new.shelf c.args.listener c.serve_asked.result.listener c.args.output.now c.serve_asked.new.output end) same
     c.serve_asked.ensures.serves
 

@@ -2,7 +2,7 @@
 use Rattle.std.proofs.Common.{inr, refl}
 use Rattle.stock_io.specs.Listeners.{IsFresh}
 use Rattle.stock_io.specs.Heard.{heard}
-use Rattle.desk_service.specs.Service.{IsPeerServed}
+use Rattle.desk_service.specs.Service.{AreServedBy}
 use Rattle.stock_serving.proofs.Services.{leaves-begun}
 use Rattle.stock_serving.proofs.serving.serve_kept.Goals as goal
 
@@ -10,8 +10,8 @@ pub returns-in-Ok-clause-serves : goal.returns-in-Ok-clause-serves
 returns-in-Ok-clause-serves g c =
     leaves-begun g.K.Keeper.tells g.K.Keeper.may_leave g.K.Keeper.faults g.K.Keeper.plan g.K.Keeper.calls
     (heard g.L.Listener.waiting g.L.Listener.hung_up g.L.Listener.accepts g.L.Listener.hang_ups g.L.Listener.faults)
-    (IsPeerServed g.P.Source.left g.P.Source.taken g.P.Sink.written g.P.Source.faults g.P.Link.ended)
-    (IsFresh g.P.Source.taken g.P.Sink.written g.P.Source.faults g.P.Link.ended) c.args.desks
+    (AreServedBy g.P.Source.left g.P.Source.taken g.P.Sink.written g.P.Source.faults g.P.Link.ended)
+    (IsFresh g.P.Source.taken g.P.Sink.written g.P.Source.faults g.P.Link.ended) c.args.desks c.args.connections
     c.serve_book-summary.result.summary c.args.keeper c.keeper_of.result c.args.listener c.serve_book-summary.result.listener
     (record {
       first = c.in-Ok.book;

@@ -2,7 +2,7 @@
 use Rattle.std.proofs.Common.{Err, ap, inl, inr, refl, ◌∙◌}
 use Rattle.stock_io.specs.Listeners.{IsFresh}
 use Rattle.stock_io.specs.Heard.{heard}
-use Rattle.desk_service.specs.Service.{IsPeerServed}
+use Rattle.desk_service.specs.Service.{AreServedBy}
 use Rattle.stock_ends.proofs.Openings.{unopened-refused}
 use Rattle.stock_serving.proofs.ServedRuns.{over-served}
 use Rattle.stock_serving.proofs.serving.serve_over.Goals as goal
@@ -28,8 +28,8 @@ returns-clause-serves g c =
     g.H.Shelf.faults g.H.Shelf.kept_faults
     (heard g.L.Listener.waiting g.L.Listener.hung_up g.L.Listener.accepts g.L.Listener.hang_ups g.L.Listener.faults)
     g.O.Sink.written g.O.Sink.faults
-    (IsPeerServed g.P.Source.left g.P.Source.taken g.P.Sink.written g.P.Source.faults g.P.Link.ended)
-    (IsFresh g.P.Source.taken g.P.Sink.written g.P.Source.faults g.P.Link.ended) c.args.desks
+    (AreServedBy g.P.Source.left g.P.Source.taken g.P.Sink.written g.P.Source.faults g.P.Link.ended)
+    (IsFresh g.P.Source.taken g.P.Sink.written g.P.Source.faults g.P.Link.ended) c.args.desks c.args.connections
     c.args.shelf.now c.put_back-back.new.shelf opened.keeper served.result.keeper c.args.listener served.result.listener c.args.output.now
     c.write_summary-end.new.output served.result.summary c.write_summary-end.result opened.ensures.tables opened.ensures.fresh
     opened.ensures.plan opened.ensures.uncalled c.put_back-back.ensures.tables c.put_back-back.ensures.plan c.put_back-back.ensures.kept_faults served.ensures.serves

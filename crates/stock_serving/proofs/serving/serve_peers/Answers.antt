@@ -3,7 +3,7 @@ use Rattle.std.proofs.Common.{inl, ap, ◌∙◌, arith}
 use Rattle.stock_io.specs.Listeners.{IsFresh}
 use Rattle.repost_worker.specs.Paces.{pace_of}
 use Rattle.stock_io.specs.Heard.{heard}
-use Rattle.desk_service.specs.Service.{IsPeerServed}
+use Rattle.desk_service.specs.Service.{AreServedBy}
 use Rattle.stock_serving.proofs.Services.{leaves-of, service-falls}
 use Rattle.stock_serving.proofs.serving.serve_peers.Goals as goal
 
@@ -11,8 +11,8 @@ pub returns-in-Ok-clause-serves : goal.returns-in-Ok-clause-serves
 returns-in-Ok-clause-serves g c =
     let hears = heard g.L.Listener.waiting g.L.Listener.hung_up g.L.Listener.accepts g.L.Listener.hang_ups g.L.Listener.faults in
     let served = c.in-Ok.served in
-    leaves-of (IsPeerServed g.P.Source.left g.P.Source.taken g.P.Sink.written g.P.Source.faults g.P.Link.ended)
-    (IsFresh g.P.Source.taken g.P.Sink.written g.P.Source.faults g.P.Link.ended) c.args.desks
+    leaves-of (AreServedBy g.P.Source.left g.P.Source.taken g.P.Sink.written g.P.Source.faults g.P.Link.ended)
+    (IsFresh g.P.Source.taken g.P.Sink.written g.P.Source.faults g.P.Link.ended) c.args.desks c.args.connections
     c.settle_served.result.summary served.accepted (pace_of c.into_parts-book.result.0 c.into_parts-book.result.1) c.args.book
     (pace_of served.book served.build) c.settle_served.result.book (hears c.args.listener) (hears served.listener)
     (hears c.settle_served.result.listener) c.into_parts-book.ensures.pace (ap hears c.settle_served.ensures.listener)
@@ -24,8 +24,8 @@ returns-in-Ok-clause-never_falls g c =
     let hears = heard g.L.Listener.waiting g.L.Listener.hung_up g.L.Listener.accepts g.L.Listener.hang_ups g.L.Listener.faults in
     let served = c.in-Ok.served in
     let falls =
-    service-falls (IsPeerServed g.P.Source.left g.P.Source.taken g.P.Sink.written g.P.Source.faults g.P.Link.ended)
-    (IsFresh g.P.Source.taken g.P.Sink.written g.P.Source.faults g.P.Link.ended) c.args.desks
+    service-falls (AreServedBy g.P.Source.left g.P.Source.taken g.P.Sink.written g.P.Source.faults g.P.Link.ended)
+    (IsFresh g.P.Source.taken g.P.Sink.written g.P.Source.faults g.P.Link.ended) c.args.desks c.args.connections
     served.accepted c.into_parts-book.result.0.history served.book.history c.into_parts-book.result.0.keeper.faults served.book.keeper.faults (hears c.args.listener) (hears served.listener)
     c.in-Ok.ensures.served in
     omega (arith, falls, ap g.L.Listener.faults c.settle_served.ensures.listener)
