@@ -61,7 +61,7 @@ pub fn begin<K: Keeper, P: Link, L: Listener<Peer = P>, R: Wait>(
     requires few_way_turns { length desk.way.view.stops < 2 ^ 57 }
     requires way { IsWay desk.way.view }
     requires came { NotesCame number.0 first [] desk.way.view.made }
-    ensures begun { IsBegun P.left P.taken P.written P.Source.faults P.ended number.0 desk.pass result.desk.pass desk.way result.desk.way
+    ensures { IsBegun P.left P.taken P.written P.Source.faults P.ended number.0 desk.pass result.desk.pass desk.way result.desk.way
         result.is_over }
 {
     let desk = serve_one(rt, alloc, lock, shared, number, desk, first);
@@ -201,10 +201,14 @@ fn joined<K: Keeper, P: Link, L: Listener<Peer = P>, R: Threads>(
         × (thread.promise.pass.value ≡ started.promise.pass.value) × (thread.promise.way.value ≡ started.promise.way.value)) }
     requires begun { IfErr started.running (λ begun. IsBegun P.left P.taken P.written P.Source.faults P.ended started.promise.number.0
         started.promise.pass.value begun.desk.pass started.promise.way.value begun.desk.way begun.is_over) }
-    ensures begun { IsBegun P.left P.taken P.written P.Source.faults P.ended started.promise.number.0
+    ensures { IsBegun P.left P.taken P.written P.Source.faults P.ended started.promise.number.0
         started.promise.pass.value result.desk.pass started.promise.way.value result.desk.way result.is_over }
 {
-    match started.running {
+    let Started {
+        promise: _,
+        running,
+    } = started;
+    match running {
         Ok(thread) => thread.join(rt),
         Err(begun) => begun,
     }
@@ -225,7 +229,7 @@ pub fn finish<K: Keeper, P: Link, L: Listener<Peer = P>, R: Threads + Wait>(
         × (thread.promise.pass.value ≡ started.promise.pass.value) × (thread.promise.way.value ≡ started.promise.way.value)) }
     requires begun { IfErr started.running (λ begun. IsBegun P.left P.taken P.written P.Source.faults P.ended started.promise.number.0
         started.promise.pass.value begun.desk.pass started.promise.way.value begun.desk.way begun.is_over) }
-    ensures attended { IsBegun P.left P.taken P.written P.Source.faults P.ended started.promise.number.0
+    ensures { IsBegun P.left P.taken P.written P.Source.faults P.ended started.promise.number.0
         started.promise.pass.value result.pass started.promise.way.value result.way true }
 {
     let number = started.promise.number;

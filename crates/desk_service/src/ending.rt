@@ -43,7 +43,7 @@ pub fn unshare<L: Listener>(
     requires zero { way.view.number ≡ 0 }
     requires none_joined { way.view.joined ≡ [] }
     requires split { way.view.split ≡ length ways.items }
-    ensures unshared { IsUnshared (heard L.waiting L.hung_up L.accepts L.hang_ups L.faults) L.listens_to
+    ensures { IsUnshared (heard L.waiting L.hung_up L.accepts L.hang_ups L.faults) L.listens_to
         (IsFresh L.Peer.taken L.Peer.written L.Peer.Source.faults L.Peer.ended) way.view ways.items result.listener result.accepted }
 {
     let shared = close_all(shared, way, ways);

@@ -101,7 +101,7 @@ fn take_back<L: Listener>(shared: TurnLock<SharedListener<L>>, way: Pass<SharedL
     requires same_lock { way.lock ≡ shared.lock }
     requires zero { way.view.number ≡ 0 }
     requires all_joined { length way.view.joined ≡ way.view.split }
-    ensures same { (listener : L) (desks wanted : ℕ) → IsNewWay listener desks wanted way.view → result ≡ listener }
+    ensures { (listener : L) (desks wanted : ℕ) → IsNewWay listener desks wanted way.view → result ≡ listener }
 {
     shared.close(way).into_listener()
 }

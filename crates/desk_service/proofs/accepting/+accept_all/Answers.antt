@@ -88,7 +88,7 @@ returns-clause-serving g t c =
     let p = popped c.args.shared.now.lock c.requires.ways.0 c.args.next.0 c.args.desks.ways.items first.result.others.ways.items way
     c.requires.ways.2 first.ensures.ways in
     let begun = subst (λ (z : ℕ × _). does z.0 z.1 done.pass started.result.promise.way.value done.way)
-    (λ i. (started.ensures.number i, started.ensures.pass i)) c.finish.ensures.attended in
+    (λ i. (started.ensures.number i, started.ensures.pass i)) c.finish.ensures in
     let attended : does c.args.next.0 pass done.pass way done.way =
     IsBegun-found g.P.Source.left g.P.Source.taken g.P.Sink.written g.P.Source.faults g.P.Link.ended c.args.next.0 pass done.pass way
     started.result.promise.way.value done.way _ (ap (λ p. p.view.number) p.pass_is) started.ensures.same_way_lock started.ensures.way_rest begun in

@@ -9,8 +9,8 @@ serve_one-desk-requires-clause-has_peer g c κs within =
     is_there (IsVisit g.P.Source.left g.P.Source.taken g.P.Sink.written g.P.Source.faults g.P.Link.ended c.args.number.0) c.args.number.0
     c.args.desk.way.view.made c.args.first c.requires.came
 
-pub returns-then-is-clause-begun : goal.returns-then-is-clause-begun
-returns-then-is-clause-begun g c =
+pub returns-then-is : goal.returns-then-is
+returns-then-is g c =
     let one = c.serve_one-desk in
     IsBegun-first g.P.Source.left g.P.Source.taken g.P.Sink.written g.P.Source.faults g.P.Link.ended c.args.number.0
     c.args.desk.pass one.result.pass c.args.desk.way one.result.way c.args.first (sym c.requires.number) (sym c.requires.way_number)
@@ -26,8 +26,8 @@ go_further-desk-requires-clause-all_back g c κs within =
     all_back (IsVisit g.P.Source.left g.P.Source.taken g.P.Sink.written g.P.Source.faults g.P.Link.ended c.args.number.0) c.args.number.0
     c.args.desk.pass.view one.result.pass.view one.result.way.view.made first.served
 
-pub returns-clause-begun : goal.returns-clause-begun
-returns-clause-begun g c =
+pub returns : goal.returns
+returns g c =
     let one = c.serve_one-desk in
     let further = c.go_further-desk in
     let first = IsBegun-first g.P.Source.left g.P.Source.taken g.P.Sink.written g.P.Source.faults g.P.Link.ended c.args.number.0

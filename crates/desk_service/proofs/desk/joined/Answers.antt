@@ -5,8 +5,8 @@ use Rattle.desk_service.specs.Desks.{IsBegun}
 use Rattle.desk_service.proofs.Beginning.{as_promised}
 use Rattle.desk_service.proofs.desk.joined.Goals as goal
 
-pub returns-in-Ok-clause-begun : goal.returns-in-Ok-clause-begun
-returns-in-Ok-clause-begun g c =
+pub returns-in-Ok : goal.returns-in-Ok
+returns-in-Ok g c =
     let thread = c.in-Ok.thread in
     let done = c.join.result in
     let promise = c.args.started.promise in
