@@ -147,7 +147,7 @@ fn open<
     ensures promised { IfOk result.running (λ thread. (thread.promise.number.0 ≡ result.promise.number.0)
         × (thread.promise.pass.value ≡ result.promise.pass.value) × (thread.promise.way.value ≡ result.promise.way.value)) }
     ensures begun { IfErr result.running (λ begun. IsBegun P.left P.taken P.written P.Source.faults P.ended result.promise.number.0
-        result.promise.pass.value begun.desk.pass result.promise.way.value begun.desk.way begun.is_over) }
+        result.promise.pass.value begun.pass result.promise.way.value begun.way begun.is_over) }
 {
     let Desk { pass, way } = desk;
     let Found { way, next: first } = find(rt, shared, number, way);

@@ -23,7 +23,8 @@ use turn_lock::pass::Pass;
 /// A desk that has served its first peer, and whether it was told that no further one comes.
 #[derive(Drop)]
 pub struct Begun<K: Keeper, L: Listener> {
-    pub desk: Desk<K, L>,
+    pub pass: Pass<Book<K>>,
+    pub way: Pass<SharedListener<L>>,
     pub is_over: bool,
 }
 
@@ -37,7 +38,7 @@ pub struct Attends<K: Keeper, L: Listener> {
 
 impl<K: Keeper, L: Listener> Promise<Begun<K, L>> for Attends<K, L> {
     ghost kept_by = { λ promise begun. IsBegun L.Peer.left L.Peer.taken L.Peer.written L.Peer.Source.faults L.Peer.ended promise.number.0
-        promise.pass.value begun.desk.pass promise.way.value begun.desk.way begun.is_over };
+        promise.pass.value begun.pass promise.way.value begun.way begun.is_over };
 }
 
 /// Serves a peer that came to the desk, and then those that come after it, unless the desk has no thread. It may wait, for peers and
@@ -61,19 +62,21 @@ pub fn begin<K: Keeper, P: Link, L: Listener<Peer = P>, R: Wait>(
     requires few_way_turns { length desk.way.view.stops < 2 ^ 57 }
     requires way { IsWay desk.way.view }
     requires came { NotesCame number.0 first [] desk.way.view.made }
-    ensures { IsBegun P.left P.taken P.written P.Source.faults P.ended number.0 desk.pass result.desk.pass desk.way result.desk.way
+    ensures { IsBegun P.left P.taken P.written P.Source.faults P.ended number.0 desk.pass result.pass desk.way result.way
         result.is_over }
 {
     let desk = serve_one(rt, alloc, lock, shared, number, desk, first);
     if alone.is(number) {
         return Begun {
-            desk,
+            pass: desk.pass,
+            way: desk.way,
             is_over: false,
         };
     }
     let desk = go_further(rt, alloc, lock, shared, number, desk);
     Begun {
-        desk,
+        pass: desk.pass,
+        way: desk.way,
         is_over: true,
     }
 }
@@ -120,12 +123,13 @@ pub fn start<
     ensures promised { IfOk result (λ thread. (thread.promise.number.0 ≡ number.0)
         × (thread.promise.pass.value ≡ desk.pass) × (thread.promise.way.value ≡ desk.way)) }
     ensures begun { IfErr result (λ begun. IsBegun P.left P.taken P.written P.Source.faults P.ended number.0
-        desk.pass begun.desk.pass desk.way begun.desk.way begun.is_over) }
+        desk.pass begun.pass desk.way begun.way begun.is_over) }
 {
     match first {
         Some(first) => start_thread(rt, alloc, scope, lock, shared, alone, number, desk, first),
         None => Err(Begun {
-            desk,
+            pass: desk.pass,
+            way: desk.way,
             is_over: true,
         }),
     }
@@ -163,26 +167,29 @@ fn start_thread<
     ensures promised { IfOk result (λ thread. (thread.promise.number.0 ≡ number.0)
         × (thread.promise.pass.value ≡ desk.pass) × (thread.promise.way.value ≡ desk.way)) }
     ensures begun { IfErr result (λ begun. IsBegun P.left P.taken P.written P.Source.faults P.ended number.0
-        desk.pass begun.desk.pass desk.way begun.desk.way begun.is_over) }
+        desk.pass begun.pass desk.way begun.way begun.is_over) }
 {
+    let Desk { pass, way } = desk;
     let promise = Attends {
         number,
-        pass: Snapshot::of(&desk.pass),
-        way: Snapshot::of(&desk.way),
+        pass: Snapshot::of(&pass),
+        way: Snapshot::of(&way),
     };
     let job = move || -> Begun<K, L>
-        requires same_lock { desk.pass.lock ≡ lock.now.lock }
-        requires same_way_lock { desk.way.lock ≡ shared.now.lock }
-        requires number { number.0 ≡ desk.pass.view.number }
-        requires way_number { number.0 ≡ desk.way.view.number }
+        requires same_lock { pass.lock ≡ lock.now.lock }
+        requires same_way_lock { way.lock ≡ shared.now.lock }
+        requires number { number.0 ≡ pass.view.number }
+        requires way_number { number.0 ≡ way.view.number }
         requires desk { number.0 ≤ MAX_DESK }
-        requires few_turns { length desk.pass.view.stops ≤ 2 ^ 56 }
-        requires few_way_turns { length desk.way.view.stops < 2 ^ 57 }
-        requires way { IsWay desk.way.view }
-        requires came { NotesCame number.0 first [] desk.way.view.made }
-        ensures { IsBegun P.left P.taken P.written P.Source.faults P.ended number.0 desk.pass result.desk.pass desk.way result.desk.way
-            result.is_over }
-    { begin(rt, alloc, lock, shared, alone, number, desk, first) };
+        requires few_turns { length pass.view.stops ≤ 2 ^ 56 }
+        requires few_way_turns { length way.view.stops < 2 ^ 57 }
+        requires way { IsWay way.view }
+        requires came { NotesCame number.0 first [] way.view.made }
+        ensures { IsBegun P.left P.taken P.written P.Source.faults P.ended number.0 pass result.pass way result.way result.is_over }
+    {
+        let desk = Desk { pass, way };
+        begin(rt, alloc, lock, shared, alone, number, desk, first)
+    };
     match scope.spawn_with(promise, job) {
         Ok(thread) => Ok(thread),
         Err(refused) => {
@@ -200,9 +207,9 @@ fn joined<K: Keeper, P: Link, L: Listener<Peer = P>, R: Threads>(
     requires promised { IfOk started.running (λ thread. (thread.promise.number.0 ≡ started.promise.number.0)
         × (thread.promise.pass.value ≡ started.promise.pass.value) × (thread.promise.way.value ≡ started.promise.way.value)) }
     requires begun { IfErr started.running (λ begun. IsBegun P.left P.taken P.written P.Source.faults P.ended started.promise.number.0
-        started.promise.pass.value begun.desk.pass started.promise.way.value begun.desk.way begun.is_over) }
+        started.promise.pass.value begun.pass started.promise.way.value begun.way begun.is_over) }
     ensures { IsBegun P.left P.taken P.written P.Source.faults P.ended started.promise.number.0
-        started.promise.pass.value result.desk.pass started.promise.way.value result.desk.way result.is_over }
+        started.promise.pass.value result.pass started.promise.way.value result.way result.is_over }
 {
     let Started {
         promise: _,
@@ -228,12 +235,13 @@ pub fn finish<K: Keeper, P: Link, L: Listener<Peer = P>, R: Threads + Wait>(
     requires promised { IfOk started.running (λ thread. (thread.promise.number.0 ≡ started.promise.number.0)
         × (thread.promise.pass.value ≡ started.promise.pass.value) × (thread.promise.way.value ≡ started.promise.way.value)) }
     requires begun { IfErr started.running (λ begun. IsBegun P.left P.taken P.written P.Source.faults P.ended started.promise.number.0
-        started.promise.pass.value begun.desk.pass started.promise.way.value begun.desk.way begun.is_over) }
+        started.promise.pass.value begun.pass started.promise.way.value begun.way begun.is_over) }
     ensures { IsBegun P.left P.taken P.written P.Source.faults P.ended started.promise.number.0
         started.promise.pass.value result.pass started.promise.way.value result.way true }
 {
     let number = started.promise.number;
-    let Begun { desk, is_over } = joined::<K, P, L, R>(rt, started);
+    let Begun { pass, way, is_over } = joined::<K, P, L, R>(rt, started);
+    let desk = Desk { pass, way };
     if is_over {
         return desk;
     }

@@ -175,7 +175,16 @@ fn serve_under<
         worker: Worker { pass, build },
         desks: Desks { passes, ways },
     };
-    let team = in_threads::<K, P, L, Brand, R>(rt, alloc, &lock, &shared, team, Blank::new(1));
+    let alone = Alone::new();
+    let team = in_threads::<K, P, L, Brand, R>(
+        &*rt,
+        alloc,
+        &lock,
+        &shared,
+        &alone,
+        team,
+        Blank::new(1),
+    );
     the_ledger_keeps_the_stock();
     ended(lock, shared, way, team)
 }
@@ -183,16 +192,18 @@ fn serve_under<
 // Lets the worker and the desks do their work in threads of their own. Where none can be made for the worker, it begins once the desks
 // have ended, and so ends at once.
 fn in_threads<
+    'x,
     K: Keeper + Send,
     P: Link,
     L: Listener<Peer = P> + Send + Drop,
     N: Ledger + Send,
     R: Threads + Wait + Sync,
 >(
-    rt: &R,
+    rt: &'x R,
     alloc: Global,
-    lock: &TurnLock<Book<K>>,
-    shared: &TurnLock<SharedListener<L>>,
+    lock: &'x TurnLock<Book<K>>,
+    shared: &'x TurnLock<SharedListener<L>>,
+    alone: &'x Alone,
     team: Team<K, L>,
     blank: Blank,
 ) -> Team<K, L>
@@ -222,22 +233,24 @@ fn in_threads<
             requires ways { AreWaysFrom shared.now.lock 1 desks.ways.items }
             requires as_many { vec_len desks.ways ≡ vec_len desks.passes }
             requires numbers { vec_len desks.passes ≤ MAX_DESK }
-        { attend_all::<K, P, L, R>(rt, alloc, lock, shared, end, desks) },
+        { attend_all::<K, P, L, R>(rt, alloc, lock, shared, alone, end, desks) },
     );
     Team { worker, desks }
 }
 
 // Serves the peers, at desks in threads of their own, and says then that the desks have ended.
 fn attend_all<
+    'x,
     K: Keeper + Send,
     P: Link,
     L: Listener<Peer = P> + Send + Drop,
     R: Threads + Wait + Sync,
 >(
-    rt: &R,
+    rt: &'x R,
     alloc: Global,
-    lock: &TurnLock<Book<K>>,
-    shared: &TurnLock<SharedListener<L>>,
+    lock: &'x TurnLock<Book<K>>,
+    shared: &'x TurnLock<SharedListener<L>>,
+    alone: &'x Alone,
     closing: &Closing,
     desks: Desks<K, L>,
 ) -> Desks<K, L>
@@ -249,8 +262,6 @@ fn attend_all<
         (λ desk pass pass' way way'. IsBegun P.left P.taken P.written P.Source.faults P.ended desk pass pass' way way' true)
         1 desks.passes.items result.passes.items desks.ways.items result.ways.items }
 {
-    let alone = Alone::new();
-    let word = &alone;
     let desks = thread::scope(
         thread::scope_env(),
         rt,
@@ -262,7 +273,7 @@ fn attend_all<
             ensures serving { Serving
                 (λ desk pass pass' way way'. IsBegun P.left P.taken P.written P.Source.faults P.ended desk pass pass' way way' true)
                 1 desks.passes.items result.passes.items desks.ways.items result.ways.items }
-        { accept_all(rt, alloc, scope, lock, shared, word, DeskNo(1), desks) },
+        { accept_all(rt, alloc, scope, lock, shared, alone, DeskNo(1), desks) },
     );
     closing.close();
     desks

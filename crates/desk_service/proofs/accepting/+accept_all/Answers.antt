@@ -96,3 +96,17 @@ returns-clause-serving g t c =
     first.result.others.passes.items rest.passes.items c.args.desks.passes.items c.with_desk.result.passes.items
     first.result.others.ways.items rest.ways.items c.args.desks.ways.items c.with_desk.result.ways.items
     attended first.ensures.passes c.with_desk.ensures.passes first.ensures.ways c.with_desk.ensures.ways c.accept_all-rest.ensures.serving
+
+pub finish-requires-clause-same_lock : goal.finish-requires-clause-same_lock
+finish-requires-clause-same_lock g t c κs within =
+    let first = c.first_of-desk in
+    let p = popped c.args.lock.now.lock c.requires.passes.0 c.args.next.0 c.args.desks.passes.items first.result.others.passes.items first.result.desk.pass
+    c.requires.passes.1 first.ensures.passes in
+    ap (λ p. p.lock) c.open-started.ensures.pass ∙ ap (λ p. p.lock) p.pass_is
+
+pub finish-requires-clause-same_way_lock : goal.finish-requires-clause-same_way_lock
+finish-requires-clause-same_way_lock g t c κs within =
+    let first = c.first_of-desk in
+    let p = popped c.args.shared.now.lock c.requires.ways.0 c.args.next.0 c.args.desks.ways.items first.result.others.ways.items first.result.desk.way
+    c.requires.ways.2 first.ensures.ways in
+    c.open-started.ensures.same_way_lock ∙ ap (λ p. p.lock) p.pass_is
