@@ -94,12 +94,26 @@ fn a_service_ends_for_its_first_fault(rt: HostRuntime) -> Result<(), Fail> {
 fn other_words_are_no_service(rt: HostRuntime) -> Result<(), Fail> {
     let alloc = rt.alloc();
     for words in [
-        ["serve", "--file=x", "--port=80", "--desks=0"],
-        ["serve", "--file=x", "--port=80", "--desks=17"],
-        ["serve", "--file=x", "--port=65536", "--desks=1"],
-        ["serve", "--file=x", "--port=80", "--port=80"],
-        ["serve", "--file=", "--port=80", "--desks=1"],
-        ["serve", "--file", "x", "--port=80"],
+        ["serve", "--file=x", "--port=80", "--desks=0", "--idle=1"],
+        ["serve", "--file=x", "--port=80", "--desks=17", "--idle=1"],
+        ["serve", "--file=x", "--port=65536", "--desks=1", "--idle=1"],
+        ["serve", "--file=x", "--port=80", "--port=80", "--desks=1"],
+        ["serve", "--file=", "--port=80", "--desks=1", "--idle=1"],
+        ["serve", "--file", "x", "--port=80", "--idle=1"],
+        [
+            "serve",
+            "--file=x",
+            "--port=80",
+            "--desks=2",
+            "--connections=1",
+        ],
+        [
+            "serve",
+            "--file=x",
+            "--port=80",
+            "--desks=1",
+            "--idle=86401",
+        ],
     ] {
         let mut shelf = shelf(alloc, None)?;
         let ended = serve(&rt, alloc, &words, &mut shelf, Vec::new(alloc), None, NEVER)?;

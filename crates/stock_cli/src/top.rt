@@ -123,7 +123,7 @@ pub fn stockd<
         × ServesOverShelf H.Kept.tells H.tells H.plan H.faults H.kept_faults
         (heard L.waiting L.hung_up L.accepts L.hang_ups L.faults) O.written O.faults
         (AreServedBy P.left P.taken P.written P.Source.faults P.ended)
-        (IsFresh P.taken P.written P.Source.faults P.ended) service.desks service.desks
+        (IsFresh P.taken P.written P.Source.faults P.ended) service.desks service.connections
         shelf.old shelf.new listener result.listener output.old output.new end }
     ensures serve_takes_nothing { (service : Service) → IsServe words.now service → input.new ≡ input.old }
     ensures nothing_heard { ((service : Service) → IsServe words.now service → ⊥) → result.listener ≡ listener }
@@ -244,11 +244,12 @@ fn serve_asked<
     notes: &mut N,
 ) -> Finished<L>
     requires desks { (0 < asked.desks) × (asked.desks ≤ MAX_DESK) }
+    requires connections { asked.desks ≤ asked.connections }
     ensures serves { (end : End) × TellsEnd N.written N.faults notes.old notes.new result.status end
         × ServesOverShelf H.Kept.tells H.tells H.plan H.faults H.kept_faults
         (heard L.waiting L.hung_up L.accepts L.hang_ups L.faults) O.written O.faults
         (AreServedBy P.left P.taken P.written P.Source.faults P.ended)
-        (IsFresh P.taken P.written P.Source.faults P.ended) asked.entry.desks asked.entry.desks
+        (IsFresh P.taken P.written P.Source.faults P.ended) asked.entry.desks asked.entry.connections
         shelf.old shelf.new listener result.listener output.old output.new end }
     ensures opens { AsksAt H.opened H.openings asked.entry.path.now shelf.old shelf.new }
     ensures listens { ListensTo L.listens_to L.accepts asked.entry.port asked.entry.idle listener result.listener }
@@ -261,7 +262,6 @@ fn serve_asked<
     ensures silent { result.status ≡ 0 → notes.new ≡ notes.old }
     ensures notes_never_fall { NeverFalls (N.faults notes.old) (N.faults notes.new) }
 {
-    let connections = asked.desks;
     let ServiceEnd { end, listener } = serve_over(
         rt,
         alloc,
@@ -271,7 +271,7 @@ fn serve_asked<
         asked.port,
         asked.idle,
         asked.desks,
-        connections,
+        asked.connections,
         output,
     );
     Finished {

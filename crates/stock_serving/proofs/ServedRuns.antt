@@ -10,9 +10,9 @@ use Rattle.stock_keeper.specs.declared.tables.Tables.{Tables}
 use Rattle.repost_worker.specs.Openings.{state_of}
 use Rattle.repost_worker.specs.Paces.{Pace}
 use Rattle.stock_io.specs.Heard.{Heard}
+use Rattle.desk_connections.specs.Visits.{Visit}
 use Rattle.stock_ends.specs.Openings.{IsUnopened}
 use Rattle.stock_ends.specs.Statuses.{status_of, IsToldAs, CountsNoFault}
-use Rattle.desk_connections.specs.Visits.{Visit}
 use Rattle.stock_serving.specs.Serving.{summary_text, IsSettled, IsServedThen, Stops, ServesTo, Leaves, LeavesKept, IsWritten, Tells, IsUnbegunKeeper, IsBegun, IsServedOver, ServesOverShelf}
 use Rattle.stock_ends.specs.declared.damage.Damage.{Damage}
 use Rattle.stock_ends.specs.declared.end.End.{End}

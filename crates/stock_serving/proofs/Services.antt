@@ -3,6 +3,7 @@ use Rattle.std.proofs.Common.{◌≡◌, ◌<◌, ◌≤◌, ℕ, List, Option, 
 use Rattle.std.specs.Prelude.{String}
 use Rattle.std.specs.declared.alloc.Global.{Global}
 use Rattle.std.proofs.lemmas.Bool.{cases_lt}
+use Rattle.std.proofs.lemmas.List.{length-map}
 use Rattle.stock_io.specs.Counts.{Rose, NeverFalls}
 use Rattle.stock_model.specs.History.{IsLegal}
 use Rattle.stock_model.specs.declared.deeds.Deed.{Deed}
@@ -41,7 +42,7 @@ module _ {P : Type 0} (serves : ℕ → ℕ → ℕ → List Deed → List Deed 
   service-all : (came : ℕ) (first final : List Deed) (faults faults' : ℕ) (old new : Heard P) → IsService serves is_fresh desks connections came first final faults faults' old new
       → connections ≤ came → IsService serves is_fresh desks connections connections first final faults faults' old new
   service-all came first final faults faults' old new service all =
-      let same : came ≡ connections = omega (arith, all, service.count, service.accepts.no_more) in
+      let same : came ≡ connections = omega (arith, all, service.count, length-map service.came (λ visit. visit.1.peer), service.accepts.no_more) in
       subst (λ (n : ℕ). IsService serves is_fresh desks connections n first final faults faults' old new) same service
 
   -- fewer came, as the listener failed
@@ -54,7 +55,7 @@ module _ {P : Type 0} (serves : ℕ → ℕ → ℕ → List Deed → List Deed 
         few = few;
         service = service;
         calls = calls;
-        cause = subst (Rose old.faults) (sym service.hung_up.faults) (service.accepts.cause (omega (arith, few, service.count)));
+        cause = subst (Rose old.faults) (sym service.hung_up.faults) (service.accepts.cause (omega (arith, few, service.count, length-map service.came (λ visit. visit.1.peer))));
       }
 
   -- all came, and what they had left of the ledger was settled, or that was refused

@@ -67,7 +67,8 @@ pub record IsUnheard {P : Type 0} (first last : Pace) (old new : Heard P) : Type
   pub nothing_kept : last ≡ first
   pub cause : Rose old.faults new.faults
 
-module _ {P : Type 0} (serves : ℕ → ℕ → ℕ → List Deed → List Deed → List (Visit P) → Type 0) (is_fresh : P → Type 0) (desks connections : ℕ) where
+module _ {P : Type 0} (serves : ℕ → ℕ → ℕ → List Deed → List Deed → List (Visit P) → Type 0) (is_fresh : P → Type 0)
+    (desks connections : ℕ) where
   -- fewer peers came than were wanted, as the listener failed: those were served, and nothing was settled
   pub record IsCutShort (first last : Pace) (old new : Heard P) : Type 0 where
     pub came : ℕ
@@ -143,7 +144,8 @@ pub record IsBegun {Kt : Type 0} (tells may_leave : Kt → Tables → Type 0) (f
 
 -- what a service over a keeper leaves: the text of its summary, or the end that it came to without one
 module _ {Kt L P : Type 0} (tells may_leave : Kt → Tables → Type 0) (faults : Kt → ℕ) (plan : Kt → Option (List ℕ)) (calls : Kt → ℕ)
-    (hears : L → Heard P) (serves : ℕ → ℕ → ℕ → List Deed → List Deed → List (Visit P) → Type 0) (is_fresh : P → Type 0) (desks connections : ℕ) where
+    (hears : L → Heard P) (serves : ℕ → ℕ → ℕ → List Deed → List Deed → List (Visit P) → Type 0) (is_fresh : P → Type 0)
+    (desks connections : ℕ) where
   abbrev pub LeavesKept : Result (String Global) End → Kt → Kt → L → L → Type 0
   LeavesKept (Ok text) keeper_before keeper_after listener_before listener_after =
       IsBegun tells may_leave faults plan calls (λ first last. Leaves serves is_fresh desks connections (Ok text) first last (hears listener_before) (hears listener_after))

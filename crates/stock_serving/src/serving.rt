@@ -49,10 +49,10 @@ struct BookEnd<K: Keeper, L> {
     listener: L,
 }
 
-/// Listens at the port and serves so many peers, by so many desks in threads of their own, over the ledger that the shelf has at
-/// this path. A peer that is silent for `idle` seconds, if that is given, has its connection ended. Once all sessions have ended it publishes what was accepted, puts the keeper back, and writes how many records are
-/// covered and accepted. Each keeper that is handed out is put back. Where fewer peers come it ends as soon as those are served.
-/// It may wait, for peers and for the lock.
+/// Listens at the port and serves so many connections by so many desks, each in a thread of its own, over the ledger that the shelf has
+/// at this path. A peer that is silent for `idle` seconds, if that is given, has its connection ended. Once all sessions have ended it
+/// publishes what was accepted, puts the keeper back, and writes how many records are covered and accepted. Each keeper that is handed
+/// out is put back. Where fewer peers come it ends as soon as those are served. It may wait, for peers and for the locks.
 pub fn serve_over<
     H: Shelf,
     P: Link,
@@ -187,7 +187,7 @@ fn serve_book<
     }
 }
 
-// Serves the peers over the book, and settles it once as many were served as were wanted.
+// Serves the peers over the book, and settles it once all that were wanted were served.
 fn serve_peers<
     K: Keeper + Send,
     P: Link,
@@ -228,7 +228,7 @@ fn serve_peers<
     }
 }
 
-// Settles the book once as many peers were served as were wanted.
+// Settles the book where as many peers came as were wanted.
 fn settle_served<K: Keeper, L>(
     alloc: Global,
     served: Served<K, L>,

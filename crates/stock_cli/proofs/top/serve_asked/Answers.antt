@@ -17,11 +17,11 @@ returns-clause-complete g c shelf kept listener output =
     (heard g.L.Listener.waiting g.L.Listener.hung_up g.L.Listener.accepts g.L.Listener.hang_ups g.L.Listener.faults)
     g.O.Sink.written g.O.Sink.faults
     (AreServedBy g.P.Source.left g.P.Source.taken g.P.Sink.written g.P.Source.faults g.P.Link.ended)
-    (IsFresh g.P.Source.taken g.P.Sink.written g.P.Source.faults g.P.Link.ended) c.args.asked.desks c.args.asked.desks
+    (IsFresh g.P.Source.taken g.P.Sink.written g.P.Source.faults g.P.Link.ended) c.args.asked.desks c.args.asked.connections
     _ _ _ _ _ _ _ told.told told.told_as c.serve_over-end.ensures.serves
     in
     subst (λ (n : ℕ). (n ≡ 0) ⊎ ((n ≡ 3) ⊎ (n ≡ 7))) (sym told.status_is)
-    (served-complete _ _ _ _ _ _ _ _ _ _ c.args.asked.desks c.args.asked.desks _ _ _ _ _ _ told.told serves shelf kept listener output)
+    (served-complete _ _ _ _ _ _ _ _ _ _ c.args.asked.desks c.args.asked.connections _ _ _ _ _ _ told.told serves shelf kept listener output)
 
 pub returns-clause-served : goal.returns-clause-served
 returns-clause-served g c two = let told = c.tell.ensures.told in status_not_2 told.told (sym told.status_is ∙ two)

@@ -306,7 +306,7 @@ returns-in-Ok-Serve-clause-serve g c service serve =
     (heard g.L.Listener.waiting g.L.Listener.hung_up g.L.Listener.accepts g.L.Listener.hang_ups g.L.Listener.faults)
     g.O.Sink.written g.O.Sink.faults
     (AreServedBy g.P.Source.left g.P.Source.taken g.P.Sink.written g.P.Source.faults g.P.Link.ended)
-    (IsFresh g.P.Source.taken g.P.Sink.written g.P.Source.faults g.P.Link.ended) of.desks of.desks
+    (IsFresh g.P.Source.taken g.P.Sink.written g.P.Source.faults g.P.Link.ended) of.desks of.connections
     c.args.shelf.now c.serve_asked.new.shelf c.args.listener c.serve_asked.result.listener c.args.output.now c.serve_asked.new.output end) same
     c.serve_asked.ensures.serves
 
