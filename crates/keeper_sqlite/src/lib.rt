@@ -6,3 +6,4 @@ mod sending;
 pub mod sqlite_keeper;
 pub mod sqlite_shelf;
 mod standing;
+pub mod supposing;

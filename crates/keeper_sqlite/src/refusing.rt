@@ -1,5 +1,5 @@
 //! What a keeper makes of the refusals of its database: want of memory is free, and any other refusal is a fault.
-ghost use Rattle.std.specs.Prelude.{◌≡◌};
+ghost use Rattle.std.specs.Prelude.{◌≡◌, ◌↔◌};
 ghost use Rattle.stock_io.specs.Counts.{NeverFalls, raised};
 ghost use Rattle.stock_keeper.specs.declared.fault.KeepFault.TheVariants as fault;
 
@@ -13,10 +13,18 @@ pub(crate) fn refused(error: Error, faults: &mut u64) -> KeepFault
     ensures free { result ≡ fault.NoMemory → faults.new ≡ faults.old }
     ensures never_falls { NeverFalls faults.old faults.new }
 {
+    counted(fault_of(error), faults)
+}
+
+/// The same, with none counted.
+pub(crate) fn fault_of(error: Error) -> KeepFault
+    ensures { (result ≡ fault.NoMemory) ↔ (error ≡ Error.SqliteFailure ErrorCode.OutOfMemory) }
+{
     if error == Error::SqliteFailure(ErrorCode::OutOfMemory) {
-        return KeepFault::NoMemory;
+        KeepFault::NoMemory
+    } else {
+        KeepFault::Failed
     }
-    counted(KeepFault::Failed, faults)
 }
 
 /// The same fault, counted where it is one of the database.

@@ -1,19 +1,17 @@
-//! A keeper over a database. It tells its tables where it has made them: what they are then is what the statements of their texts
-//! mean, while the disk returns what was written and nobody else writes the database.
-ghost use Rattle.std.specs.Prelude.{◌≡◌, false, true, Err, IfOk, OnOk, OnErr};
+//! A keeper over a database. It tells its tables where it has made them, or has found them and read them: what they are then is what
+//! the statements of their texts mean, while the disk returns what was written and nobody else writes the database.
+ghost use Rattle.std.specs.Prelude.{◌≡◌, false, true, Err, IfOk, IfErr, OnOk, OnErr};
 ghost use Rattle.stock_io.specs.Counts.{NeverFalls, raised};
 ghost use Rattle.stock_keeper.specs.Changed.{appended, published, Follows};
-ghost use Rattle.stock_keeper.specs.Keeping.{Within, Makes, MayMake, HoldsOfNone};
+ghost use Rattle.stock_keeper.specs.Keeping.{Within, Makes, MayMake};
 ghost use Rattle.stock_keeper.specs.Worths.{AreInOrder};
 ghost use Rattle.stock_keeper.specs.declared.fault.KeepFault.TheVariants as fault;
 ghost use Rattle.stock_keeper.specs.declared.tables.Tables.{Tables};
-ghost use Rattle.sqlite.specs.State.{Survives};
-ghost use Rattle.sqlite.specs.Held.{state};
-ghost use Rattle.sqlite_tables.specs.Finding.{IsPrepared, LeavesPrepared};
+ghost use Rattle.sqlite_tables.specs.Finding.{WasPrepared, WasRefused};
+ghost use Rattle.sqlite_tables.specs.Sorted.{LeavesNoMore};
 ghost use Rattle.sqlite_tables.specs.Stored.{TellsTables, MayLeaveTables};
-ghost use Rattle.sqlite_tables.specs.Turning.{HasUndone};
 
-use crate::refusing::refused;
+use crate::refusing::{fault_of, refused};
 use sqlite::{Alter, Connection};
 use sqlite_tables::stored_tables::StoredTables;
 use std::alloc::Global;
@@ -24,9 +22,8 @@ use stock_keeper::tables::Tables;
 use stock_nums::numbers::RecordNo;
 
 /// A keeper over a database, with a transaction for each call, whose commit is the last step of a change. Each refusal of the
-/// database other than want of memory is a fault. It tells its tables once it has made them, as long as the disk is clean and the
-/// connection open, and what a crash may leave is what the database's own contract says that one may. Of tables that were there
-/// before it tells nothing. It has no plan.
+/// database other than want of memory is a fault. It tells its tables once it is prepared, as long as the disk is clean and the
+/// connection open, and what a crash may leave is what the database's own contract says that one may. It has no plan.
 #[derive(Drop)]
 pub struct SqliteKeeper<S: Alter> {
     alloc: Global,
@@ -34,8 +31,42 @@ pub struct SqliteKeeper<S: Alter> {
     faults: u64,
 }
 
+impl<S: Alter + Drop> SqliteKeeper<S> {
+    /// A keeper that had no fault yet, over the tables of a database, which it tells from then on. The connection is made anew, with
+    /// nothing changed. Where the database has nothing in it, the tables of an empty ledger are made in one transaction. Where it has
+    /// exactly the tables of a ledger, and they can be read, those of version 1 become those of the version that is written now, in one
+    /// transaction, and all else stays as it is.
+    ///
+    /// # Errors
+    ///
+    /// `Failed` where the database has something in it, and not exactly the tables of a ledger, where these can't be read, or where the
+    /// database refuses else. `NoMemory` for want of memory. The database stays as it is, but a crash may leave all of the tables in one
+    /// that had nothing in it, and those of a ledger as they would be. The connection is given back, or its store where it could not be
+    /// made anew.
+    pub fn prepared(
+        alloc: Global,
+        conn: Connection<S>,
+    ) -> Result<SqliteKeeper<S>, (KeepFault, Result<Connection<S>, S>)>
+        ensures fresh { IfOk result (λ keeper. keeper.faults ≡ 0) }
+        ensures told { IfOk result (λ keeper. WasPrepared S.Store conn keeper.tables) }
+        ensures durable { IfOk result (λ keeper. Within (TellsTables S.Store keeper.tables) (MayLeaveTables S.Store keeper.tables)) }
+        ensures ended { IfErr result (λ e. IfOk e.1 (λ left. left.in_transaction ≡ false)) }
+        ensures refused { IfErr result (λ e. IfOk e.1 (WasRefused S.Store conn)) }
+        ensures left { IfErr result (λ e. IfErr e.1 (LeavesNoMore S.Store conn)) }
+    {
+        match StoredTables::prepared(alloc, conn) {
+            Ok(tables) => Ok(SqliteKeeper {
+                alloc,
+                tables,
+                faults: 0,
+            }),
+            Err((error, left)) => Err((fault_of(error), left)),
+        }
+    }
+}
+
 impl<S: Alter> SqliteKeeper<S> {
-    /// A keeper over this database, which had no fault yet. It tells nothing before it is prepared.
+    /// A keeper over this database, which had no fault yet. It tells nothing.
     pub fn over(alloc: Global, conn: Connection<S>) -> SqliteKeeper<S>
         requires { conn.in_transaction ≡ false }
         ensures fresh { result.faults ≡ 0 }
@@ -45,33 +76,6 @@ impl<S: Alter> SqliteKeeper<S> {
             alloc,
             tables: StoredTables::over(conn),
             faults: 0,
-        }
-    }
-
-    /// Makes the tables where the database has nothing in it, in one transaction, and tells them from then on. Where it has the
-    /// tables of a ledger, those of version 1 become those of the version that is written now, in one transaction, and all else
-    /// stays as it is.
-    ///
-    /// # Errors
-    ///
-    /// `Failed` where the database has something in it, and not exactly the tables of a ledger, or refuses else: a fault was
-    /// counted. `NoMemory` for want of memory. The database stays as it is and nothing is told, but a crash may leave all of the
-    /// tables in one that had nothing in it, and those of a ledger as they would be.
-    pub fn prepare(&mut self) -> Result<(), KeepFault>
-        ensures prepared { OnOk result (IsPrepared S.Store self.old.tables self.new.tables) }
-        ensures durable { OnOk result (Within (TellsTables S.Store self.new.tables) (MayLeaveTables S.Store self.new.tables)) }
-        ensures untold { OnErr result (HoldsOfNone (TellsTables S.Store self.new.tables)) }
-        ensures undone { OnErr result (HasUndone S.Store self.old.tables.conn self.new.tables.conn) }
-        ensures crash { Survives (state S.Store self.old.tables.conn) (state S.Store self.new.tables.conn)
-            (LeavesPrepared S.Store self.old.tables.conn) }
-        ensures faults_kept { OnOk result (self.new.faults ≡ self.old.faults) }
-        ensures fault { result ≡ Err fault.Failed → self.new.faults ≡ raised self.old.faults }
-        ensures free { result ≡ Err fault.NoMemory → self.new.faults ≡ self.old.faults }
-        ensures never_falls { NeverFalls self.old.faults self.new.faults }
-    {
-        match self.tables.prepare() {
-            Ok(()) => Ok(()),
-            Err(error) => Err(refused(error, &mut self.faults)),
         }
     }
 

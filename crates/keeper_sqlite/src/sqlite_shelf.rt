@@ -1,38 +1,45 @@
 //! A shelf whose keepers are files.
-ghost use Rattle.std.specs.Prelude.{◌≡◌, false, Err, IfOk, OnOk};
+ghost use Rattle.std.specs.Prelude.{◌≡◌, false, true, Err, IsTrue, IfOk, OnOk};
 ghost use Rattle.stock_io.specs.Counts.{NeverFalls, raised};
 ghost use Rattle.stock_keeper.specs.Keeping.{Within};
 ghost use Rattle.stock_keeper.specs.declared.fault.KeepFault.TheVariants as fault;
+ghost use Rattle.sqlite_tables.specs.Finding.{WasPrepared};
 ghost use Rattle.sqlite_tables.specs.Stored.{TellsTables, MayLeaveTables};
 
 use crate::refusing::{counted, refused};
 use crate::sqlite_keeper::SqliteKeeper;
 use crate::standing;
-use sqlite::{Alter, Connection, File, FileStore, Unknown};
+use sqlite::{Alter, Connection, FileFrom, FileStore, Start};
 use stock_keeper::fault::KeepFault;
 use stock_keeper::opened_path::OpenedPath;
 use stock_keeper::shelf::Shelf;
 
 /// A shelf whose keepers are files. It tells its faults and those of the keeper that was put back last, the path that was opened last
-/// and how often one was, and neither tables nor a plan. A file is locked while its keeper is out. No clause says what a file holds,
-/// or that the system opens the one at the path.
+/// and how often one was, and no plan. A file is locked while its keeper is out. `B` stands for what the file and its log hold as they
+/// are first opened: until then the shelf tells the tables of the ledger that they hold, if they hold one. What is proved over `B` is
+/// proved for all contents. No clause says that the system opens the file at the path.
 #[derive(Drop)]
-pub struct SqliteShelf {
+pub struct SqliteShelf<B: Start + Copy> {
     rt: HostRuntime,
+    start: B,
+    is_fresh: bool,
     faults: u64,
     kept_faults: u64,
     opened: Option<OpenedPath>,
     openings: u64,
 }
 
-impl SqliteShelf {
-    /// A shelf that had no fault yet. It opens nothing.
-    pub fn new(rt: &HostRuntime) -> SqliteShelf
+impl<B: Start + Copy> SqliteShelf<B> {
+    /// A shelf that had no fault yet, over a file of which this is supposed. It opens nothing.
+    pub fn new(rt: &HostRuntime, start: B) -> SqliteShelf<B>
+        ensures fresh { result.is_fresh ≡ true }
         ensures faults { result.faults ≡ 0 }
         ensures kept_faults { result.kept_faults ≡ 0 }
     {
         SqliteShelf {
             rt: *rt,
+            start,
+            is_fresh: true,
             faults: 0,
             kept_faults: 0,
             opened: None,
@@ -55,12 +62,14 @@ impl SqliteShelf {
     }
 }
 
-impl Shelf for SqliteShelf {
-    type Kept = SqliteKeeper<FileStore<File>>;
+impl<B: Start + Copy + Send> Shelf for SqliteShelf<B> {
+    type Kept = SqliteKeeper<FileStore<FileFrom<B>>>;
 
     ghost use Rattle.std.specs.Prelude.{None};
+    ghost use Rattle.sqlite_wal.specs.Files.{image_at};
+    ghost use Rattle.keeper_sqlite.specs.Shelved.{HoldsLedger};
 
-    ghost tells = { λ _ _. ⊥ };
+    ghost tells = { λ s t. IsTrue s.is_fresh × HoldsLedger (image_at B.Start) t };
 
     ghost plan = { λ _. None };
 
@@ -72,19 +81,22 @@ impl Shelf for SqliteShelf {
 
     ghost openings = { λ s. s.openings };
 
-    // The file is made where it isn't there. Tables of version 1 become those of the version that is written now, also where
-    // `load` refuses them then. One that another process has open fails at once, and so does one that can't be opened or written,
+    // The file is made where it isn't there. Tables of version 1 become those of the version that is written now. One that another process has open fails at once, and so does one that can't be opened or written,
     // that isn't a database, or that has something in it and not exactly a ledger's tables: nothing is changed there, and no file
     // is left that wasn't there; of another database that a crash left with a log, what stands in the log behind the last commit
-    // may be cut. Tables of these names with other columns are refused here or by `load`.
-    fn open_keeper(&mut self, path: &str) -> Result<SqliteKeeper<FileStore<File>>, KeepFault> {
+    // may be cut. Tables of these names with other columns are refused too, and so are those that can't be read.
+    fn open_keeper(
+        &mut self,
+        path: &str,
+    ) -> Result<SqliteKeeper<FileStore<FileFrom<B>>>, KeepFault> {
+        self.is_fresh = false;
         self.opened = Some(OpenedPath::of(path));
         self.openings = self.openings.saturating_add(1);
         let log = match standing::log_to_add(&self.rt, path) {
             Ok(log) => log,
             Err(error) => return Err(refused(error, &mut self.faults)),
         };
-        match Connection::open_from(&self.rt, path, false, Unknown) {
+        match Connection::open_from(&self.rt, path, false, self.start) {
             Ok(conn) => kept_in(&self.rt, conn, &log, &mut self.faults),
             Err((error, left)) => {
                 if left.is_some() {
@@ -97,7 +109,8 @@ impl Shelf for SqliteShelf {
 
     // What was committed stays in the file and its log beside it, so it is there at the next opening also where
     // the log can't be copied into the file.
-    fn put_back(&mut self, kept: SqliteKeeper<FileStore<File>>) {
+    fn put_back(&mut self, kept: SqliteKeeper<FileStore<FileFrom<B>>>) {
+        self.is_fresh = false;
         self.kept_faults = kept.faults();
         let _ = kept.into_connection().close();
     }
@@ -112,17 +125,17 @@ fn kept_in<S: Alter + Drop>(
 ) -> Result<SqliteKeeper<S>, KeepFault>
     requires { conn.in_transaction ≡ false }
     ensures fresh { IfOk result (λ keeper. keeper.faults ≡ 0) }
+    ensures told { IfOk result (λ keeper. WasPrepared S.Store conn keeper.tables) }
     ensures durable { IfOk result (λ keeper. Within (TellsTables S.Store keeper.tables) (MayLeaveTables S.Store keeper.tables)) }
     ensures faults_kept { OnOk result (faults.new ≡ faults.old) }
     ensures fault { result ≡ Err fault.Failed → faults.new ≡ raised faults.old }
     ensures never_falls { NeverFalls faults.old faults.new }
 {
-    let mut keeper = SqliteKeeper::over(rt.alloc(), conn);
-    match keeper.prepare() {
-        Ok(()) => Ok(keeper),
-        Err(fault) => {
+    match SqliteKeeper::prepared(rt.alloc(), conn) {
+        Ok(keeper) => Ok(keeper),
+        Err((fault, left)) => {
             standing::take_away(rt, log);
-            drop(keeper);
+            drop(left);
             Err(counted(fault, faults))
         }
     }

@@ -21,4 +21,7 @@ pub mod WorthOrder
 pub mod MakeLaw
 pub mod Telling
 pub mod LeftUpgraded
+pub mod FoundLaw
 pub mod StoredLaw
+pub mod RenewLaw
+pub mod RecognizeLaw

@@ -15,6 +15,7 @@ use Rattle.sqlite.specs.declared.error.Error.{Error}
 use Rattle.sqlite.proofs.Callers.{IsPlain, command_of, reads_as, first_as}
 use Rattle.sqlite.proofs.InsideLemmas.{unchanged_keeps}
 use Rattle.stock_keeper.specs.declared.tables.Tables.{Tables}
+use Rattle.sqlite_tables.specs.Finding.{HasLooked}
 use Rattle.sqlite_tables.specs.Reading.{HasStayed, HasShown}
 use Rattle.sqlite_tables.specs.Standing.{StandsFor}
 use Rattle.sqlite_tables.specs.Turning.{HasTurned, HasKept}
@@ -116,6 +117,12 @@ module _ {S V : Type 0} (store : Ghosts S) (items : V → List Row) (sql : List 
         let same = shown_unchanged sql [] (state store old) (state store new) (items rows) (subst IsPlain known plain) (ok clean) in
         subst (λ db. StandsFor db t) (sym same.0.now_is) stands;
   }
+
+  -- and the database, where its schema is known
+  pub all_looked : IsPlain (understood whole sql) → (result : Result V Error) → Answered result → OnOk result (HasLooked store old new)
+  all_looked plain (Err e) ok = tt
+  all_looked plain (Ok rows) ok = λ clean has.
+      shown_unchanged sql [] (state store old) (state store new) (items rows) (subst IsPlain (sym (ap (λ s. understood s sql) has)) plain) (ok clean)
 
   pub all_shown : (shown : Tables → List Row) (command : Command) → command_of (understood whole sql) ≡ command → IsPlain (understood whole sql) → reads_listing whole sql ≡ false
       → ((db : Database) (t : Tables) (rows : List Row) → StandsFor db t → Reads command db [] rows → rows ≡ shown t)

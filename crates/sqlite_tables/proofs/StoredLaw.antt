@@ -1,16 +1,18 @@
 -- What calls on stored tables make of what they tell.
-use Rattle.std.proofs.Common.{◌≡◌, Bool, true, false, Result, Ok, Err, IsTrue, OnOk, OnErr, IfOk, inl, inr}
+use Rattle.std.proofs.Common.{◌≡◌, Bool, true, false, Result, Ok, Err, IsTrue, OnOk, OnErr, IfOk, inl, inr, arith}
 use Rattle.std.proofs.lemmas.Result.{on_ok_weaker, on_err_weaker}
 use Rattle.sqlite_trees.specs.declared.store.Store.{Ghosts}
 use Rattle.sqlite_trees.specs.Tree.{Trees}
-use Rattle.sqlite.specs.State.{Survives}
+use Rattle.sqlite.specs.State.{HasCleanDisk, Survives}
 use Rattle.sqlite.specs.Held.{Held, state}
 use Rattle.stock_keeper.specs.Keeping.{Within, Makes, MayMake}
 use Rattle.stock_keeper.specs.declared.tables.Tables.{Tables}
-use Rattle.stock_keeper.specs.Changed.{new_tables}
+use Rattle.stock_keeper.specs.Changed.{new_tables, upgraded}
+use Rattle.sqlite_tables.specs.Finding.{IsPrepared, IsUpgraded, TellsWhatWas}
 use Rattle.sqlite_tables.specs.Making.{HasMadeTables, IsBlank}
 use Rattle.sqlite_tables.specs.Standing.{IsTelling}
 use Rattle.sqlite_tables.specs.Reading.{HasRead}
+use Rattle.sqlite_tables.specs.Sorted.{KnowsOrder}
 use Rattle.sqlite_tables.specs.Stored.{Base, IsSettled, TellsTables, MayLeaveTables}
 use Rattle.sqlite_tables.specs.Turning.{HasMade, HasUndone, IsTried}
 use Rattle.sqlite_tables.proofs.Telling.{stands_alone, makes_telling, makes_told, tried_left, undone_telling, undone_told, read_told, quiet_left, left_told}
@@ -70,19 +72,44 @@ module _ {S : Type 0} (store : Ghosts S) (old new : Held S) (ready : Bool) (sett
     pub loaded_settled : new.in_transaction ≡ false → IsSettled store new ready
     loaded_settled ended = record { settled = ended; telling = λ is_ready. undone_telling store old new (settled.telling is_ready) _ survives undone }
 
-module _ {S : Type 0} (store : Ghosts S) (old new : Held S) (made : HasMadeTables store old new) (blank : IsBlank (state store old).now) where
-  -- tables that were made are told
-  pub new_telling : IsTelling store new
-  new_telling clean is_open =
+-- ---- tables that were made, or found
+
+module _ {S : Type 0} (store : Ghosts S) (old new : Held S) (order : KnowsOrder store old) (P : Trees → Type 0) (survives : Survives (state store old) (state store new) P) where
+  -- what was found is told
+  found_telling : IsUpgraded store old new → IsTelling store new
+  found_telling it clean is_open =
+      let made = it.made clean in
+      let was_clean : HasCleanDisk (state store old) = omega (arith, survives.clean, clean) in
+      let found = it.found clean it.is_whole (order.sorted was_clean made.was_open) in
+      (upgraded found.0, record { clean = clean; is_open = is_open; stands = made.stands found.0 found.1 tt; committed = made.committed })
+
+  new_telling : (blank : IsBlank (state store old).now) → HasMadeTables store old new → IsTelling store new
+  new_telling blank made clean is_open =
       let it = made clean in
       (new_tables, record { clean = clean; is_open = is_open; stands = it.stands blank; committed = it.committed })
 
-  pub new_settled : new.in_transaction ≡ false → IsSettled store new true
-  new_settled ended = record { settled = ended; telling = λ ready. new_telling }
+  pub prepared_telling : IsPrepared store old new → IsTelling store new
+  prepared_telling (inl made) = new_telling made.0 made.1
+  prepared_telling (inr found) = found_telling found
 
-  pub new_made : Within (λ t. t ≡ new_tables) (TellsTables store (base new true))
-  new_made t told = stands_alone (state store new).now t new_tables told.1.stands ((made told.1.clean).stands blank)
+  prepared_open : IsPrepared store old new → HasCleanDisk (state store new) → IsTrue (state store new).is_open
+  prepared_open (inl made) clean = (made.1 clean).is_open
+  prepared_open (inr found) clean = (found.made clean).is_open
 
-  pub new_durable : ((s : S) (db : Trees) → IsTrue (store.view s).is_open → store.recovers s db → db ≡ (store.view s).committed)
+  pub prepared_settled : IsPrepared store old new → new.in_transaction ≡ false → IsSettled store new true
+  prepared_settled it ended = record { settled = ended; telling = λ ready. prepared_telling it }
+
+  pub prepared_told : IsPrepared store old new → TellsWhatWas (state store old).now (TellsTables store (base new true))
+  prepared_told (inl made) = inl (made.0, λ t told. stands_alone (state store new).now t new_tables told.1.stands ((made.1 told.1.clean).stands made.0))
+  prepared_told (inr found) = inr (
+    found.is_whole,
+    λ t told.
+        let made = found.made told.1.clean in
+        let was_clean : HasCleanDisk (state store old) = omega (arith, survives.clean, told.1.clean) in
+        let was = found.found told.1.clean found.is_whole (order.sorted was_clean made.was_open) in
+        (was.0, was.1, stands_alone (state store new).now t (upgraded was.0) told.1.stands (made.stands was.0 was.1 tt)),
+  )
+
+  pub prepared_durable : IsPrepared store old new → ((s : S) (db : Trees) → IsTrue (store.view s).is_open → store.recovers s db → db ≡ (store.view s).committed)
       → Within (TellsTables store (base new true)) (MayLeaveTables store (base new true))
-  new_durable last t left = (left.0, left_told store last new new_telling (made left.1.clean).is_open t left.1)
+  prepared_durable it last t left = (left.0, left_told store last new (prepared_telling it) (prepared_open it left.1.clean) t left.1)

@@ -1,6 +1,6 @@
 -- The tests of spots, as the texts make them.
-use Rattle.std.proofs.Common.{◌≡◌, ℤ, Bool, true, false, ◌&&◌, Ordering, Less, Equal, Greater, Some, [], ◌∷◌, refl, sym, ap, ◌∙◌, true≢false}
-use Rattle.std.specs.Ordering.{is_eq, int_cmp}
+use Rattle.std.proofs.Common.{◌≡◌, ℤ, Bool, true, false, not, ◌&&◌, Ordering, Less, Equal, Greater, Some, [], ◌∷◌, refl, sym, ap, ◌∙◌, true≢false}
+use Rattle.std.specs.Ordering.{is_eq, is_ne, int_cmp}
 use Rattle.std.specs.FinMap.{int_cmp-IsAntisymmetric}
 use Rattle.std.proofs.lemmas.Bool.{and_parts, and_from}
 use Rattle.std.proofs.lemmas.Cmp.{int_cmp_total, tied_itself}
@@ -10,7 +10,7 @@ use Rattle.sqlite_value.specs.declared.value.Value.TheVariants.{Int}
 use Rattle.sqlite_value.specs.Order.{Row, column}
 use Rattle.sqlite_value.proofs.OrderLemmas.{value_cmp-Int}
 use Rattle.sqlite_sql.specs.Ops.{binary, from_truth, is_true}
-use Rattle.sqlite_schema.specs.Rules.{equal}
+use Rattle.sqlite_schema.specs.Rules.{equal, differ}
 use Rattle.sqlite_tables.specs.Rows.{spot_cells}
 
 pub tied : (o : Ordering) → is_eq o ≡ true → o ≡ Equal
@@ -25,6 +25,15 @@ truth-from false = refl
 pub equal-Int : (m n : ℤ) → equal Binary (Int m) (Int n) ≡ is_eq (int_cmp m n)
 unfolding binary
 equal-Int m n = rw (value_cmp-Int m n) (truth-from (is_eq (int_cmp m n)))
+
+is_ne_is : (o : Ordering) → is_ne o ≡ not (is_eq o)
+is_ne_is Less = refl
+is_ne_is Equal = refl
+is_ne_is Greater = refl
+
+pub differ-Int : (m n : ℤ) → differ (Int m) (Int n) ≡ not (is_eq (int_cmp m n))
+unfolding binary
+differ-Int m n = rw (value_cmp-Int m n) (truth-from (is_ne (int_cmp m n))) ∙ is_ne_is (int_cmp m n)
 
 pub equal_self : (n : ℤ) → equal Binary (Int n) (Int n) ≡ true
 equal_self n = equal-Int n n ∙ ap is_eq (tied_itself int_cmp_total n)

@@ -14,7 +14,7 @@ use Rattle.sqlite_schema.specs.declared.command.Conflict.TheVariants.{Abort}
 use Rattle.sqlite_schema.specs.declared.command.Command.{Command}
 use Rattle.sqlite_schema.specs.declared.command.Command.TheVariants.{Insert, InsertOr, Update, Delete, Select}
 use Rattle.sqlite_tied.specs.Compute.{everything}
-use Rattle.sqlite.specs.Listing.{understood, listing_schema, reads_listing}
+use Rattle.sqlite.specs.Listing.{understood, reads_listing}
 use Rattle.sqlite.proofs.Callers.{IsPlain, command_of}
 use Rattle.stock_keeper.specs.Changed.{current_version}
 use Rattle.sqlite_tables.specs.Whole.{whole}
@@ -179,6 +179,16 @@ pub head_plain : IsPlain (understood whole texts.select_head) × (reads_listing 
 unfolding understood everything
 head_plain = ((refl, refl), refl)
 
-pub tables_plain : IsPlain (understood whole texts.select_tables)
-unfolding understood listing_schema everything
-tables_plain = (refl, refl)
+abbrev pub whole_head_terms : List Term
+whole_head_terms = col 1 0 ∷ col 1 2 ∷ col 1 3 ∷ []
+
+abbrev pub whole_head_query : Query
+whole_head_query = query_of 3 [] whole_head_terms head_order
+
+pub whole_head_is : command_of (understood whole texts.select_whole_head) ≡ Select (alone whole_head_query) (codes "id" ∷ codes "version" ∷ codes "covered" ∷ [])
+unfolding understood everything
+whole_head_is = refl
+
+pub whole_head_plain : IsPlain (understood whole texts.select_whole_head) × (reads_listing whole texts.select_whole_head ≡ false)
+unfolding understood everything
+whole_head_plain = ((refl, refl), refl)

@@ -1,8 +1,10 @@
 pub mod Texts
 pub mod Whole
 pub mod Rows
+pub mod Recognizing
 pub mod Standing
 pub mod Lasting
+pub mod Sorted
 pub mod Stored
 pub mod Turning
 pub mod Reading

@@ -1,10 +1,6 @@
 -- The texts of the statements. A number after a question mark is the place of a parameter.
 use Rattle.std.specs.Prelude.{ℕ, List, codes}
 
--- it tells the tables of a database, less those of SQLite's own
-abbrev pub select_tables : List ℕ
-select_tables = codes "SELECT name FROM sqlite_schema WHERE type = 'table' AND name NOT LIKE 'sqlite_%' ORDER BY name"
-
 -- they make the tables
 abbrev pub make_records : List ℕ
 make_records = codes "CREATE TABLE records(no INTEGER PRIMARY KEY, body BLOB NOT NULL) STRICT"
@@ -44,3 +40,7 @@ select_worths = codes "SELECT voucher, line, side, value, share FROM worths ORDE
 
 abbrev pub select_head : List ℕ
 select_head = codes "SELECT version, covered FROM head ORDER BY id"
+
+-- it shows the whole head, before it is known
+abbrev pub select_whole_head : List ℕ
+select_whole_head = codes "SELECT id, version, covered FROM head ORDER BY id"

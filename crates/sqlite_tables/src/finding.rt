@@ -1,17 +1,17 @@
-//! What a database is before its tables are told: one with nothing in it, one with the tables of a ledger, or another.
+//! What a database is before its tables are told: one with nothing in it, or one that stands for tables, as its rows show.
 ghost use Rattle.std.specs.Prelude.{◌≡◌, ◌↔◌, ⊤, IsTrue, IfOk, OnOk};
-ghost use Rattle.sqlite_value.specs.declared.value.Value.TheVariants.{Text};
-ghost use Rattle.sqlite_value.specs.Order.{column};
 ghost use Rattle.sqlite.specs.State.{Survives};
 ghost use Rattle.sqlite.specs.Held.{state};
-ghost use Rattle.sqlite_tables.specs.Finding.{AreLedger, HasAnswered, HasNames};
+ghost use Rattle.sqlite_tables.specs.Finding.{HasAnswered, HasLooked, HasFound, IsOneHead, IsWholeHead};
 ghost use Rattle.sqlite_tables.specs.Making.{no_schema};
 ghost use Rattle.sqlite_tables.specs.Texts as texts;
 ghost use Rattle.sqlite_tables.specs.Turning.{HasTurned, HasKept};
 
-use sqlite::types::ValueRef;
+use crate::parsing::{Head, worths_of};
+use crate::reading::worth_rows;
 use sqlite::{Alter, Error, ErrorCode, Row, Transaction};
 use sqlite_schema::schema::Schema;
+use std::alloc::Global;
 
 /// Whether this is the schema of a database with nothing in it.
 pub(crate) fn is_blank(schema: &Schema) -> bool
@@ -20,56 +20,56 @@ pub(crate) fn is_blank(schema: &Schema) -> bool
     schema.tables.is_empty() && schema.indexes.is_empty() && schema.views.is_empty()
 }
 
-/// Refuses a database that has other tables than those of a ledger, or lacks one. It stays as it is, and the transaction goes on.
+/// Refuses a database whose worths or head can't be read. It stays as it is, and the transaction goes on. One that has the schema of a
+/// ledger's database, and whose rows stand by rowid, stands for tables then: what else they are is seen to by the schema.
 ///
 /// # Errors
 ///
-/// `NotADatabase` where it has other tables, or lacks one. All others are those of the database.
-pub(crate) fn find_ledger<S: Alter>(tx: &mut Transaction<'_, S>) -> Result<(), Error>
+/// `DatabaseCorrupt` where the worths come out of order, or two at one spot, or the head has not one row with the id 1.
+/// `IntegralValueOutOfRange` where a number of a worth is none that its field can have. All others are those of the database.
+pub(crate) fn find_tables<S: Alter>(alloc: Global, tx: &mut Transaction<'_, S>) -> Result<(), Error>
     ensures same_reference { tx.new.conn.ghost_name ≡ tx.old.conn.ghost_name }
-    ensures named { OnOk result (HasNames S.Store tx.old.conn.now) }
-    ensures stayed { OnOk result (HasTurned S.Store (λ _. ⊤) (λ t. t) tx.old.conn.now tx.new.conn.now) }
+    ensures found { OnOk result (HasFound S.Store tx.old.conn.now tx.new.conn.now) }
+    ensures turned { OnOk result (HasTurned S.Store (λ _. ⊤) (λ t. t) tx.old.conn.now tx.new.conn.now) }
     ensures kept { HasKept S.Store tx.old.conn.now tx.new.conn.now }
     ensures survives { Survives (state S.Store tx.old.conn.now) (state S.Store tx.new.conn.now) (λ _. ⊥) }
 {
-    let names = table_names(tx)?;
-    if !are_ledger(names.as_slice()) {
-        return Err(Error::SqliteFailure(ErrorCode::NotADatabase));
-    }
+    let worths = worth_rows(tx)?;
+    let heads = head_rows(tx)?;
+    let _worths = worths_of(alloc, worths.as_slice())?;
+    let _head = one_head(heads.as_slice())?;
     Ok(())
 }
 
-// The names of the tables, in order, less those that SQLite makes for itself.
-fn table_names<S: Alter>(tx: &mut Transaction<'_, S>) -> Result<Vec<Row>, Error>
+// The rows of the head, with the id of each.
+fn head_rows<S: Alter>(tx: &mut Transaction<'_, S>) -> Result<Vec<Row>, Error>
     ensures same_reference { tx.new.conn.ghost_name ≡ tx.old.conn.ghost_name }
-    ensures answered { IfOk result (λ rows. HasAnswered S.Store texts.select_tables tx.old.conn.now tx.new.conn.now rows.items) }
-    ensures stayed { OnOk result (HasTurned S.Store (λ _. ⊤) (λ t. t) tx.old.conn.now tx.new.conn.now) }
+    ensures answered { IfOk result (λ rows. HasAnswered S.Store texts.select_whole_head tx.old.conn.now tx.new.conn.now rows.items) }
+    ensures turned { OnOk result (HasTurned S.Store (λ _. ⊤) (λ t. t) tx.old.conn.now tx.new.conn.now) }
     ensures kept { HasKept S.Store tx.old.conn.now tx.new.conn.now }
     ensures survives { Survives (state S.Store tx.old.conn.now) (state S.Store tx.new.conn.now) (λ _. ⊥) }
 {
-    tx.query_all(
-        "SELECT name FROM sqlite_schema WHERE type = 'table' AND name NOT LIKE 'sqlite_%' ORDER BY name",
-        &[],
-    )
+    tx.query_all("SELECT id, version, covered FROM head ORDER BY id", &[])
 }
 
-// Whether these are the tables of a ledger.
-fn are_ledger(tables: &[Row]) -> bool
-    ensures { IsTrue result ↔ AreLedger tables.now }
+// The head, if it has one row.
+fn one_head(rows: &[Row]) -> Result<Head, Error>
+    ensures { IfOk result (λ head. IsOneHead rows.now head.version head.covered) }
 {
-    match tables {
-        [first, second, third] => {
-            is_named(first, b"head") && is_named(second, b"records") && is_named(third, b"worths")
-        }
-        _ => false,
+    match rows {
+        [row] => whole_head_of(row),
+        _ => Err(Error::SqliteFailure(ErrorCode::DatabaseCorrupt)),
     }
 }
 
-fn is_named(row: &Row, name: &[u8]) -> bool
-    ensures { IsTrue result ↔ (column row.now 0 ≡ Text name.now) }
+fn whole_head_of(row: &Row) -> Result<Head, Error>
+    ensures { IfOk result (λ head. IsWholeHead row.now head.version head.covered) }
 {
-    match row.get_ref(0) {
-        Ok(ValueRef::Text(text)) => text == name,
-        _ => false,
+    let id: i64 = row.get(0)?;
+    let version = row.get(1)?;
+    let covered = row.get(2)?;
+    if id != 1 {
+        return Err(Error::SqliteFailure(ErrorCode::DatabaseCorrupt));
     }
+    Ok(Head { version, covered })
 }

@@ -4,7 +4,10 @@
 mod finding;
 pub mod making;
 mod parsing;
+mod preparing;
 pub mod reading;
+mod recognizing;
+pub mod renewing;
 mod statements;
 pub mod stored_tables;
 mod upgrading;

@@ -1,11 +1,13 @@
 //! What is read of a ledger's tables: all of them, in one transaction. Nothing else can write between the three reads.
-ghost use Rattle.std.specs.Prelude.{◌≡◌, false, map, OnOk, IfOk};
+ghost use Rattle.std.specs.Prelude.{◌≡◌, ⊤, false, map, OnOk, IfOk};
 ghost use Rattle.sqlite.specs.State.{Survives};
 ghost use Rattle.sqlite.specs.Held.{state};
 ghost use Rattle.stock_keeper.specs.Worths.{AreInOrder};
 ghost use Rattle.sqlite_tables.specs.Rows.{record_row, worth_row, head_row as row_of_head};
+ghost use Rattle.sqlite_tables.specs.Finding.{HasAnswered, HasLooked};
 ghost use Rattle.sqlite_tables.specs.Reading.{HasStayed, HasShown, HasRead};
-ghost use Rattle.sqlite_tables.specs.Turning.{HasKept, HasUndone};
+ghost use Rattle.sqlite_tables.specs.Texts as texts;
+ghost use Rattle.sqlite_tables.specs.Turning.{HasTurned, HasKept, HasUndone};
 
 use crate::parsing::{head_of, records_of, worths_of};
 use sqlite::{Alter, Connection, Error, Row, Transaction};
@@ -64,9 +66,12 @@ fn record_rows<S: Alter>(tx: &mut Transaction<'_, S>) -> Result<Vec<Row>, Error>
     tx.query_all("SELECT no, body FROM records ORDER BY no", &[])
 }
 
-// The rows of the worths, by record, line and side.
-fn worth_rows<S: Alter>(tx: &mut Transaction<'_, S>) -> Result<Vec<Row>, Error>
+/// The rows of the worths, by record, line and side.
+pub(crate) fn worth_rows<S: Alter>(tx: &mut Transaction<'_, S>) -> Result<Vec<Row>, Error>
     ensures same_reference { tx.new.conn.ghost_name ≡ tx.old.conn.ghost_name }
+    ensures answered { IfOk result (λ rows. HasAnswered S.Store texts.select_worths tx.old.conn.now tx.new.conn.now rows.items) }
+    ensures looked { OnOk result (HasLooked S.Store tx.old.conn.now tx.new.conn.now) }
+    ensures turned { OnOk result (HasTurned S.Store (λ _. ⊤) (λ t. t) tx.old.conn.now tx.new.conn.now) }
     ensures shown { IfOk result (λ rows. HasShown S.Store (λ t. map worth_row t.worths) tx.old.conn.now tx.new.conn.now rows.items) }
     ensures stayed { OnOk result (HasStayed S.Store tx.old.conn.now tx.new.conn.now) }
     ensures kept { HasKept S.Store tx.old.conn.now tx.new.conn.now }

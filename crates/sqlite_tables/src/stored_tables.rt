@@ -1,16 +1,14 @@
 //! Tables in a database, which are told: what a keeper over a database needs to say of them.
-ghost use Rattle.std.specs.Prelude.{◌≡◌, false, OnOk, OnErr, IfOk};
+ghost use Rattle.std.specs.Prelude.{◌≡◌, false, OnOk, OnErr, IfOk, IfErr};
 ghost use Rattle.stock_keeper.specs.Changed.{appended, published, Follows};
-ghost use Rattle.stock_keeper.specs.Keeping.{Within, Makes, MayMake, HoldsOfNone};
+ghost use Rattle.stock_keeper.specs.Keeping.{Within, Makes, MayMake};
 ghost use Rattle.stock_keeper.specs.Worths.{AreInOrder};
 ghost use Rattle.stock_keeper.specs.declared.tables.Tables.{Tables};
-ghost use Rattle.sqlite.specs.State.{Survives};
-ghost use Rattle.sqlite.specs.Held.{state};
-ghost use Rattle.sqlite_tables.specs.Finding.{IsPrepared, LeavesPrepared};
+ghost use Rattle.sqlite_tables.specs.Finding.{WasPrepared, WasRefused};
+ghost use Rattle.sqlite_tables.specs.Sorted.{LeavesNoMore};
 ghost use Rattle.sqlite_tables.specs.Stored.{TellsTables, MayLeaveTables};
-ghost use Rattle.sqlite_tables.specs.Turning.{HasUndone};
 
-use crate::{finding, making, reading, upgrading, writing};
+use crate::{preparing, reading, renewing, writing};
 use sqlite::{Alter, Connection, Error};
 use std::alloc::Global;
 use std::marker::Model;
@@ -19,7 +17,7 @@ use stock_keeper::tables::Tables;
 use stock_nums::numbers::RecordNo;
 
 /// A connection to a database with the tables of a ledger. It tells them where it is known for which tables the database stands:
-/// where it made them itself.
+/// where it made them itself, or found them and tested all that their schema does not see to.
 #[derive(Drop)]
 pub struct StoredTables<S: Alter> {
     conn: Connection<S>,
@@ -38,6 +36,38 @@ impl<S: Alter> Model for StoredTables<S> {
     ghost invariant = { λ s. IsSettled S.Store s.conn s.ready };
 }
 
+impl<S: Alter + Drop> StoredTables<S> {
+    /// The tables of a database, which are told from then on. The connection is made anew, with nothing changed. Where the database has
+    /// nothing in it, the tables of an empty ledger are made in one transaction. Where it has exactly the tables of a ledger, and they
+    /// can be read, those of version 1 become those of the version that is written now, in one transaction, and all else stays as it is.
+    ///
+    /// # Errors
+    ///
+    /// `NotADatabase` where the database has something in it, and not exactly these tables. `DatabaseCorrupt` where its worths come out
+    /// of order, or two at one spot, or its head has not one row. `IntegralValueOutOfRange` where a number of a worth is none that its
+    /// field can have. All others are those of the database. It stays as it is, but a crash may leave all of the tables in one that had
+    /// nothing in it, and those of a ledger as they would be. The connection is given back, or its store where it could not be made anew.
+    pub fn prepared(
+        alloc: Global,
+        conn: Connection<S>,
+    ) -> Result<StoredTables<S>, (Error, Result<Connection<S>, S>)>
+        ensures told { IfOk result (λ tables. WasPrepared S.Store conn tables) }
+        ensures durable { IfOk result (λ tables. Within (TellsTables S.Store tables) (MayLeaveTables S.Store tables)) }
+        ensures ended { IfErr result (λ e. IfOk e.1 (λ left. left.in_transaction ≡ false)) }
+        ensures refused { IfErr result (λ e. IfOk e.1 (WasRefused S.Store conn)) }
+        ensures left { IfErr result (λ e. IfErr e.1 (LeavesNoMore S.Store conn)) }
+    {
+        let mut conn = match renewing::renewed(alloc, conn) {
+            Ok(conn) => conn,
+            Err((error, store)) => return Err((error, Err(store))),
+        };
+        match preparing::prepare(alloc, &mut conn) {
+            Ok(()) => Ok(StoredTables { conn, ready: true }),
+            Err(error) => Err((error, Ok(conn))),
+        }
+    }
+}
+
 impl<S: Alter> StoredTables<S> {
     /// What stands behind this connection. It tells nothing yet.
     pub fn over(conn: Connection<S>) -> StoredTables<S>
@@ -53,31 +83,6 @@ impl<S: Alter> StoredTables<S> {
         ensures ended { result.in_transaction ≡ false }
     {
         self.conn
-    }
-
-    /// Makes the tables in a database with nothing in it, in one transaction, and tells them from then on. Where the database has
-    /// these tables and no others, those of version 1 become those of the version that is written now, in one transaction, and all
-    /// else stays as it is; nothing is told of them, and a load refuses those that it can't read.
-    ///
-    /// # Errors
-    ///
-    /// `NotADatabase` where the database has something in it, and not exactly these tables. All others are those of the database. It
-    /// stays as it is and nothing is told, but a crash may leave all of the tables in one that had nothing in it, and those of a
-    /// ledger as they would be.
-    pub fn prepare(&mut self) -> Result<(), Error>
-        ensures prepared { OnOk result (IsPrepared S.Store self.old self.new) }
-        ensures durable { OnOk result (Within (TellsTables S.Store self.new) (MayLeaveTables S.Store self.new)) }
-        ensures untold { OnErr result (HoldsOfNone (TellsTables S.Store self.new)) }
-        ensures undone { OnErr result (HasUndone S.Store self.old.conn self.new.conn) }
-        ensures crash { Survives (state S.Store self.old.conn) (state S.Store self.new.conn) (LeavesPrepared S.Store self.old.conn) }
-    {
-        self.ready = false;
-        if finding::is_blank(self.conn.schema()) {
-            making::make_tables(&mut self.conn)?;
-            self.ready = true;
-            return Ok(());
-        }
-        upgrading::upgrade_ledger(&mut self.conn)
     }
 
     /// Adds a record.

@@ -3,41 +3,47 @@ ghost use Rattle.std.specs.Prelude.{◌≡◌, false, ⊤, OnOk, OnErr};
 ghost use Rattle.sqlite.specs.State.{Survives};
 ghost use Rattle.sqlite.specs.Held.{state};
 ghost use Rattle.stock_keeper.specs.Changed.{upgraded};
-ghost use Rattle.sqlite_tables.specs.Finding.{HasNames, IsUpgraded, LeavesUpgraded};
+ghost use Rattle.sqlite_tables.specs.Finding.{HasFound, IsUpgraded, LeavesUpgraded};
 ghost use Rattle.sqlite_tables.specs.Turning.{HasTurned, HasKept, HasUndone};
 
-use crate::{finding, statements};
+use crate::{finding, recognizing, statements};
 use sqlite::{Alter, Connection, Error, Transaction};
+use std::alloc::Global;
 
 /// Makes tables of version 1 those of the version that is written now, in the transaction that finds them. Their records and worths
 /// stay, and how many are covered; and so do tables of each other version.
 ///
 /// # Errors
 ///
-/// `NotADatabase` where the database has other tables than those of a ledger, or lacks one. All others are those of the database. It
-/// is as it was, but a crash may leave the tables of a ledger as they would be.
-pub(crate) fn upgrade_ledger<S: Alter>(conn: &mut Connection<S>) -> Result<(), Error>
+/// `NotADatabase` where the schema is not exactly that of a ledger's database. `DatabaseCorrupt` where the worths come out of order, or
+/// two at one spot, or the head has not one row. `IntegralValueOutOfRange` where a number of a worth is none that its field can have. All
+/// others are those of the database. It is as it was, but a crash may leave the tables of a ledger as they would be.
+pub(crate) fn upgrade_ledger<S: Alter>(alloc: Global, conn: &mut Connection<S>) -> Result<(), Error>
     requires { conn.old.in_transaction ≡ false }
     ensures ended { conn.new.in_transaction ≡ false }
     ensures upgraded { OnOk result (IsUpgraded S.Store conn.old conn.new) }
     ensures undone { OnErr result (HasUndone S.Store conn.old conn.new) }
     ensures crash { Survives (state S.Store conn.old) (state S.Store conn.new) (LeavesUpgraded S.Store conn.old) }
 {
+    let refusal = recognizing::refusal_of(alloc, conn.schema());
     let mut tx = conn.transaction();
-    upgrade_found(&mut tx)?;
+    if let Some(error) = refusal {
+        return Err(error);
+    }
+    upgrade_found(alloc, &mut tx)?;
     tx.commit()?;
     Ok(())
 }
 
-// The same, in a transaction under way.
-fn upgrade_found<S: Alter>(tx: &mut Transaction<'_, S>) -> Result<(), Error>
+// The same, in a transaction under way, of a database whose schema is known.
+fn upgrade_found<S: Alter>(alloc: Global, tx: &mut Transaction<'_, S>) -> Result<(), Error>
     ensures same_reference { tx.new.conn.ghost_name ≡ tx.old.conn.ghost_name }
-    ensures named { OnOk result (HasNames S.Store tx.old.conn.now) }
+    ensures found { OnOk result (HasFound S.Store tx.old.conn.now tx.new.conn.now) }
     ensures turned { OnOk result (HasTurned S.Store (λ _. ⊤) upgraded tx.old.conn.now tx.new.conn.now) }
     ensures kept { HasKept S.Store tx.old.conn.now tx.new.conn.now }
     ensures survives { Survives (state S.Store tx.old.conn.now) (state S.Store tx.new.conn.now) (λ _. ⊥) }
 {
-    finding::find_ledger(tx)?;
+    finding::find_tables(alloc, tx)?;
     statements::upgrade(tx)?;
     Ok(())
 }

@@ -3,6 +3,7 @@
 #![tactic(auto)]
 
 use keeper_sqlite::sqlite_shelf::SqliteShelf;
+use keeper_sqlite::supposing::AnyFile;
 use std::alloc::Global;
 use std::env::Env;
 use std::net::{Net, TcpListener, TcpStream};
@@ -60,7 +61,7 @@ fn main(rt: HostRuntime) -> ExitCode {
         // Words that are no text are no form of words.
         Err(_) => Vec::new(alloc),
     };
-    let mut shelf = SqliteShelf::new(&rt);
+    let mut shelf = SqliteShelf::new(&rt, AnyFile);
     let mut output = StdSink::output(rt);
     let status = run(
         &rt,
