@@ -7,8 +7,8 @@ ghost use Rattle.stock_model.specs.Journals.{AreLegal};
 ghost use Rattle.stock_model.specs.PostingOrder.{posting_line};
 ghost use Rattle.record_effects.specs.Effects.{gone_with};
 
-use record_effects::effect::Effect;
 use quantity_check::running::Running;
+use record_effects::effect::Effect;
 use std::alloc::Global;
 use std::marker::Model;
 use stock_model::faults::PostFault;
