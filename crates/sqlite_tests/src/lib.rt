@@ -5,6 +5,8 @@
 #[cfg(test)]
 mod old_tables;
 #[cfg(test)]
+mod raising;
+#[cfg(test)]
 mod sqlite_keepers;
 #[cfg(test)]
 mod sqlite_shelves;

@@ -1,7 +1,9 @@
 //! Tables that are found are opened: those of version 1 as those of version 2, and those of each other version as they are.
 
-use crate::sqlite_keepers::{after, is_foreign, keeps_two, names_in, two_are_kept, untold};
-use sqlite::{Alter, Connection};
+ghost use Rattle.std.specs.Prelude.{◌≡◌, false};
+
+use crate::sqlite_keepers::{after, is_foreign, keeps_two, two_are_kept, untold};
+use sqlite::{Alter, Connection, MemStore};
 use std::alloc::Global;
 use stock_keeper::keeper::Keeper;
 
@@ -34,26 +36,49 @@ fn tables_of_version_1_alone_are_upgraded(rt: HostRuntime) {
     }
 }
 
-// How many tables a database has that was refused, with these.
-fn names_in_refused<S: Alter + Drop>(
-    alloc: Global,
-    conn: Connection<S>,
-    head: &str,
-) -> Option<usize> {
-    let conn = after(conn, "CREATE TABLE records(no INTEGER PRIMARY KEY)")?;
-    let conn = after(conn, "CREATE TABLE worths(voucher INTEGER)")?;
-    names_in(is_foreign(alloc, after(conn, head)?)?)
+// A ledger of version 1.
+fn old_ledger(alloc: Global) -> Option<Connection<MemStore>> {
+    let keeper = untold(alloc, Connection::open_in_memory(alloc).ok()?)?;
+    after(keeper.into_connection(), "UPDATE head SET version = 1")
+}
+
+// The version that stands in a database that was refused.
+fn version_in_refused<S: Alter + Drop>(alloc: Global, conn: Connection<S>) -> Option<i64>
+    requires { conn.in_transaction ≡ false }
+{
+    let mut conn = is_foreign(alloc, conn)?;
+    let row = conn.query_row("SELECT version FROM head", &[]).ok()?;
+    row.get(0).ok()
+}
+
+// The same of a ledger of version 1 with one thing more, which this statement made.
+fn version_with(alloc: Global, more: &str) -> Option<i64> {
+    version_in_refused(alloc, after(old_ledger(alloc)?, more)?)
+}
+
+// The same of one whose head is another table, which this statement made, with one row of version 1.
+fn version_of_others(alloc: Global, head: &str) -> Option<i64> {
+    let conn = after(old_ledger(alloc)?, "DROP TABLE head")?;
+    let conn = after(conn, head)?;
+    version_in_refused(
+        alloc,
+        after(conn, "INSERT INTO head(id, version) VALUES(1, 1)")?,
+    )
 }
 
 #[test]
-fn a_head_without_a_version_is_refused(rt: HostRuntime) {
-    let Ok(conn) = Connection::open_in_memory(rt.alloc()) else {
-        panic!(rt; "not opened")
-    };
-    let names = names_in_refused(
-        rt.alloc(),
-        conn,
-        "CREATE TABLE head(id INTEGER PRIMARY KEY)",
-    );
-    assert!(rt; names == Some(3));
+fn a_database_of_others_with_these_names_is_refused_and_stays(rt: HostRuntime) {
+    for head in [
+        "CREATE TABLE head(id INTEGER PRIMARY KEY, version INTEGER)",
+        "CREATE TABLE head(id INTEGER PRIMARY KEY, version INTEGER NOT NULL, covered INTEGER NOT NULL DEFAULT 0) STRICT",
+    ] {
+        assert!(rt; version_of_others(rt.alloc(), head) == Some(1), "{head}");
+    }
+    for more in [
+        "CREATE TABLE notes(text TEXT)",
+        "CREATE INDEX bodies ON records(body)",
+        "CREATE VIEW one AS SELECT 1",
+    ] {
+        assert!(rt; version_with(rt.alloc(), more) == Some(1), "{more}");
+    }
 }

@@ -160,15 +160,13 @@ pub(crate) fn two_are_kept(tables: &Tables) -> bool {
     are(tables, 2, b"two", 2, &[LEAVES, CHANGED])
 }
 
-// A keeper over this database, once its tables are there. It is not prepared itself, and tells nothing, so that a test may append
-// what it likes.
+// A keeper over this database, once its tables are there. It tells nothing itself, so that a test may append what it likes.
 pub(crate) fn untold<S: Alter + Drop>(alloc: Global, conn: Connection<S>) -> Option<SqliteKeeper<S>>
     requires { conn.in_transaction ≡ false }
     ensures { IfSome result (λ keeper. HoldsOfNone (TellsTables S.Store keeper.tables)) }
 {
-    let mut keeper = SqliteKeeper::over(alloc, conn);
-    match keeper.prepare() {
-        Ok(()) => Some(SqliteKeeper::over(alloc, keeper.into_connection())),
+    match SqliteKeeper::prepared(alloc, conn) {
+        Ok(keeper) => Some(SqliteKeeper::over(alloc, keeper.into_connection())),
         Err(_) => None,
     }
 }
@@ -278,15 +276,14 @@ pub(crate) fn is_foreign<S: Alter + Drop>(
 ) -> Option<Connection<S>>
     requires { conn.in_transaction ≡ false }
 {
-    let mut keeper = SqliteKeeper::over(alloc, conn);
-    match keeper.prepare() {
-        Err(KeepFault::Failed) if keeper.faults() == 1 => Some(keeper.into_connection()),
+    match SqliteKeeper::prepared(alloc, conn) {
+        Err((KeepFault::Failed, Ok(conn))) => Some(conn),
         _ => None,
     }
 }
 
-/// How many tables and views it has.
-pub(crate) fn names_in<S: Alter + Drop>(mut conn: Connection<S>) -> Option<usize> {
+// How many tables and views it has.
+fn names_in<S: Alter + Drop>(mut conn: Connection<S>) -> Option<usize> {
     let names = conn.query_all("SELECT name FROM sqlite_schema", &[]).ok()?;
     Some(names.len())
 }

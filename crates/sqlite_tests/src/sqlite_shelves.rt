@@ -3,6 +3,7 @@ ghost use Rattle.std.specs.Prelude.{◌≡◌, false};
 
 use keeper_sqlite::sqlite_keeper::SqliteKeeper;
 use keeper_sqlite::sqlite_shelf::SqliteShelf;
+use keeper_sqlite::supposing::AnyFile;
 use sqlite::{Alter, Connection};
 use std::alloc::Global;
 use std::fs;
@@ -24,7 +25,7 @@ fn has_log(rt: &HostRuntime) -> bool {
 
 // Whether a keeper is refused at the path, as a fault of the shelf.
 fn is_refused(rt: &HostRuntime) -> bool {
-    let mut shelf = SqliteShelf::new(rt);
+    let mut shelf = SqliteShelf::new(rt, AnyFile);
     match shelf.open_keeper(PATH) {
         Ok(keeper) => {
             shelf.put_back(keeper);
@@ -52,7 +53,7 @@ const CLOSED_PATH: &str = "sqlite_closed_test/ledger";
 
 const BODY: &[u8] = b"a record that stands in the log until the database is closed";
 
-// The shelf tells no tables, so a keeper that it hands out may tell any: what is added here is added by one that tells none.
+// A keeper that the shelf hands out tells tables, which no clause here names: what is added is added by one that tells none.
 fn adds<S: Alter + Drop>(alloc: Global, conn: Connection<S>) -> (bool, SqliteKeeper<S>)
     requires { conn.in_transaction ≡ false }
 {
@@ -63,7 +64,7 @@ fn adds<S: Alter + Drop>(alloc: Global, conn: Connection<S>) -> (bool, SqliteKee
 
 // Whether a keeper of the file adds a record, which stands in the log then, and is put back.
 fn is_added(rt: &HostRuntime, path: &str) -> bool {
-    let mut shelf = SqliteShelf::new(rt);
+    let mut shelf = SqliteShelf::new(rt, AnyFile);
     match shelf.open_keeper(path) {
         Ok(keeper) => {
             let (is_added, keeper) = adds(rt.alloc(), keeper.into_connection());

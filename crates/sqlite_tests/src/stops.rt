@@ -48,7 +48,7 @@ const BROUGHT: SpotWorth = SpotWorth {
 };
 
 /// How many calls a disk may have that never stops here.
-const MANY: u64 = 1_000_000;
+pub(crate) const MANY: u64 = 1_000_000;
 
 /// What a run was told before it was stopped.
 #[derive(Clone, Copy)]
@@ -123,9 +123,19 @@ fn retold<S: Alter + Drop>(alloc: Global, keeper: SqliteKeeper<S>) -> SqliteKeep
     SqliteKeeper::over(alloc, keeper.into_connection())
 }
 
-// The files of a keeper that is let go, as they stand.
-fn files_of<D: Disk + Drop>(keeper: SqliteKeeper<FileStore<D>>) -> Files<D> {
+/// The files of a keeper that is let go, as they stand.
+pub(crate) fn files_of<D: Disk + Drop>(keeper: SqliteKeeper<FileStore<D>>) -> Files<D> {
     keeper.into_connection().into_store().close()
+}
+
+/// The same of a keeper that was refused.
+pub(crate) fn files_left<D: Disk + Drop>(
+    left: Result<Connection<FileStore<D>>, FileStore<D>>,
+) -> Files<D> {
+    match left {
+        Ok(conn) => conn.into_store().close(),
+        Err(store) => store.close(),
+    }
 }
 
 // Keeps the ledger over these files, which are given back.
@@ -137,17 +147,17 @@ fn run<D: Disk + Drop>(alloc: Global, files: Files<D>) -> (Acknowledged, Files<D
         Ok(conn) => conn,
         Err((_, left)) => return (NOTHING, left.into_files()),
     };
-    let mut keeper = SqliteKeeper::over(alloc, conn);
-    if keeper.prepare().is_err() {
-        return (NOTHING, files_of(keeper));
-    }
+    let keeper = match SqliteKeeper::prepared(alloc, conn) {
+        Ok(keeper) => keeper,
+        Err((_, left)) => return (NOTHING, files_left(left)),
+    };
     let mut keeper = retold(alloc, keeper);
     let told = kept(alloc, &mut keeper);
     (told, files_of(keeper))
 }
 
-// The tables in these files.
-fn loaded<D: Disk + Drop>(alloc: Global, files: Files<D>) -> Option<Tables>
+/// The tables in these files.
+pub(crate) fn loaded<D: Disk + Drop>(alloc: Global, files: Files<D>) -> Option<Tables>
     requires log { IsTrue (D.Disk.is_usable files.log) }
     requires db { IsTrue (D.Disk.is_usable files.db) }
 {
@@ -217,31 +227,60 @@ fn is_left_synced<D: Crash + Drop>(alloc: Global, mut files: Files<D>, told: Ack
     is_left(alloc, files, told)
 }
 
-// What a file has, in one that does not stop.
-fn copied(alloc: Global, file: &Fuse<Memory>) -> Option<Fuse<Memory>> {
+// What a file has, synced, in one that stops after so many calls.
+fn copied(alloc: Global, file: &Fuse<Memory>, calls: u64) -> Option<Fuse<Memory>> {
     let mut copy = Memory::new(alloc);
     copy.write_at(0, file.inner().bytes()).ok()?;
-    Some(Fuse::new(copy, MANY))
+    if !copy.may_be_used() {
+        return None;
+    }
+    copy.sync().ok()?;
+    Some(Fuse::new(copy, calls))
+}
+
+/// What both files have, as they stand, in files that stop after so many calls of each.
+pub(crate) fn copied_files(
+    alloc: Global,
+    files: &Files<Fuse<Memory>>,
+    log: u64,
+    db: u64,
+) -> Option<Files<Fuse<Memory>>> {
+    Some(Files {
+        log: copied(alloc, &files.log, log)?,
+        db: copied(alloc, &files.db, db)?,
+    })
 }
 
 // The same of both files, as they stand: all that was written is there.
 fn is_left_written(alloc: Global, files: &Files<Fuse<Memory>>, told: Acknowledged) -> Option<bool> {
-    let files = Files {
-        log: copied(alloc, &files.log)?,
-        db: copied(alloc, &files.db)?,
-    };
+    let files = copied_files(alloc, files, MANY, MANY)?;
     if !files.may_be_used() {
         return None;
     }
     Some(is_left(alloc, files, told))
 }
 
-// Files in memory that stop after so many calls of each.
-fn stopping(alloc: Global, log: u64, db: u64) -> Files<Fuse<Memory>> {
+/// Files in memory that stop after so many calls of each.
+pub(crate) fn stopping(alloc: Global, log: u64, db: u64) -> Files<Fuse<Memory>> {
     Files {
         log: Fuse::new(Memory::new(alloc), log),
         db: Fuse::new(Memory::new(alloc), db),
     }
+}
+
+/// The files of a ledger with all of its records, if it was kept.
+pub(crate) fn kept_whole(alloc: Global) -> Option<Files<Fuse<Memory>>> {
+    let files = stopping(alloc, MANY, MANY);
+    if !files.may_be_used() {
+        return None;
+    }
+    let (told, files) = run(alloc, files);
+    if told.records == 7 { Some(files) } else { None }
+}
+
+/// Whether these are whole tables with all of its records.
+pub(crate) fn are_all(tables: &Tables) -> bool {
+    are_of(tables, 7, true)
 }
 
 // What is left of a run over these files: none where it was not stopped, else whether it is what a stop may leave.
