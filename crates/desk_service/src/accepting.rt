@@ -7,7 +7,7 @@ ghost use Rattle.desk_service.specs.Ways.{AreWaysFrom};
 ghost use Rattle.desk_service.specs.Desks.{IsBegun};
 ghost use Rattle.desk_service.specs.Serving.{Serving};
 
-use crate::alone::Alone;
+use crate::commons::Commons;
 use crate::desk::{Attends, Started, finish, start};
 use desk_connections::desk::Desk;
 use desk_connections::finding::{Found, find};
@@ -21,7 +21,6 @@ use stock_io::link::Link;
 use stock_io::listener::Listener;
 use stock_keeper::keeper::Keeper;
 use stock_nums::numbers::DeskNo;
-use turn_lock::lock::TurnLock;
 use turn_lock::pass::Pass;
 
 /// The passes of desks, and their ways to the listener, as many. Those of the first desk come last.
@@ -45,14 +44,12 @@ pub fn accept_all<
     rt: &'s R,
     alloc: Global,
     scope: &'s Scope<'s, E>,
-    lock: &'s TurnLock<Book<K>>,
-    shared: &'s TurnLock<SharedListener<L>>,
-    alone: &'s Alone,
+    commons: &'s Commons<K, L>,
     next: DeskNo,
     desks: Desks<K, L>,
 ) -> Desks<K, L>
-    requires passes { ArePassesFrom lock.now.lock next.0 desks.passes.items }
-    requires ways { AreWaysFrom shared.now.lock next.0 desks.ways.items }
+    requires passes { ArePassesFrom commons.now.lock.lock next.0 desks.passes.items }
+    requires ways { AreWaysFrom commons.now.shared.lock next.0 desks.ways.items }
     requires as_many { vec_len desks.ways ≡ vec_len desks.passes }
     requires numbers { next.0 + vec_len desks.passes ≤ MAX_DESK + 1 }
     ensures len { vec_len result.passes ≡ vec_len desks.passes }
@@ -66,18 +63,12 @@ pub fn accept_all<
         return desks;
     }
     let First { desk, others } = first_of(desks);
-    let started = open(rt, alloc, scope, lock, shared, alone, next, desk);
-    let rest = accept_all(
-        rt,
-        alloc,
-        scope,
-        lock,
-        shared,
-        alone,
-        DeskNo(next.0 + 1),
-        others,
-    );
-    with_desk(rest, finish(rt, alloc, lock, shared, started))
+    let started = open(rt, alloc, scope, commons, next, desk);
+    let rest = accept_all(rt, alloc, scope, commons, DeskNo(next.0 + 1), others);
+    with_desk(
+        rest,
+        finish(rt, alloc, &commons.lock, &commons.shared, started),
+    )
 }
 
 // The desk that is next, and the others.
@@ -126,14 +117,12 @@ fn open<
     rt: &'s R,
     alloc: Global,
     scope: &Scope<'s, E>,
-    lock: &'s TurnLock<Book<K>>,
-    shared: &'s TurnLock<SharedListener<L>>,
-    alone: &'s Alone,
+    commons: &'s Commons<K, L>,
     number: DeskNo,
     desk: Desk<K, L>,
 ) -> Started<K, L>
-    requires same_lock { desk.pass.lock ≡ lock.now.lock }
-    requires same_way_lock { desk.way.lock ≡ shared.now.lock }
+    requires same_lock { desk.pass.lock ≡ commons.now.lock.lock }
+    requires same_way_lock { desk.way.lock ≡ commons.now.shared.lock }
     requires number { number.0 ≡ desk.pass.view.number }
     requires way_number { number.0 ≡ desk.way.view.number }
     requires desk { number.0 ≤ MAX_DESK }
@@ -150,23 +139,13 @@ fn open<
         result.promise.pass.value begun.pass result.promise.way.value begun.way begun.is_over) }
 {
     let Desk { pass, way } = desk;
-    let Found { way, next: first } = find(rt, shared, number, way);
+    let Found { way, next: first } = find(rt, &commons.shared, number, way);
     let promise = Attends {
         number,
         pass: Snapshot::of(&pass),
         way: Snapshot::of(&way),
     };
-    let running = start(
-        rt,
-        alloc,
-        scope,
-        lock,
-        shared,
-        alone,
-        number,
-        Desk { pass, way },
-        first,
-    );
+    let running = start(rt, alloc, scope, commons, number, Desk { pass, way }, first);
     Started { promise, running }
 }
 

@@ -6,6 +6,7 @@ ghost use Rattle.desk_connections.specs.Ways.{IsWay};
 ghost use Rattle.desk_service.specs.Desks.{IsFirst, IsBegun};
 
 use crate::alone::Alone;
+use crate::commons::Commons;
 use desk_connections::desk::{Desk, go_further, serve_one};
 use generation_book::book::Book;
 use shared_listener::listener::SharedListener;
@@ -104,15 +105,13 @@ pub fn start<
     rt: &'s R,
     alloc: Global,
     scope: &Scope<'s, E>,
-    lock: &'s TurnLock<Book<K>>,
-    shared: &'s TurnLock<SharedListener<L>>,
-    alone: &'s Alone,
+    commons: &'s Commons<K, L>,
     number: DeskNo,
     desk: Desk<K, L>,
     first: Option<P>,
 ) -> Running<K, L>
-    requires same_lock { desk.pass.lock ≡ lock.now.lock }
-    requires same_way_lock { desk.way.lock ≡ shared.now.lock }
+    requires same_lock { desk.pass.lock ≡ commons.now.lock.lock }
+    requires same_way_lock { desk.way.lock ≡ commons.now.shared.lock }
     requires number { number.0 ≡ desk.pass.view.number }
     requires way_number { number.0 ≡ desk.way.view.number }
     requires desk { number.0 ≤ MAX_DESK }
@@ -126,7 +125,7 @@ pub fn start<
         desk.pass begun.pass desk.way begun.way begun.is_over) }
 {
     match first {
-        Some(first) => start_thread(rt, alloc, scope, lock, shared, alone, number, desk, first),
+        Some(first) => start_thread(rt, alloc, scope, commons, number, desk, first),
         None => Err(Begun {
             pass: desk.pass,
             way: desk.way,
@@ -148,15 +147,13 @@ fn start_thread<
     rt: &'s R,
     alloc: Global,
     scope: &Scope<'s, E>,
-    lock: &'s TurnLock<Book<K>>,
-    shared: &'s TurnLock<SharedListener<L>>,
-    alone: &'s Alone,
+    commons: &'s Commons<K, L>,
     number: DeskNo,
     desk: Desk<K, L>,
     first: P,
 ) -> Running<K, L>
-    requires same_lock { desk.pass.lock ≡ lock.now.lock }
-    requires same_way_lock { desk.way.lock ≡ shared.now.lock }
+    requires same_lock { desk.pass.lock ≡ commons.now.lock.lock }
+    requires same_way_lock { desk.way.lock ≡ commons.now.shared.lock }
     requires number { number.0 ≡ desk.pass.view.number }
     requires way_number { number.0 ≡ desk.way.view.number }
     requires desk { number.0 ≤ MAX_DESK }
@@ -176,8 +173,8 @@ fn start_thread<
         way: Snapshot::of(&way),
     };
     let job = move || -> Begun<K, L>
-        requires same_lock { pass.lock ≡ lock.now.lock }
-        requires same_way_lock { way.lock ≡ shared.now.lock }
+        requires same_lock { pass.lock ≡ commons.now.lock.lock }
+        requires same_way_lock { way.lock ≡ commons.now.shared.lock }
         requires number { number.0 ≡ pass.view.number }
         requires way_number { number.0 ≡ way.view.number }
         requires desk { number.0 ≤ MAX_DESK }
@@ -188,12 +185,21 @@ fn start_thread<
         ensures { IsBegun P.left P.taken P.written P.Source.faults P.ended number.0 pass result.pass way result.way result.is_over }
     {
         let desk = Desk { pass, way };
-        begin(rt, alloc, lock, shared, alone, number, desk, first)
+        begin(
+            rt,
+            alloc,
+            &commons.lock,
+            &commons.shared,
+            &commons.alone,
+            number,
+            desk,
+            first,
+        )
     };
     match scope.spawn_with(promise, job) {
         Ok(thread) => Ok(thread),
         Err(refused) => {
-            alone.tell(number);
+            commons.alone.tell(number);
             Err((refused.value)())
         }
     }

@@ -4,6 +4,7 @@
 mod accepting;
 mod alone;
 mod closing;
+mod commons;
 mod desk;
 mod ending;
 mod gate;

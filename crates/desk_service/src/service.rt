@@ -20,6 +20,7 @@ ghost use Rattle.desk_service.specs.Ways.{AreWaysFrom};
 use crate::accepting::{Desks, accept_all};
 use crate::alone::Alone;
 use crate::closing::Closing;
+use crate::commons::Commons;
 use crate::ending::{Unshared, close_all, unshare};
 use crate::locking::{Locks, NotLocked, lock_both};
 use crate::passes::{Split, split_all};
@@ -175,16 +176,17 @@ fn serve_under<
         worker: Worker { pass, build },
         desks: Desks { passes, ways },
     };
-    let alone = Alone::new();
-    let team = in_threads::<K, P, L, Brand, R>(
-        &*rt,
-        alloc,
-        &lock,
-        &shared,
-        &alone,
-        team,
-        Blank::new(1),
-    );
+    let commons = Commons {
+        lock,
+        shared,
+        alone: Alone::new(),
+    };
+    let team = in_threads::<K, P, L, Brand, R>(rt, alloc, &commons, team, Blank::new(1));
+    let Commons {
+        lock,
+        shared,
+        alone: _,
+    } = commons;
     the_ledger_keeps_the_stock();
     ended(lock, shared, way, team)
 }
@@ -192,26 +194,17 @@ fn serve_under<
 // Lets the worker and the desks do their work in threads of their own. Where none can be made for the worker, it begins once the desks
 // have ended, and so ends at once.
 fn in_threads<
-    'x,
     K: Keeper + Send,
     P: Link,
     L: Listener<Peer = P> + Send + Drop,
     N: Ledger + Send,
     R: Threads + Wait + Sync,
->(
-    rt: &'x R,
-    alloc: Global,
-    lock: &'x TurnLock<Book<K>>,
-    shared: &'x TurnLock<SharedListener<L>>,
-    alone: &'x Alone,
-    team: Team<K, L>,
-    blank: Blank,
-) -> Team<K, L>
-    requires same_lock { team.worker.pass.lock ≡ lock.now.lock }
+>(rt: &R, alloc: Global, commons: &Commons<K, L>, team: Team<K, L>, blank: Blank) -> Team<K, L>
+    requires same_lock { team.worker.pass.lock ≡ commons.now.lock.lock }
     requires zero { team.worker.pass.view.number ≡ 0 }
     requires work { IsWorkOf (without_makers team.worker.pass.view.seen) team.worker.build }
-    requires passes { ArePassesFrom lock.now.lock 1 team.desks.passes.items }
-    requires ways { AreWaysFrom shared.now.lock 1 team.desks.ways.items }
+    requires passes { ArePassesFrom commons.now.lock.lock 1 team.desks.passes.items }
+    requires ways { AreWaysFrom commons.now.shared.lock 1 team.desks.ways.items }
     requires as_many { vec_len team.desks.ways ≡ vec_len team.desks.passes }
     requires numbers { vec_len team.desks.passes ≤ MAX_DESK }
     requires name { blank.name ≡ N.name }
@@ -227,35 +220,32 @@ fn in_threads<
     let end = &closing;
     let (worker, desks) = thread::join(
         rt,
-        || work::<K, N, R>(rt, alloc, lock, end, worker, blank),
+        || work::<K, N, R>(rt, alloc, &commons.lock, end, worker, blank),
         ||
-            requires passes { ArePassesFrom lock.now.lock 1 desks.passes.items }
-            requires ways { AreWaysFrom shared.now.lock 1 desks.ways.items }
+            requires passes { ArePassesFrom commons.now.lock.lock 1 desks.passes.items }
+            requires ways { AreWaysFrom commons.now.shared.lock 1 desks.ways.items }
             requires as_many { vec_len desks.ways ≡ vec_len desks.passes }
             requires numbers { vec_len desks.passes ≤ MAX_DESK }
-        { attend_all::<K, P, L, R>(rt, alloc, lock, shared, alone, end, desks) },
+        { attend_all::<K, P, L, R>(rt, alloc, commons, end, desks) },
     );
     Team { worker, desks }
 }
 
 // Serves the peers, at desks in threads of their own, and says then that the desks have ended.
 fn attend_all<
-    'x,
     K: Keeper + Send,
     P: Link,
     L: Listener<Peer = P> + Send + Drop,
     R: Threads + Wait + Sync,
 >(
-    rt: &'x R,
+    rt: &R,
     alloc: Global,
-    lock: &'x TurnLock<Book<K>>,
-    shared: &'x TurnLock<SharedListener<L>>,
-    alone: &'x Alone,
+    commons: &Commons<K, L>,
     closing: &Closing,
     desks: Desks<K, L>,
 ) -> Desks<K, L>
-    requires passes { ArePassesFrom lock.now.lock 1 desks.passes.items }
-    requires ways { AreWaysFrom shared.now.lock 1 desks.ways.items }
+    requires passes { ArePassesFrom commons.now.lock.lock 1 desks.passes.items }
+    requires ways { AreWaysFrom commons.now.shared.lock 1 desks.ways.items }
     requires as_many { vec_len desks.ways ≡ vec_len desks.passes }
     requires numbers { vec_len desks.passes ≤ MAX_DESK }
     ensures serving { Serving
@@ -266,14 +256,14 @@ fn attend_all<
         thread::scope_env(),
         rt,
         move |scope| -> Desks<K, L>
-            requires passes { ArePassesFrom lock.now.lock 1 desks.passes.items }
-            requires ways { AreWaysFrom shared.now.lock 1 desks.ways.items }
+            requires passes { ArePassesFrom commons.now.lock.lock 1 desks.passes.items }
+            requires ways { AreWaysFrom commons.now.shared.lock 1 desks.ways.items }
             requires as_many { vec_len desks.ways ≡ vec_len desks.passes }
             requires numbers { vec_len desks.passes ≤ MAX_DESK }
             ensures serving { Serving
                 (λ desk pass pass' way way'. IsBegun P.left P.taken P.written P.Source.faults P.ended desk pass pass' way way' true)
                 1 desks.passes.items result.passes.items desks.ways.items result.ways.items }
-        { accept_all(rt, alloc, scope, lock, shared, alone, DeskNo(1), desks) },
+        { accept_all(rt, alloc, scope, commons, DeskNo(1), desks) },
     );
     closing.close();
     desks

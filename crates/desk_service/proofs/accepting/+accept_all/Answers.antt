@@ -16,63 +16,63 @@ returns-then-is_empty-clause-serving g t c =
 pub open-started-requires-clause-same_lock : goal.open-started-requires-clause-same_lock
 open-started-requires-clause-same_lock g t c κs within =
     let first = c.first_of-desk in
-    let p = popped c.args.lock.now.lock c.requires.passes.0 c.args.next.0 c.args.desks.passes.items first.result.others.passes.items first.result.desk.pass
+    let p = popped c.args.commons.now.lock.lock c.requires.passes.0 c.args.next.0 c.args.desks.passes.items first.result.others.passes.items first.result.desk.pass
     c.requires.passes.1 first.ensures.passes in
     ap (λ p. p.lock) p.pass_is
 
 pub open-started-requires-clause-same_way_lock : goal.open-started-requires-clause-same_way_lock
 open-started-requires-clause-same_way_lock g t c κs within =
     let first = c.first_of-desk in
-    let p = popped c.args.shared.now.lock c.requires.ways.0 c.args.next.0 c.args.desks.ways.items first.result.others.ways.items first.result.desk.way
+    let p = popped c.args.commons.now.shared.lock c.requires.ways.0 c.args.next.0 c.args.desks.ways.items first.result.others.ways.items first.result.desk.way
     c.requires.ways.2 first.ensures.ways in
     ap (λ p. p.lock) p.pass_is
 
 pub open-started-requires-clause-number : goal.open-started-requires-clause-number
 open-started-requires-clause-number g t c κs within =
     let first = c.first_of-desk in
-    let p = popped c.args.lock.now.lock c.requires.passes.0 c.args.next.0 c.args.desks.passes.items first.result.others.passes.items first.result.desk.pass
+    let p = popped c.args.commons.now.lock.lock c.requires.passes.0 c.args.next.0 c.args.desks.passes.items first.result.others.passes.items first.result.desk.pass
     c.requires.passes.1 first.ensures.passes in
     sym (ap (λ p. p.view.number) p.pass_is)
 
 pub open-started-requires-clause-way_number : goal.open-started-requires-clause-way_number
 open-started-requires-clause-way_number g t c κs within =
     let first = c.first_of-desk in
-    let p = popped c.args.shared.now.lock c.requires.ways.0 c.args.next.0 c.args.desks.ways.items first.result.others.ways.items first.result.desk.way
+    let p = popped c.args.commons.now.shared.lock c.requires.ways.0 c.args.next.0 c.args.desks.ways.items first.result.others.ways.items first.result.desk.way
     c.requires.ways.2 first.ensures.ways in
     sym (ap (λ p. p.view.number) p.pass_is)
 
 pub open-started-requires-clause-few_turns : goal.open-started-requires-clause-few_turns
 open-started-requires-clause-few_turns g t c κs within =
     let first = c.first_of-desk in
-    let p = popped c.args.lock.now.lock c.requires.passes.0 c.args.next.0 c.args.desks.passes.items first.result.others.passes.items first.result.desk.pass
+    let p = popped c.args.commons.now.lock.lock c.requires.passes.0 c.args.next.0 c.args.desks.passes.items first.result.others.passes.items first.result.desk.pass
     c.requires.passes.1 first.ensures.passes in
     subst (λ (stops : List ℕ). length stops ≤ 72057594037927936) (sym (ap (λ p. p.view.stops) p.pass_is)) (omega arith)
 
 pub open-started-requires-clause-way : goal.open-started-requires-clause-way
 open-started-requires-clause-way g t c κs within =
     let first = c.first_of-desk in
-    let p = popped c.args.shared.now.lock c.requires.ways.0 c.args.next.0 c.args.desks.ways.items first.result.others.ways.items first.result.desk.way
+    let p = popped c.args.commons.now.shared.lock c.requires.ways.0 c.args.next.0 c.args.desks.ways.items first.result.others.ways.items first.result.desk.way
     c.requires.ways.2 first.ensures.ways in
-    IsWay-fresh c.requires.ways.0 c.args.next.0 first.result.desk.way c.args.shared.now.lock c.requires.ways.1 p.pass_is
+    IsWay-fresh c.requires.ways.0 c.args.next.0 first.result.desk.way c.args.commons.now.shared.lock c.requires.ways.1 p.pass_is
 
 pub open-started-requires-clause-nothing : goal.open-started-requires-clause-nothing
 open-started-requires-clause-nothing g t c κs within =
     let first = c.first_of-desk in
-    let p = popped c.args.shared.now.lock c.requires.ways.0 c.args.next.0 c.args.desks.ways.items first.result.others.ways.items first.result.desk.way
+    let p = popped c.args.commons.now.shared.lock c.requires.ways.0 c.args.next.0 c.args.desks.ways.items first.result.others.ways.items first.result.desk.way
     c.requires.ways.2 first.ensures.ways in
     ap (λ p. p.view.made) p.pass_is
 
 pub accept_all-rest-requires-clause-passes : goal.accept_all-rest-requires-clause-passes
 accept_all-rest-requires-clause-passes g t c κs within =
     let first = c.first_of-desk in
-    let p = popped c.args.lock.now.lock c.requires.passes.0 c.args.next.0 c.args.desks.passes.items first.result.others.passes.items first.result.desk.pass
+    let p = popped c.args.commons.now.lock.lock c.requires.passes.0 c.args.next.0 c.args.desks.passes.items first.result.others.passes.items first.result.desk.pass
     c.requires.passes.1 first.ensures.passes in
     (c.requires.passes.0, p.rest_is)
 
 pub accept_all-rest-requires-clause-ways : goal.accept_all-rest-requires-clause-ways
 accept_all-rest-requires-clause-ways g t c κs within =
     let first = c.first_of-desk in
-    let p = popped c.args.shared.now.lock c.requires.ways.0 c.args.next.0 c.args.desks.ways.items first.result.others.ways.items first.result.desk.way
+    let p = popped c.args.commons.now.shared.lock c.requires.ways.0 c.args.next.0 c.args.desks.ways.items first.result.others.ways.items first.result.desk.way
     c.requires.ways.2 first.ensures.ways in
     (c.requires.ways.0, c.requires.ways.1, p.rest_is)
 
@@ -85,7 +85,7 @@ returns-clause-serving g t c =
     let started = c.open-started in
     let done = c.finish.result in
     let rest = c.accept_all-rest.result in
-    let p = popped c.args.shared.now.lock c.requires.ways.0 c.args.next.0 c.args.desks.ways.items first.result.others.ways.items way
+    let p = popped c.args.commons.now.shared.lock c.requires.ways.0 c.args.next.0 c.args.desks.ways.items first.result.others.ways.items way
     c.requires.ways.2 first.ensures.ways in
     let begun = subst (λ (z : ℕ × _). does z.0 z.1 done.pass started.result.promise.way.value done.way)
     (λ i. (started.ensures.number i, started.ensures.pass i)) c.finish.ensures in
@@ -100,13 +100,13 @@ returns-clause-serving g t c =
 pub finish-requires-clause-same_lock : goal.finish-requires-clause-same_lock
 finish-requires-clause-same_lock g t c κs within =
     let first = c.first_of-desk in
-    let p = popped c.args.lock.now.lock c.requires.passes.0 c.args.next.0 c.args.desks.passes.items first.result.others.passes.items first.result.desk.pass
+    let p = popped c.args.commons.now.lock.lock c.requires.passes.0 c.args.next.0 c.args.desks.passes.items first.result.others.passes.items first.result.desk.pass
     c.requires.passes.1 first.ensures.passes in
     ap (λ p. p.lock) c.open-started.ensures.pass ∙ ap (λ p. p.lock) p.pass_is
 
 pub finish-requires-clause-same_way_lock : goal.finish-requires-clause-same_way_lock
 finish-requires-clause-same_way_lock g t c κs within =
     let first = c.first_of-desk in
-    let p = popped c.args.shared.now.lock c.requires.ways.0 c.args.next.0 c.args.desks.ways.items first.result.others.ways.items first.result.desk.way
+    let p = popped c.args.commons.now.shared.lock c.requires.ways.0 c.args.next.0 c.args.desks.ways.items first.result.others.ways.items first.result.desk.way
     c.requires.ways.2 first.ensures.ways in
     c.open-started.ensures.same_way_lock ∙ ap (λ p. p.lock) p.pass_is

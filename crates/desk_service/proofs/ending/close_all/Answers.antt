@@ -6,9 +6,6 @@ use Rattle.turn_lock.specs.Passes.{PassView}
 use Rattle.turn_lock.specs.Views.{all_faults, made_through}
 use Rattle.desk_service.specs.Passes.{joined_all}
 use Rattle.desk_service.proofs.Gathering.{joined_all-number, joined_all-count, joined_all-split, joined_all-first, joined_all-start, joined_all-first_faults}
-use Rattle.desk_service.proofs.Together.{service_is}
-use Rattle.desk_service.proofs.Coming.{within}
-use Rattle.desk_service.proofs.Beginning.{Serving-more}
 use Rattle.desk_service.proofs.ending.close_all.Goals as goal
 
 pub close-requires-clause-zero : goal.close-requires-clause-zero
