@@ -17,7 +17,6 @@ use std::alloc::Global;
 use std::snapshot::Snapshot;
 use std::sync::Wait;
 use std::thread::{Scope, Threads};
-use stock_io::link::Link;
 use stock_io::listener::Listener;
 use stock_keeper::keeper::Keeper;
 use stock_nums::numbers::DeskNo;
@@ -37,8 +36,7 @@ pub fn accept_all<
     's,
     E: 's,
     K: Keeper + Send + 's,
-    P: Link + 's,
-    L: Listener<Peer = P> + Send + 's,
+    L: Listener + Send + 's,
     R: Threads + Wait + Sync + 's,
 >(
     rt: &'s R,
@@ -56,7 +54,7 @@ pub fn accept_all<
     ensures ways_len { vec_len result.ways ≡ vec_len desks.ways }
     ensures passes_room { vec_capacity desks.passes ≤ vec_capacity result.passes }
     ensures ways_room { vec_capacity desks.ways ≤ vec_capacity result.ways }
-    ensures serving { Serving (λ desk pass pass' way way'. IsBegun P.left P.taken P.written P.Source.faults P.ended desk pass pass' way way' true)
+    ensures serving { Serving (λ desk pass pass' way way'. IsBegun L.Peer.left L.Peer.taken L.Peer.written L.Peer.Source.faults L.Peer.ended desk pass pass' way way' true)
         next.0 desks.passes.items result.passes.items desks.ways.items result.ways.items }
 {
     if desks.passes.is_empty() {
@@ -106,14 +104,7 @@ fn first_of<K: Keeper, L: Listener>(desks: Desks<K, L>) -> First<K, L>
 }
 
 // Finds the desk's first peer, and starts the desk.
-fn open<
-    's,
-    E: 's,
-    K: Keeper + Send + 's,
-    P: Link + 's,
-    L: Listener<Peer = P> + Send + 's,
-    R: Wait + Sync + 's,
->(
+fn open<'s, E: 's, K: Keeper + Send + 's, L: Listener + Send + 's, R: Wait + Sync + 's>(
     rt: &'s R,
     alloc: Global,
     scope: &Scope<'s, E>,
@@ -135,7 +126,7 @@ fn open<
     ensures way_rest { LeavesWay desk.way.view result.promise.way.value.view }
     ensures promised { IfOk result.running (λ thread. (thread.promise.number.0 ≡ result.promise.number.0)
         × (thread.promise.pass.value ≡ result.promise.pass.value) × (thread.promise.way.value ≡ result.promise.way.value)) }
-    ensures begun { IfErr result.running (λ begun. IsBegun P.left P.taken P.written P.Source.faults P.ended result.promise.number.0
+    ensures begun { IfErr result.running (λ begun. IsBegun L.Peer.left L.Peer.taken L.Peer.written L.Peer.Source.faults L.Peer.ended result.promise.number.0
         result.promise.pass.value begun.pass result.promise.way.value begun.way begun.is_over) }
 {
     let Desk { pass, way } = desk;

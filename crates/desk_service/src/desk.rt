@@ -94,21 +94,14 @@ pub struct Started<K: Keeper, L: Listener> {
 
 /// Lets the desk serve its first peer, if one came, and those that come after it in a thread of the scope. Where none can be made, it
 /// has served the first one when this returns.
-pub fn start<
-    's,
-    E: 's,
-    K: Keeper + Send + 's,
-    P: Link + 's,
-    L: Listener<Peer = P> + Send + 's,
-    R: Wait + Sync + 's,
->(
+pub fn start<'s, E: 's, K: Keeper + Send + 's, L: Listener + Send + 's, R: Wait + Sync + 's>(
     rt: &'s R,
     alloc: Global,
     scope: &Scope<'s, E>,
     commons: &'s Commons<K, L>,
     number: DeskNo,
     desk: Desk<K, L>,
-    first: Option<P>,
+    first: Option<L::Peer>,
 ) -> Running<K, L>
     requires same_lock { desk.pass.lock ≡ commons.now.lock.lock }
     requires same_way_lock { desk.way.lock ≡ commons.now.shared.lock }
@@ -121,7 +114,7 @@ pub fn start<
     requires found { IsFirst number.0 first desk.way.view.made }
     ensures promised { IfOk result (λ thread. (thread.promise.number.0 ≡ number.0)
         × (thread.promise.pass.value ≡ desk.pass) × (thread.promise.way.value ≡ desk.way)) }
-    ensures begun { IfErr result (λ begun. IsBegun P.left P.taken P.written P.Source.faults P.ended number.0
+    ensures begun { IfErr result (λ begun. IsBegun L.Peer.left L.Peer.taken L.Peer.written L.Peer.Source.faults L.Peer.ended number.0
         desk.pass begun.pass desk.way begun.way begun.is_over) }
 {
     match first {
@@ -136,21 +129,14 @@ pub fn start<
 
 // Lets the desk serve its first peer and those that come after it in a thread of the scope. Where none can be made, it has served the
 // first one when this returns.
-fn start_thread<
-    's,
-    E: 's,
-    K: Keeper + Send + 's,
-    P: Link + 's,
-    L: Listener<Peer = P> + Send + 's,
-    R: Wait + Sync + 's,
->(
+fn start_thread<'s, E: 's, K: Keeper + Send + 's, L: Listener + Send + 's, R: Wait + Sync + 's>(
     rt: &'s R,
     alloc: Global,
     scope: &Scope<'s, E>,
     commons: &'s Commons<K, L>,
     number: DeskNo,
     desk: Desk<K, L>,
-    first: P,
+    first: L::Peer,
 ) -> Running<K, L>
     requires same_lock { desk.pass.lock ≡ commons.now.lock.lock }
     requires same_way_lock { desk.way.lock ≡ commons.now.shared.lock }
@@ -163,7 +149,7 @@ fn start_thread<
     requires came { NotesCame number.0 first [] desk.way.view.made }
     ensures promised { IfOk result (λ thread. (thread.promise.number.0 ≡ number.0)
         × (thread.promise.pass.value ≡ desk.pass) × (thread.promise.way.value ≡ desk.way)) }
-    ensures begun { IfErr result (λ begun. IsBegun P.left P.taken P.written P.Source.faults P.ended number.0
+    ensures begun { IfErr result (λ begun. IsBegun L.Peer.left L.Peer.taken L.Peer.written L.Peer.Source.faults L.Peer.ended number.0
         desk.pass begun.pass desk.way begun.way begun.is_over) }
 {
     let Desk { pass, way } = desk;
@@ -182,7 +168,7 @@ fn start_thread<
         requires few_way_turns { length way.view.stops < 2 ^ 57 }
         requires way { IsWay way.view }
         requires came { NotesCame number.0 first [] way.view.made }
-        ensures { IsBegun P.left P.taken P.written P.Source.faults P.ended number.0 pass result.pass way result.way result.is_over }
+        ensures { IsBegun L.Peer.left L.Peer.taken L.Peer.written L.Peer.Source.faults L.Peer.ended number.0 pass result.pass way result.way result.is_over }
     {
         let desk = Desk { pass, way };
         begin(

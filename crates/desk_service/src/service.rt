@@ -181,7 +181,7 @@ fn serve_under<
         shared,
         alone: Alone::new(),
     };
-    let team = in_threads::<K, P, L, Brand, R>(rt, alloc, &commons, team, Blank::new(1));
+    let team = in_threads::<K, L, Brand, R>(rt, alloc, &commons, team, Blank::new(1));
     let Commons {
         lock,
         shared,
@@ -195,8 +195,7 @@ fn serve_under<
 // have ended, and so ends at once.
 fn in_threads<
     K: Keeper + Send,
-    P: Link,
-    L: Listener<Peer = P> + Send + Drop,
+    L: Listener + Send + Drop,
     N: Ledger + Send,
     R: Threads + Wait + Sync,
 >(rt: &R, alloc: Global, commons: &Commons<K, L>, team: Team<K, L>, blank: Blank) -> Team<K, L>
@@ -211,7 +210,7 @@ fn in_threads<
     requires parts { blank.parts ≡ N.parts }
     requires some_parts { 0 < N.parts }
     ensures teamwork { IsTeamwork
-        (λ desk pass pass' way way'. IsBegun P.left P.taken P.written P.Source.faults P.ended desk pass pass' way way' true)
+        (λ desk pass pass' way way'. IsBegun L.Peer.left L.Peer.taken L.Peer.written L.Peer.Source.faults L.Peer.ended desk pass pass' way way' true)
         team.worker.pass team.worker.build result.worker.pass result.worker.build
         team.desks.passes.items result.desks.passes.items team.desks.ways.items result.desks.ways.items }
 {
@@ -226,18 +225,13 @@ fn in_threads<
             requires ways { AreWaysFrom commons.now.shared.lock 1 desks.ways.items }
             requires as_many { vec_len desks.ways ≡ vec_len desks.passes }
             requires numbers { vec_len desks.passes ≤ MAX_DESK }
-        { attend_all::<K, P, L, R>(rt, alloc, commons, end, desks) },
+        { attend_all::<K, L, R>(rt, alloc, commons, end, desks) },
     );
     Team { worker, desks }
 }
 
 // Serves the peers, at desks in threads of their own, and says then that the desks have ended.
-fn attend_all<
-    K: Keeper + Send,
-    P: Link,
-    L: Listener<Peer = P> + Send + Drop,
-    R: Threads + Wait + Sync,
->(
+fn attend_all<K: Keeper + Send, L: Listener + Send + Drop, R: Threads + Wait + Sync>(
     rt: &R,
     alloc: Global,
     commons: &Commons<K, L>,
@@ -249,7 +243,7 @@ fn attend_all<
     requires as_many { vec_len desks.ways ≡ vec_len desks.passes }
     requires numbers { vec_len desks.passes ≤ MAX_DESK }
     ensures serving { Serving
-        (λ desk pass pass' way way'. IsBegun P.left P.taken P.written P.Source.faults P.ended desk pass pass' way way' true)
+        (λ desk pass pass' way way'. IsBegun L.Peer.left L.Peer.taken L.Peer.written L.Peer.Source.faults L.Peer.ended desk pass pass' way way' true)
         1 desks.passes.items result.passes.items desks.ways.items result.ways.items }
 {
     let desks = thread::scope(
@@ -261,7 +255,7 @@ fn attend_all<
             requires as_many { vec_len desks.ways ≡ vec_len desks.passes }
             requires numbers { vec_len desks.passes ≤ MAX_DESK }
             ensures serving { Serving
-                (λ desk pass pass' way way'. IsBegun P.left P.taken P.written P.Source.faults P.ended desk pass pass' way way' true)
+                (λ desk pass pass' way way'. IsBegun L.Peer.left L.Peer.taken L.Peer.written L.Peer.Source.faults L.Peer.ended desk pass pass' way way' true)
                 1 desks.passes.items result.passes.items desks.ways.items result.ways.items }
         { accept_all(rt, alloc, scope, commons, DeskNo(1), desks) },
     );

@@ -10,7 +10,7 @@ pub returns-then-is_empty-clause-serving : goal.returns-then-is_empty-clause-ser
 returns-then-is_empty-clause-serving g t c =
     let none : c.args.desks.passes.items ≡ [] = grind rules in
     let no_way : c.args.desks.ways.items ≡ [] = grind rules in
-    Serving-none (attends g.P.Source.left g.P.Source.taken g.P.Sink.written g.P.Source.faults g.P.Link.ended) c.args.next.0
+    Serving-none (attends g.L.Peer.Source.left g.L.Peer.Source.taken g.L.Peer.Sink.written g.L.Peer.Source.faults g.L.Peer.Link.ended) c.args.next.0
     c.args.desks.passes.items c.args.desks.ways.items none no_way
 
 pub open-started-requires-clause-same_lock : goal.open-started-requires-clause-same_lock
@@ -78,7 +78,7 @@ accept_all-rest-requires-clause-ways g t c κs within =
 
 pub returns-clause-serving : goal.returns-clause-serving
 returns-clause-serving g t c =
-    let does = attends g.P.Source.left g.P.Source.taken g.P.Sink.written g.P.Source.faults g.P.Link.ended in
+    let does = attends g.L.Peer.Source.left g.L.Peer.Source.taken g.L.Peer.Sink.written g.L.Peer.Source.faults g.L.Peer.Link.ended in
     let first = c.first_of-desk in
     let pass = first.result.desk.pass in
     let way = first.result.desk.way in
@@ -90,7 +90,7 @@ returns-clause-serving g t c =
     let begun = subst (λ (z : ℕ × _). does z.0 z.1 done.pass started.result.promise.way.value done.way)
     (λ i. (started.ensures.number i, started.ensures.pass i)) c.finish.ensures in
     let attended : does c.args.next.0 pass done.pass way done.way =
-    IsBegun-found g.P.Source.left g.P.Source.taken g.P.Sink.written g.P.Source.faults g.P.Link.ended c.args.next.0 pass done.pass way
+    IsBegun-found g.L.Peer.Source.left g.L.Peer.Source.taken g.L.Peer.Sink.written g.L.Peer.Source.faults g.L.Peer.Link.ended c.args.next.0 pass done.pass way
     started.result.promise.way.value done.way _ (ap (λ p. p.view.number) p.pass_is) started.ensures.same_way_lock started.ensures.way_rest begun in
     Serving-more does c.args.next.0 (record { pass = pass; pass_then = done.pass; way = way; way_then = done.way })
     first.result.others.passes.items rest.passes.items c.args.desks.passes.items c.with_desk.result.passes.items
