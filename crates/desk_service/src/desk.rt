@@ -21,6 +21,10 @@ use stock_nums::numbers::DeskNo;
 use turn_lock::lock::TurnLock;
 use turn_lock::pass::Pass;
 
+/// What comes back from a desk's thread: its pass, its way, and whether it was told that no further peer comes. They are no struct, as
+/// that such a one may cross from one thread to another is not found.
+pub type Parts<K, L> = (Pass<Book<K>>, Pass<SharedListener<L>>, bool);
+
 /// A desk that has served its first peer, and whether it was told that no further one comes.
 #[derive(Drop)]
 pub struct Begun<K: Keeper, L: Listener> {
@@ -37,9 +41,10 @@ pub struct Attends<K: Keeper, L: Listener> {
     pub way: Snapshot<Pass<SharedListener<L>>>,
 }
 
-impl<K: Keeper, L: Listener> Promise<Begun<K, L>> for Attends<K, L> {
-    ghost kept_by = { λ promise begun. IsBegun L.Peer.left L.Peer.taken L.Peer.written L.Peer.Source.faults L.Peer.ended promise.number.0
-        promise.pass.value begun.pass promise.way.value begun.way begun.is_over };
+impl<K: Keeper, L: Listener> Promise<(Pass<Book<K>>, Pass<SharedListener<L>>, bool)>
+    for Attends<K, L> {
+    ghost kept_by = { λ promise parts. IsBegun L.Peer.left L.Peer.taken L.Peer.written L.Peer.Source.faults L.Peer.ended promise.number.0
+        promise.pass.value parts.0 promise.way.value parts.1 parts.2 };
 }
 
 /// Serves a peer that came to the desk, and then those that come after it, unless the desk has no thread. It may wait, for peers and
@@ -83,7 +88,7 @@ pub fn begin<K: Keeper, P: Link, L: Listener<Peer = P>, R: Wait>(
 }
 
 /// A desk's thread, or the desk itself where it has none: no thread could be made, and it has served its first peer, or no peer came.
-pub type Running<K, L> = Result<PromisedHandle<Begun<K, L>, Attends<K, L>>, Begun<K, L>>;
+pub type Running<K, L> = Result<PromisedHandle<Parts<K, L>, Attends<K, L>>, Begun<K, L>>;
 
 /// A desk that was started, and what is promised of it.
 #[derive(Drop)]
@@ -158,7 +163,7 @@ fn start_thread<'s, E: 's, K: Keeper + Send + 's, L: Listener + Send + 's, R: Wa
         pass: Snapshot::of(&pass),
         way: Snapshot::of(&way),
     };
-    let job = move || -> Begun<K, L>
+    let job = move || -> (Pass<Book<K>>, Pass<SharedListener<L>>, bool)
         requires same_lock { pass.lock ≡ commons.now.lock.lock }
         requires same_way_lock { way.lock ≡ commons.now.shared.lock }
         requires number { number.0 ≡ pass.view.number }
@@ -168,10 +173,10 @@ fn start_thread<'s, E: 's, K: Keeper + Send + 's, L: Listener + Send + 's, R: Wa
         requires few_way_turns { length way.view.stops < 2 ^ 57 }
         requires way { IsWay way.view }
         requires came { NotesCame number.0 first [] way.view.made }
-        ensures { IsBegun L.Peer.left L.Peer.taken L.Peer.written L.Peer.Source.faults L.Peer.ended number.0 pass result.pass way result.way result.is_over }
+        ensures { IsBegun L.Peer.left L.Peer.taken L.Peer.written L.Peer.Source.faults L.Peer.ended number.0 pass result.0 way result.1 result.2 }
     {
         let desk = Desk { pass, way };
-        begin(
+        let begun = begin(
             rt,
             alloc,
             &commons.lock,
@@ -180,13 +185,15 @@ fn start_thread<'s, E: 's, K: Keeper + Send + 's, L: Listener + Send + 's, R: Wa
             number,
             desk,
             first,
-        )
+        );
+        (begun.pass, begun.way, begun.is_over)
     };
     match scope.spawn_with(promise, job) {
         Ok(thread) => Ok(thread),
         Err(refused) => {
             commons.alone.tell(number);
-            Err((refused.value)())
+            let (pass, way, is_over) = (refused.value)();
+            Err(Begun { pass, way, is_over })
         }
     }
 }
@@ -208,7 +215,10 @@ fn joined<K: Keeper, P: Link, L: Listener<Peer = P>, R: Threads>(
         running,
     } = started;
     match running {
-        Ok(thread) => thread.join(rt),
+        Ok(thread) => {
+            let (pass, way, is_over) = thread.join(rt);
+            Begun { pass, way, is_over }
+        }
         Err(begun) => begun,
     }
 }

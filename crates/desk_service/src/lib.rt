@@ -10,5 +10,6 @@ mod ending;
 mod gate;
 mod locking;
 mod passes;
+mod sending;
 pub mod service;
 mod worker;

@@ -215,19 +215,26 @@ fn in_threads<
         team.desks.passes.items result.desks.passes.items team.desks.ways.items result.desks.ways.items }
 {
     let Team { worker, desks } = team;
+    let Desks { passes, ways } = desks;
     let closing = Closing::new();
-    let end = &closing;
-    let (worker, desks) = thread::join(
+    let (lock, end) = (&commons.lock, &closing);
+    let (worker, (passes, ways)) = thread::join(
         rt,
-        || work::<K, N, R>(rt, alloc, &commons.lock, end, worker, blank),
+        || work::<K, N, R>(rt, alloc, lock, end, worker, blank),
         ||
-            requires passes { ArePassesFrom commons.now.lock.lock 1 desks.passes.items }
-            requires ways { AreWaysFrom commons.now.shared.lock 1 desks.ways.items }
-            requires as_many { vec_len desks.ways ≡ vec_len desks.passes }
-            requires numbers { vec_len desks.passes ≤ MAX_DESK }
-        { attend_all::<K, L, R>(rt, alloc, commons, end, desks) },
+            requires passes { ArePassesFrom commons.now.lock.lock 1 passes.items }
+            requires ways { AreWaysFrom commons.now.shared.lock 1 ways.items }
+            requires as_many { vec_len ways ≡ vec_len passes }
+            requires numbers { vec_len passes ≤ MAX_DESK }
+        {
+            let desks = attend_all::<K, L, R>(rt, alloc, commons, end, Desks { passes, ways });
+            (desks.passes, desks.ways)
+        },
     );
-    Team { worker, desks }
+    Team {
+        worker,
+        desks: Desks { passes, ways },
+    }
 }
 
 // Serves the peers, at desks in threads of their own, and says then that the desks have ended.

@@ -5,4 +5,4 @@ use Rattle.desk_service.proofs.desk.start_thread.Goals as goal
 
 pub job-requires-clause-came : goal.job-requires-clause-came
 job-requires-clause-came g c κs within =
-    subst (λ job. NotesCame job.3.0 job.6 [] job.5.view.made) (sym c.in-Err.ensures.err) c.requires.came
+    subst (λ job. NotesCame job.5.0 job.6 [] job.1.view.made) (sym c.in-Err.ensures.err) c.requires.came

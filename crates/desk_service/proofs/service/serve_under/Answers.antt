@@ -1,5 +1,5 @@
 -- What a service does, by what its team and the ends of its locks tell.
-use Rattle.std.proofs.Common.{◌≡◌, List, length, refl, sym, ap, ◌∙◌, subst}
+use Rattle.std.proofs.Common.{◌≡◌, List, None, length, refl, sym, ap, ◌∙◌, subst}
 use Rattle.stock_io.specs.Heard.{heard}
 use Rattle.stock_io.specs.Listeners.{IsFresh}
 use Rattle.stock_model.specs.declared.deeds.Deed.{Deed}
@@ -72,7 +72,7 @@ ended-requires-clause-of_way_lock g c κs within =
     let way = c.requires.way in
     let ways_are = opened-passes c.args.locks.shared.lock _ way.log 0 desks _ _ _ c.requires.shared.0 way.view c.split_all-way.ensures.passes in
     of_way_lock _ _ _ _ _ lock book.history book.keeper.faults desks _ _ _ _ _ _ _ _ _ split are c.in_threads-team.ensures.teamwork
-    c.args.locks.shared.lock _ ways_are
+    c.args.locks.shared.lock (opened way.log 0 (record { plan = None; calls = 0; events = 0 })) ways_are
 
 pub ended-requires-clause-ways_split : goal.ended-requires-clause-ways_split
 ended-requires-clause-ways_split g c κs within =
