@@ -1,5 +1,5 @@
 -- What desks did, each found by its number.
-use Rattle.std.proofs.Common.{◌≡◌, ◌≢◌, ℕ, zero, suc, ◌+◌, ◌<◌, ◌≤◌, List, [], ◌∷◌, length, map, refl, sym, ap, ◌∙◌, subst, arith, eq-eqb, ne_eqb}
+use Rattle.std.proofs.Common.{◌≡◌, ℕ, ◌+◌, ◌<◌, ◌≤◌, List, [], ◌∷◌, length, map, refl, sym, ap, ◌∙◌, arith, eq-eqb, ne_eqb}
 use mathlib.Core.Logic.{dite}
 use native.Mathlib.Decide.{ℕ_discrete}
 use Rattle.std.specs.Prelude.{All, Bool, true, Option, ◌==◌, if◌then◌else◌}
@@ -8,7 +8,7 @@ use Rattle.atomic_table.specs.Seated.{TableId}
 use Rattle.turn_lock.specs.Passes.{PassView}
 use Rattle.turn_lock.specs.declared.view.View.{View}
 use Rattle.stock_model.specs.declared.deeds.Deed.{Deed}
-use Rattle.shared_listener.specs.Steps.{comes, hangs, has_ended}
+use Rattle.shared_listener.specs.Steps.{comes, hangs}
 use Rattle.shared_listener.specs.declared.step.Step.{Step}
 use Rattle.desk_connections.specs.Visits.{Visit}
 use Rattle.desk_service.specs.Desks.{Work, AreAttended, IsBegun}

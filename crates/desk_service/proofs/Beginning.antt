@@ -1,5 +1,5 @@
 -- Desks that begin and end, one more before the rest.
-use Rattle.std.proofs.Common.{◌≡◌, ℕ, zero, suc, ◌+◌, ◌<◌, ◌≤◌, List, [], ◌∷◌, ◌++◌, length, map, refl, sym, ap, ◌∙◌, subst, length-append, take, arith, Result, Ok, Err, IfOk, IfErr, Option, Some, None}
+use Rattle.std.proofs.Common.{◌≡◌, ℕ, zero, suc, ◌+◌, ◌<◌, ◌≤◌, List, [], ◌∷◌, ◌++◌, length, refl, sym, ap, ◌∙◌, subst, length-append, take, arith, Option, Some, None}
 use Rattle.std.proofs.lemmas.List.{map-append, length-map}
 use Rattle.std.specs.Prelude.{Bool, true, false}
 use Rattle.atomic_table.specs.Seated.{TableId}
@@ -11,7 +11,7 @@ use Rattle.shared_listener.specs.declared.step.Step.{Step}
 use Rattle.desk_connections.specs.Desks.{HasServed, ServesOne}
 use Rattle.desk_server.specs.Exchanging.{LeavesRest}
 use Rattle.desk_connections.specs.Visits.{Visit, IsVisit}
-use Rattle.desk_connections.specs.Ways.{OneAtATime, IsWay, LeavesWay, Finds}
+use Rattle.desk_connections.specs.Ways.{IsWay, LeavesWay, Finds}
 use Rattle.desk_connections.proofs.AtDesk.{has-first, then-none, ended-none, was-told, one-came}
 use Rattle.desk_connections.proofs.WayTurns.{rest-through}
 use Rattle.desk_service.specs.Desks.{Work, AreAttended, IsFirst, IsBegun}

@@ -1,5 +1,5 @@
 -- The peers that came to desks through the lock of a listener, and those that desks handed back.
-use Rattle.std.proofs.Common.{◌≡◌, ◌≢◌, ℕ, zero, suc, ◌+◌, ◌<◌, ◌≤◌, ◌⊎◌, ⊎_elim, inl, inr, List, [], ◌∷◌, ◌++◌, length, map, refl, sym, ap, ◌∙◌, subst, arith}
+use Rattle.std.proofs.Common.{◌≡◌, ℕ, zero, suc, ◌+◌, ◌<◌, ◌≤◌, ◌⊎◌, ⊎_elim, inl, inr, List, [], ◌∷◌, ◌++◌, length, map, refl, sym, ap, ◌∙◌, subst, arith}
 use mathlib.Core.Logic.{dite}
 use native.Mathlib.Decide.{ℕ_discrete}
 use Rattle.std.specs.Prelude.{All, Bool, true, Option, None}
@@ -11,7 +11,6 @@ use Rattle.turn_lock.specs.Passes.{PassView}
 use Rattle.turn_lock.specs.Views.{opened}
 use Rattle.turn_lock.specs.declared.view.View.{View}
 use Rattle.turn_lock.proofs.Lists.{begins_is}
-use Rattle.stock_model.specs.declared.deeds.Deed.{Deed}
 use Rattle.stock_io.specs.Heard.{Heard}
 use Rattle.shared_listener.specs.Steps.{comes, hangs, has_ended, IsOpened}
 use Rattle.shared_listener.specs.Sharing.{AreFirstInOrder}
@@ -22,7 +21,7 @@ use Rattle.shared_listener.proofs.Merging.{visits_to-same, visits_to-other}
 use Rattle.shared_listener.proofs.OneEach.{HaveOneEach, one_each}
 use Rattle.shared_listener.proofs.StepLists.{comes-append}
 use Rattle.desk_connections.specs.Visits.{Visit}
-use Rattle.desk_service.specs.Desks.{Work, AreAttended, IsBegun}
+use Rattle.desk_service.specs.Desks.{Work, AreAttended}
 use Rattle.desk_service.specs.Endings.{IsUnshared}
 use Rattle.desk_service.proofs.AtWork.{attends, visits_at, comes_at, hangs_at, At, at, ways_down}
 use Rattle.desk_service.proofs.Ended.{made_zero, made_other}

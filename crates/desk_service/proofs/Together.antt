@@ -1,5 +1,5 @@
 -- What a service does, by what its worker, its desks and the ends of its locks tell.
-use Rattle.std.proofs.Common.{◌≡◌, ℕ, zero, suc, ◌+◌, ◌<◌, ◌≤◌, ◌⊎◌, ⊎_elim, Option, List, [], ◌∷◌, ◌++◌, length, map, refl, sym, ap, ◌∙◌, subst, arith}
+use Rattle.std.proofs.Common.{◌≡◌, ℕ, ◌+◌, ◌<◌, ◌≤◌, ⊎_elim, Option, List, [], ◌++◌, length, map, sym, ap, ◌∙◌, subst, arith}
 use Rattle.std.specs.Prelude.{All, Bool, true}
 use Rattle.std.proofs.lemmas.Bool.{cases_lt}
 use Rattle.std.proofs.lemmas.List.{length-map}
@@ -28,7 +28,7 @@ use Rattle.shared_listener.proofs.Listening.{closed_of}
 use Rattle.shared_listener.proofs.Visiting.{Accepts-visited, HangsUp-visited}
 use Rattle.desk_connections.specs.Visits.{Visit, IsVisit, AreSessions, all_exchanges}
 use Rattle.desk_connections.proofs.Visiting.{Session-all, all_served}
-use Rattle.desk_service.specs.Desks.{Work, AreAttended}
+use Rattle.desk_service.specs.Desks.{Work}
 use Rattle.desk_service.specs.Endings.{IsClosed}
 use Rattle.desk_service.specs.Passes.{passes_from}
 use Rattle.desk_service.specs.Service.{AreServedBy, IsService, total_to}

@@ -1,6 +1,6 @@
 //! When a service's worker rests, goes on and ends.
 ghost use Rattle.std.specs.Prelude.{◌≡◌, ℕ, Bool};
-ghost use Rattle.desk_service.specs.Rests.{rested};
+ghost use Rattle.desk_service.specs.Rests.{patience_after, rested};
 
 use locked_worker::gate::{Gate, Go};
 use repost_worker::turn::Turned;

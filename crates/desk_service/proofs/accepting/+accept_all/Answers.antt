@@ -1,6 +1,5 @@
 -- The first peer is served by the first desk, and the others by the rest.
-use Rattle.std.proofs.Common.{ℕ, ◌+◌, ◌<◌, ◌≤◌, ◌≡◌, List, [], ◌∷◌, length, refl, sym, ap, ◌∙◌, subst, arith, rules}
-use Rattle.desk_service.specs.Serving.{Serving}
+use Rattle.std.proofs.Common.{ℕ, ◌≤◌, ◌≡◌, List, [], length, sym, ap, ◌∙◌, subst, arith, rules}
 use Rattle.desk_service.proofs.AtWork.{attends}
 use Rattle.desk_service.proofs.Beginning.{Serving-none, Serving-more, IsBegun-found, IsWay-fresh}
 use Rattle.desk_service.proofs.SplitOff.{popped}

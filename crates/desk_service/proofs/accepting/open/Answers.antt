@@ -1,5 +1,5 @@
 -- The desk's way found its first peer, or was told that none comes.
-use Rattle.std.proofs.Common.{◌≡◌, ap, ◌∙◌, sym}
+use Rattle.std.proofs.Common.{ap, ◌∙◌, sym}
 use Rattle.desk_service.proofs.Beginning.{IsFirst-found}
 use Rattle.desk_service.proofs.accepting.open.Goals as goal
 

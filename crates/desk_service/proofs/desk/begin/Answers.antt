@@ -1,5 +1,5 @@
 -- The first peer was served, and then those that came after it, unless the desk is alone.
-use Rattle.std.proofs.Common.{◌≡◌, sym}
+use Rattle.std.proofs.Common.{sym}
 use Rattle.desk_connections.specs.Visits.{IsVisit}
 use Rattle.desk_service.proofs.Beginning.{is_there, all_back, IsBegun-first, IsBegun-on}
 use Rattle.desk_service.proofs.desk.begin.Goals as goal

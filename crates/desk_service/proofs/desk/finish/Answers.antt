@@ -1,5 +1,5 @@
 -- The desk has begun, and is over or goes further.
-use Rattle.std.proofs.Common.{◌≡◌, ◌∙◌, sym, ap, subst}
+use Rattle.std.proofs.Common.{◌∙◌, sym, ap, subst}
 use Rattle.desk_connections.specs.Visits.{IsVisit}
 use Rattle.desk_service.specs.Desks.{IsBegun}
 use Rattle.desk_service.proofs.Beginning.{all_back, IsBegun-on}

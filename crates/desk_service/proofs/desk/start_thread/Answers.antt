@@ -1,8 +1,8 @@
 -- A closure that comes back is the one that was given.
-use Rattle.std.proofs.Common.{◌≡◌, [], sym, subst}
+use Rattle.std.proofs.Common.{[], sym, subst}
 use Rattle.shared_listener.specs.Steps.{NotesCame}
 use Rattle.desk_service.proofs.desk.start_thread.Goals as goal
 
-pub job-requires-clause-came : goal.job-requires-clause-came
-job-requires-clause-came g c κs within =
+pub job-pass-requires-clause-came : goal.job-pass-requires-clause-came
+job-pass-requires-clause-came g c κs within =
     subst (λ job. NotesCame job.5.0 job.6 [] job.1.view.made) (sym c.in-Err.ensures.err) c.requires.came

@@ -1,8 +1,7 @@
 -- All passes were joined into pass 0, and the lock ended.
-use Rattle.std.proofs.Common.{◌≡◌, ℕ, ◌+◌, ◌≤◌, List, length, sym, ap, ◌∙◌, subst, arith}
+use Rattle.std.proofs.Common.{◌≡◌, ◌+◌, ◌≤◌, length, sym, ap, ◌∙◌, subst, arith}
 use Rattle.std.specs.Prelude.{All}
 use Rattle.turn_lock.specs.Histories.{BeginsWith, past, made_by}
-use Rattle.turn_lock.specs.Passes.{PassView}
 use Rattle.turn_lock.specs.Views.{all_faults, made_through}
 use Rattle.desk_service.specs.Passes.{joined_all}
 use Rattle.desk_service.proofs.Gathering.{joined_all-number, joined_all-count, joined_all-split, joined_all-first, joined_all-start, joined_all-first_faults}

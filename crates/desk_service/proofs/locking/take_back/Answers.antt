@@ -1,5 +1,5 @@
 -- The log tells no step of a desk, so the listener is the one that the lock was made with.
-use Rattle.std.proofs.Common.{◌≡◌, ℕ, List, sym, ap, ◌∙◌, subst}
+use Rattle.std.proofs.Common.{ap, ◌∙◌, subst}
 use Rattle.stock_io.specs.Heard.{heard}
 use Rattle.stock_io.specs.Listeners.{IsFresh}
 use Rattle.shared_listener.specs.Sharing.{IsShared}

@@ -1,5 +1,5 @@
 -- What a service does, by what its team and the ends of its locks tell.
-use Rattle.std.proofs.Common.{◌≡◌, List, None, length, refl, sym, ap, ◌∙◌, subst}
+use Rattle.std.proofs.Common.{◌≡◌, List, None, length, sym, ap, ◌∙◌, subst}
 use Rattle.stock_io.specs.Heard.{heard}
 use Rattle.stock_io.specs.Listeners.{IsFresh}
 use Rattle.stock_model.specs.declared.deeds.Deed.{Deed}
@@ -18,7 +18,7 @@ use Rattle.desk_service.proofs.Together.{of_lock, of_way_lock, split_is, start_i
 use Rattle.desk_service.proofs.service.serve_under.Goals as goal
 
 pub in_threads-team-requires-clause-work : goal.in_threads-team-requires-clause-work
-in_threads-team-requires-clause-work g c κs within =
+in_threads-team-requires-clause-work g c κs _ =
     let history = c.args.locks.book.value.history in
     let seen_is : c.split_all-pass.result.pass.view.seen ≡ with_makers history =
     ap (λ (v : View Deed). v.seen) c.split_all-pass.ensures.pass ∙ ap (λ (v : View Deed). v.seen) c.requires.pass
@@ -26,7 +26,7 @@ in_threads-team-requires-clause-work g c κs within =
     subst (λ (h : List Deed). IsWorkOf h c.args.build) (sym (ap without_makers seen_is ∙ without_makers-with_makers history)) c.requires.work
 
 pub in_threads-team-requires-clause-passes : goal.in_threads-team-requires-clause-passes
-in_threads-team-requires-clause-passes g c κs within =
+in_threads-team-requires-clause-passes g c κs _ =
     let book = c.args.locks.book.value in
     let lock = c.args.locks.lock.lock in
     let known = opened (with_makers book.history) book.keeper.faults (start_of book) in
@@ -34,7 +34,7 @@ in_threads-team-requires-clause-passes g c κs within =
     (known, are ∙ ap (passes_from lock known 1) (sym (ap length are ∙ passes_from-length lock known 1 c.args.locks.desks)))
 
 pub in_threads-team-requires-clause-ways : goal.in_threads-team-requires-clause-ways
-in_threads-team-requires-clause-ways g c κs within =
+in_threads-team-requires-clause-ways g c κs _ =
     let way = c.requires.way in
     let lock = c.args.locks.shared.lock in
     let known = opened way.log 0 _ in
@@ -45,7 +45,7 @@ in_threads-team-requires-clause-ways g c κs within =
     )
 
 pub ended-requires-clause-of_lock : goal.ended-requires-clause-of_lock
-ended-requires-clause-of_lock g c κs within =
+ended-requires-clause-of_lock g c κs _ =
     let book = c.args.locks.book.value in
     let lock = c.args.locks.lock.lock in
     let desks = c.args.locks.desks in
@@ -54,7 +54,7 @@ ended-requires-clause-of_lock g c κs within =
     of_lock _ _ _ _ _ lock book.history book.keeper.faults desks _ _ _ _ _ _ _ _ _ split are c.in_threads-team.ensures.teamwork
 
 pub ended-requires-clause-split : goal.ended-requires-clause-split
-ended-requires-clause-split g c κs within =
+ended-requires-clause-split g c κs _ =
     let book = c.args.locks.book.value in
     let lock = c.args.locks.lock.lock in
     let desks = c.args.locks.desks in
@@ -63,7 +63,7 @@ ended-requires-clause-split g c κs within =
     split_is _ _ _ _ _ lock book.history book.keeper.faults desks _ _ _ _ _ _ _ _ _ split are c.in_threads-team.ensures.teamwork
 
 pub ended-requires-clause-of_way_lock : goal.ended-requires-clause-of_way_lock
-ended-requires-clause-of_way_lock g c κs within =
+ended-requires-clause-of_way_lock g c κs _ =
     let book = c.args.locks.book.value in
     let lock = c.args.locks.lock.lock in
     let desks = c.args.locks.desks in
@@ -75,7 +75,7 @@ ended-requires-clause-of_way_lock g c κs within =
     c.args.locks.shared.lock (opened way.log 0 (record { plan = None; calls = 0; events = 0 })) ways_are
 
 pub ended-requires-clause-ways_split : goal.ended-requires-clause-ways_split
-ended-requires-clause-ways_split g c κs within =
+ended-requires-clause-ways_split g c κs _ =
     let book = c.args.locks.book.value in
     let lock = c.args.locks.lock.lock in
     let desks = c.args.locks.desks in
