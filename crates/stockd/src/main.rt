@@ -31,7 +31,7 @@ fn words_of(rt: &(impl Env + AllocGlobal)) -> io::Result<Vec<String>> {
 /// Does what the words ask for over a listener of the system, and answers the status.
 fn run<
     H: Shelf,
-    P: Net<Listener = TcpListener, Stream = TcpStream> + Drop,
+    P: Net<Listener = TcpListener, Stream = TcpStream> + Drop + Send,
     S: Source,
     O: Sink,
     N: Sink,
