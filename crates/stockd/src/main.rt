@@ -4,6 +4,7 @@
 
 use keeper_sqlite::sqlite_shelf::SqliteShelf;
 use keeper_sqlite::supposing::AnyFile;
+use sqlite::Start;
 use std::alloc::Global;
 use std::env::Env;
 use std::net::{Net, TcpListener, TcpStream};
@@ -17,7 +18,6 @@ use stock_io::net_listener::NetListener;
 use stock_io::sink::Sink;
 use stock_io::source::Source;
 use stock_io::standard::{StdSink, StdSource};
-use stock_keeper::shelf::Shelf;
 
 /// The words after the program's name.
 fn words_of(rt: &(impl Env + AllocGlobal)) -> io::Result<Vec<String>> {
@@ -28,9 +28,9 @@ fn words_of(rt: &(impl Env + AllocGlobal)) -> io::Result<Vec<String>> {
     Ok(words)
 }
 
-/// Does what the words ask for over a listener of the system, and answers the status.
+/// Does what the words ask for over the files and a listener of the system, and answers the status.
 fn run<
-    H: Shelf,
+    B: Start + Copy + Send,
     P: Net<Listener = TcpListener, Stream = TcpStream> + Drop + Send,
     S: Source,
     O: Sink,
@@ -40,7 +40,7 @@ fn run<
     rt: &R,
     alloc: Global,
     words: &[String],
-    shelf: &mut H,
+    shelf: &mut SqliteShelf<B>,
     listener: NetListener<P>,
     input: &mut S,
     output: &mut O,
