@@ -44,15 +44,22 @@ fn listener_of_two(alloc: Global) -> Result<MemListener, NoMemory> {
     MemListener::new(alloc, two_peers(alloc)?, Lines::new(alloc))
 }
 
-// A listener to which five come: one that posts, and four that ask.
-fn listener_of_five(alloc: Global) -> Result<MemListener, NoMemory> {
+// One peer that posts, and four that ask.
+fn five_peers(alloc: Global) -> Result<Vec<MemLink>, NoMemory>
+    ensures { IfOk result (λ peers. All IsNewPeer peers.items) }
+{
     let mut peers = Vec::new(alloc);
     peers.push(peer_of(alloc, POSTS_ITEM)?)?;
     peers.push(peer_of(alloc, ASKS_FOR_BALANCE)?)?;
     peers.push(peer_of(alloc, ASKS_FOR_BALANCE)?)?;
     peers.push(peer_of(alloc, ASKS_FOR_BALANCE)?)?;
     peers.push(peer_of(alloc, ASKS_FOR_BALANCE)?)?;
-    MemListener::new(alloc, peers, Lines::new(alloc))
+    Ok(peers)
+}
+
+// A listener to which they come.
+fn listener_of_five(alloc: Global) -> Result<MemListener, NoMemory> {
+    MemListener::new(alloc, five_peers(alloc)?, Lines::new(alloc))
 }
 
 // Whether all of the request was taken, the request was done, and the connection was ended.
