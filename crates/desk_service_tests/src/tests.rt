@@ -44,24 +44,6 @@ fn listener_of_two(alloc: Global) -> Result<MemListener, NoMemory> {
     MemListener::new(alloc, two_peers(alloc)?, Lines::new(alloc))
 }
 
-// One peer that posts, and four that ask.
-fn five_peers(alloc: Global) -> Result<Vec<MemLink>, NoMemory>
-    ensures { IfOk result (λ peers. All IsNewPeer peers.items) }
-{
-    let mut peers = Vec::new(alloc);
-    peers.push(peer_of(alloc, POSTS_ITEM)?)?;
-    peers.push(peer_of(alloc, ASKS_FOR_BALANCE)?)?;
-    peers.push(peer_of(alloc, ASKS_FOR_BALANCE)?)?;
-    peers.push(peer_of(alloc, ASKS_FOR_BALANCE)?)?;
-    peers.push(peer_of(alloc, ASKS_FOR_BALANCE)?)?;
-    Ok(peers)
-}
-
-// A listener to which they come.
-fn listener_of_five(alloc: Global) -> Result<MemListener, NoMemory> {
-    MemListener::new(alloc, five_peers(alloc)?, Lines::new(alloc))
-}
-
 // Whether all of the request was taken, the request was done, and the connection was ended.
 fn is_answered(peer: &MemLink, request: &[u8]) -> bool {
     peer.taken() == request.len() as u64 && peer.written().starts_with(IS_DONE) && peer.is_ended()
@@ -76,17 +58,6 @@ fn are_answered(listener: &MemListener) -> bool {
         }
         _ => false,
     }
-}
-
-// How many of the peers that were hung up sent this request, and had it done.
-fn count_answered(listener: &MemListener, request: &[u8]) -> usize {
-    let mut count: usize = 0;
-    for peer in listener.hung_up() {
-        if is_answered(peer, request) {
-            count = count.saturating_add(1);
-        }
-    }
-    count
 }
 
 #[test]
@@ -108,29 +79,5 @@ fn a_listener_that_fails_ends_the_service(rt: HostRuntime) -> Result<(), Fail> {
     };
     assert!(rt; ending.accepted == 2 && ending.listener.faults() == 1);
     assert!(rt; ending.listener.hung_up().len() == 2);
-    Ok(())
-}
-
-#[test]
-fn two_desks_serve_five_peers(rt: HostRuntime) -> Result<(), Fail> {
-    let alloc = rt.alloc();
-    let Some(ending) = served(&rt, alloc, listener_of_five(alloc)?, 2, 5) else {
-        panic!(rt; "no memory")
-    };
-    assert!(rt; ending.accepted == 5 && ending.records == RecordNo(1));
-    assert!(rt; ending.listener.faults() == 0 && ending.listener.hung_up().len() == 5);
-    assert!(rt; count_answered(&ending.listener, POSTS_ITEM) == 1);
-    assert!(rt; count_answered(&ending.listener, ASKS_FOR_BALANCE) == 4);
-    Ok(())
-}
-
-#[test]
-fn fewer_peers_than_are_wanted_are_served(rt: HostRuntime) -> Result<(), Fail> {
-    let alloc = rt.alloc();
-    let Some(ending) = served(&rt, alloc, listener_of_five(alloc)?, 2, 7) else {
-        panic!(rt; "no memory")
-    };
-    assert!(rt; ending.accepted == 5 && ending.listener.faults() == 1);
-    assert!(rt; ending.listener.hung_up().len() == 5);
     Ok(())
 }
