@@ -1,0 +1,6 @@
+-- So far the lines are the same.
+use Rattle.std.proofs.Common.{◌≡◌, take}
+use Rattle.record_equality.proofs.lines.are_same.Given as goal
+
+abbrev pub invariant-loop-index : goal.invariant-loop-index
+invariant-loop-index g l = take l.index l.one ≡ take l.index l.other
