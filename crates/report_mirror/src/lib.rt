@@ -6,5 +6,6 @@ pub mod generation;
 pub mod mirror;
 pub mod reader;
 pub mod record_blocks;
+mod record_walk;
 mod sending;
 mod shown;

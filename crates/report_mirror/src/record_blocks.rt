@@ -1,7 +1,8 @@
 //! Records in blocks that several lists share.
-ghost use Rattle.std.specs.Prelude.{◌≡◌, ◌≤◌, ◌++◌, [], length, IfOk, OnOk};
+ghost use Rattle.std.specs.Prelude.{◌≡◌, ◌≤◌, ◌↔◌, ◌++◌, [], length, IsTrue, IfOk, OnOk};
 ghost use Rattle.std.specs.List.{flat_map};
 
+use crate::record_walk::RecordWalk;
 use shared_list::list::SharedList;
 use std::alloc::Global;
 use std::marker::Model;
@@ -48,6 +49,16 @@ impl RecordBlocks {
         push_copies(alloc, &mut last, more)?;
         blocks.push(SharedList::of(alloc, last)?)?;
         Ok(RecordBlocks { blocks })
+    }
+
+    /// Whether both are the same records, in whatever blocks they stand. It goes over each of them once, and takes no memory.
+    pub fn is_same(&self, other: &RecordBlocks) -> bool
+        ensures { IsTrue result ↔ (self.now ≡ other.now) }
+    {
+        match RecordWalk::over(other.blocks.as_slice()).behind_blocks(self.blocks.as_slice()) {
+            Some(behind) => behind.is_at_end(),
+            None => false,
+        }
     }
 }
 
