@@ -5,6 +5,7 @@ ghost use Rattle.turn_lock.specs.Histories.{BeginsWith};
 ghost use Rattle.report_mirror.specs.Mirrored.{IsMirrored, wanted};
 
 use crate::generation::Generation;
+use crate::mirror::MirrorWriter;
 use crate::shown::{Grows, Seen, Sees, Shown};
 use left_right::reader::{Reader, Reading};
 use std::marker::Model;
@@ -65,6 +66,25 @@ impl MirrorReader {
             },
             found,
         }
+    }
+
+    /// Reads until the generation that it reads is the one that the writer shows, of which it compares all records. It may wait, and is
+    /// never refused. Where the writer is another mirror's it may wait for ever.
+    pub fn meet<R: Wait>(self, rt: &R, writer: &MirrorWriter) -> MirrorReader
+        ensures now { result ≡ writer.now }
+        ensures grows { BeginsWith result self }
+    {
+        let shown = writer.shown().records();
+        let mut reader = self.reader;
+        for _ in rt.forever() {
+            let reading = enter(rt, reader);
+            let is_met = reading.get().generation.records().is_same(shown);
+            reader = reading.leave();
+            if is_met {
+                return MirrorReader { reader };
+            }
+        }
+        unreachable!()
     }
 }
 
