@@ -90,6 +90,13 @@ fn readers_of(
 }
 
 impl MirrorWriter {
+    /// The generation that is shown.
+    pub fn shown(&self) -> &Generation
+        ensures { result.now ≡ self.now }
+    {
+        &self.writer.published().generation
+    }
+
     /// Shows this generation from now on, which begins with the one that is shown. It waits for who still reads the one before that.
     ///
     /// # Errors
