@@ -1,12 +1,15 @@
 -- Sessions of a desk that may read reports from a mirror.
-use Rattle.std.specs.Prelude.{ℕ, ◌≤◌, List, All}
+use Rattle.std.specs.Prelude.{ℕ, ◌≡◌, ◌≤◌, List, map, All, Result}
 use Rattle.turn_lock.specs.Histories.{BeginsWith}
 use Rattle.turn_lock.specs.declared.view.View.{View}
 use Rattle.stock_model.specs.History.{covered_records}
+use Rattle.stock_model.specs.declared.answers.Answer.{Answer}
 use Rattle.stock_model.specs.declared.deeds.Deed.{Deed}
+use Rattle.stock_model.specs.declared.read_faults.ReadFault.{ReadFault}
 use Rattle.stock_model.specs.declared.records.Record.{Record}
-use Rattle.session_laws.specs.Sessions.{Session, Served}
-use Rattle.mirrored_sessions.specs.Steps.{Step, turned_in, printed_after, IsReading, AreNoFewer}
+use Rattle.stock_model.specs.declared.requests.Request.{Request}
+use Rattle.session_laws.specs.Sessions.{Session, Served, IsAsked}
+use Rattle.mirrored_sessions.specs.Steps.{Step, asked_in, answer_in, turned_in, printed_after, IsReading, AreNoFewer}
 
 -- what a desk knows: of the lock by its pass, of the mirror the records that it saw there last, and how many records its answers
 -- said at most to be covered
@@ -30,3 +33,12 @@ pub record MirroredServed (desk : ℕ) (first final : List Deed) (steps : List S
   pub served : Served desk first final (turned_in steps)
   pub readings : All (IsReading (covered_records final)) steps
   pub no_fewer : AreNoFewer 0 steps
+
+-- The desk answered these bodies so, each in a step of a session. There is each body with its step.
+pub record HasMirroredSession (reads : List ℕ → Result Request ReadFault → Type 0) (desk : ℕ) (old new : Known)
+    (bodies : List (List ℕ)) (answers : List Answer) : Type 0 where
+  pub steps : List (List ℕ × Step)
+  pub session : MirroredSession desk old new (map (λ s. s.1) steps)
+  pub asked : All (λ s. IsAsked reads s.0 (asked_in s.1)) steps
+  pub bodies_are : bodies ≡ map (λ s. s.0) steps
+  pub answers_are : answers ≡ map (λ s. answer_in s.1) steps

@@ -18,12 +18,12 @@ pub fn mirrored_sessions_go_on()
         → MirroredSession desk old mid a → MirroredSession desk mid new b → MirroredSession desk old new (a ++ b) }
 {}
 
-/// One step is a session: an exchange that is one without a mirror, which leaves what was read; or a report that was read from the
+/// One step is a session: an exchange that is one without a mirror, whatever was read besides; or a report that was read from the
 /// mirror, which takes no turn at the lock.
 pub fn a_step_is_a_session()
     ensures turned { (desk : ℕ) (old new : Known) (exchange : Exchange)
-        → Session desk old.view new.view (exchange ∷ []) → new.read ≡ old.read
-        → new.printed ≡ max old.printed (printed_in exchange.answer) → MirroredSession desk old new (turned_step exchange ∷ []) }
+        → Session desk old.view new.view (exchange ∷ []) → BeginsWith new.read old.read
+        → max old.printed (printed_in exchange.answer) ≤ new.printed → MirroredSession desk old new (turned_step exchange ∷ []) }
     ensures read { (desk : ℕ) (old new : Known) (query : Query)
         → new.view ≡ old.view → BeginsWith new.read old.read → (need_of query).0 ≤ length new.read → old.printed ≤ length new.read
         → new.printed ≡ length new.read → MirroredSession desk old new (reading_step query new.read ∷ []) }
