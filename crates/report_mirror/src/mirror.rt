@@ -123,13 +123,6 @@ impl MirrorWriter {
         }
     }
 
-    /// The generation that is shown.
-    pub(crate) fn shown(&self) -> &Generation
-        ensures { result.now ≡ self.now }
-    {
-        &self.writer.published().generation
-    }
-
     /// Ends the mirror, once nobody reads any more. It waits for who still does.
     pub fn end<R: Wait>(self, rt: &R) {
         let MirrorWriter { writer } = self;
