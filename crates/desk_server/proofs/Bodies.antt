@@ -1,45 +1,114 @@
--- A body is read at a desk, and answered in one exchange.
-use Rattle.std.proofs.Common.{◌≡◌, ℕ, ◌⊎◌, ⊎_elim, inl, Bool, true, None, List, [], ◌∷◌, length, refl, sym, ap, subst, arith, length-append, Ok, Err}
+-- What is read as a body is answered in one exchange.
+use Rattle.std.proofs.Common.{◌≡◌, ℕ, ◌⊎◌, ⊎_elim, inl, inr, true, Option, None, List, [], ◌∷◌, length, refl, sym, ap, subst, arith, length-append, Result, Ok, Err}
+use Rattle.std.specs.Prelude.{Bool, IfOk, IfErr}
 use Rattle.stock_model.specs.declared.deeds.Deed.{Deed}
 use Rattle.stock_model.specs.declared.read_faults.ReadFault.{ReadFault}
-use Rattle.stock_model.specs.declared.read_faults.ReadFault.TheVariants.{NoMemory}
+use Rattle.stock_model.specs.declared.read_faults.ReadFault.TheVariants.{BadJson, BadField, Limit, NoMemory}
 use Rattle.stock_model.specs.declared.requests.Request.{Request}
 use Rattle.turn_lock.specs.declared.view.View.{View}
 use Rattle.session_laws.specs.Answers.{fault_answer}
+use Rattle.session_laws.specs.Sessions.{IsAsked, HasSession}
+use Rattle.session_laws.proofs.Bodies.{HasSession-more}
 use Rattle.session_laws.proofs.OneTurn.{Session-turn, Session-quiet}
-use Rattle.session_laws.specs.Sessions.{IsAsked}
 use Rattle.voucher_json.specs.Requests.{IsReadAs}
-use Rattle.desk_server.specs.Exchanging.{RespondsInTurn, Responds, TellsFault}
+use Rattle.mirrored_sessions.specs.Steps.{printed_in}
+use Rattle.desk_server.specs.Exchanging.{RespondsInTurn, Responds, RespondsWithin, IsAskedAs, TellsFault}
 use Rattle.desk_server.specs.Responses.{response_to}
+use Rattle.desk_server.specs.Writing.{AnswersNext}
+use Rattle.desk_server.specs.declared.session.End.{End}
+use Rattle.desk_server.proofs.Steps.{AnswersOne}
 
-module _ (desk : ℕ) (body : List ℕ) (close : Bool) (response : List ℕ) where
-  -- the body is a request, which was answered in a turn
-  pub responds-turn : (old new : View Deed) (request : Request) → IsReadAs true body (Ok request)
-      → RespondsInTurn desk old new request close response → Responds desk old new body close response
-  responds-turn old new request read took = record {
-    exchange = took.exchange;
-    asked = subst (IsAsked (IsReadAs true) body) (sym took.turn.asked) read;
-    session = Session-turn desk old new request took.exchange took.turn;
-    one_turn = omega (arith, ap (λ (l : List ℕ). length l) took.turn.stops, length-append old.stops (length took.turn.taken ∷ []));
-    response_is = took.response_is;
+printed-fault_answer : (f : ReadFault) → printed_in (fault_answer f) ≡ 0
+printed-fault_answer BadJson = refl
+printed-fault_answer (BadField name line) = refl
+printed-fault_answer (Limit name line) = refl
+printed-fault_answer NoMemory = refl
+
+-- how a body is read, unless memory was wanting
+pub read-asked : (reads : List ℕ → Result Request ReadFault → Type 0) (body : List ℕ) (read : Result Request ReadFault)
+    → IfOk read (λ request. reads body (Ok request)) → IfErr read (λ f. (f ≡ NoMemory) ⊎ reads body (Err f)) → IsAsked reads body read
+read-asked reads body (Ok request) ok err = ok
+read-asked reads body (Err f) ok err = err
+
+-- what was asked in place of what was read of a body is how the body is read
+pub asked-read : (reads : List ℕ → Result Request ReadFault → Type 0) (body : List ℕ) (read asked : Result Request ReadFault)
+    → IsAsked reads body read → IsAskedAs read asked → IsAsked reads body asked
+asked-read reads body (Ok request) asked reads_so same = subst (IsAsked reads body) (sym same) reads_so
+asked-read reads body (Err f) asked reads_so same =
+    ⊎_elim
+    (λ (it : asked ≡ Err f). subst (IsAsked reads body) (sym it) reads_so)
+    (λ (none : asked ≡ Err NoMemory). subst (IsAsked reads body) (sym none) (inl refl))
+    same
+
+-- a body was answered at a desk, its response was written, and so every session of the desk goes on
+pub one-answered : (desk : ℕ) {P : Type 0} (written : P → Option (List ℕ)) (faults : P → ℕ) (now new : View Deed) (body : List ℕ)
+    (close : Bool) (link link' : P) (end : Option End)
+    → AnswersNext written faults (Responds desk now new (IsAsked (IsReadAs true) body) close) close link link' end
+    → AnswersNext written faults (AnswersOne (λ v. v) (HasSession (IsReadAs true) desk) now new body close) close link link' end
+one-answered desk written faults now new body close link link' end next =
+    let it = next.answered in
+    record {
+      response = next.response;
+      answered = record {
+        answer = it.exchange.answer;
+        goes_on = λ old bodies answers has.
+            HasSession-more (IsReadAs true) desk old now new bodies answers body it.exchange has it.asked it.session;
+        one_turn = it.one_turn;
+        response_is = it.response_is;
+      };
+      wrote = next.wrote;
+    }
+
+module _ (desk : ℕ) (close : Bool) (response : List ℕ) (covered : ℕ) where
+  -- what was read of a body was answered, and so the body was
+  pub responds-read : (reads : List ℕ → Result Request ReadFault → Type 0) (body : List ℕ) (read : Result Request ReadFault)
+      (old new : View Deed) → IsAsked reads body read
+      → RespondsWithin desk old new (IsAskedAs read) close response covered
+      → RespondsWithin desk old new (IsAsked reads body) close response covered
+  responds-read reads body read old new reads_so within = record {
+    responds = record {
+      exchange = within.responds.exchange;
+      asked = asked-read reads body read within.responds.exchange.asked reads_so within.responds.asked;
+      session = within.responds.session;
+      one_turn = within.responds.one_turn;
+      response_is = within.responds.response_is;
+    };
+    covers = within.covers;
   }
 
-  quiet : (pass : View Deed) (f : ReadFault) → IsAsked (IsReadAs true) body (Err f) → response ≡ response_to (fault_answer f) close
-      → Responds desk pass pass body close response
-  quiet pass f asked is = record {
-    exchange = record { asked = Err f; answer = fault_answer f; stop = None; kept = [] };
-    asked = asked;
-    session = Session-quiet desk pass (record { asked = Err f; answer = fault_answer f; stop = None; kept = [] })
-        (record { stop = refl; kept = refl; answer = refl });
-    one_turn = omega arith;
-    response_is = is;
+  -- a request was answered in a turn
+  pub responds-turn : (old new : View Deed) (request : Request) → RespondsInTurn desk old new request close response covered
+      → RespondsWithin desk old new (IsAskedAs (Ok request)) close response covered
+  responds-turn old new request took = record {
+    responds = record {
+      exchange = took.exchange;
+      asked = took.turn.asked;
+      session = Session-turn desk old new request took.exchange took.turn;
+      one_turn = omega (arith, ap (λ (l : List ℕ). length l) took.turn.stops, length-append old.stops (length took.turn.taken ∷ []));
+      response_is = took.response_is;
+    };
+    covers = took.covers;
   }
 
-  -- the body is no request, or memory was wanting
-  pub responds-quiet : (pass : View Deed) (f : ReadFault) → (f ≡ NoMemory) ⊎ IsReadAs true body (Err f) → TellsFault f close response
-      → Responds desk pass pass body close response
-  responds-quiet pass f asked told =
+  quiet : (pass : View Deed) (read asked : ReadFault) → IsAskedAs (Err read) (Err asked) → response ≡ response_to (fault_answer asked) close
+      → RespondsWithin desk pass pass (IsAskedAs (Err read)) close response covered
+  quiet pass read asked same is = record {
+    responds = record {
+      exchange = record { asked = Err asked; answer = fault_answer asked; stop = None; kept = [] };
+      asked = same;
+      session = Session-quiet desk pass (record { asked = Err asked; answer = fault_answer asked; stop = None; kept = [] })
+          (record { stop = refl; kept = refl; answer = refl });
+      one_turn = omega arith;
+      response_is = is;
+    };
+    covers = omega (arith, printed-fault_answer asked);
+  }
+
+  -- what is no request was told, or that memory was wanting
+  pub responds-quiet : (pass : View Deed) (f : ReadFault) → TellsFault f close response
+      → RespondsWithin desk pass pass (IsAskedAs (Err f)) close response covered
+  responds-quiet pass f told =
       ⊎_elim
-      (λ (is : response ≡ response_to (fault_answer f) close). quiet pass f asked is)
-      (λ (is : response ≡ response_to (fault_answer NoMemory) close). quiet pass NoMemory (inl refl) is)
+      (λ (is : response ≡ response_to (fault_answer f) close). quiet pass f f (inl refl) is)
+      (λ (is : response ≡ response_to (fault_answer NoMemory) close). quiet pass f NoMemory (inr refl) is)
       told

@@ -8,8 +8,6 @@ use Rattle.stock_io.specs.Counts.{Rose}
 use Rattle.stock_io.specs.Streams.{AppendsFront}
 use Rattle.stock_model.specs.declared.deeds.Deed.{Deed}
 use Rattle.turn_lock.specs.declared.view.View.{View}
-use Rattle.session_laws.proofs.Bodies.{HasSession-none}
-use Rattle.voucher_json.specs.Requests.{IsReadAs}
 use Rattle.desk_wire.specs.declared.heard.Heard.TheVariants.{Last}
 use Rattle.desk_wire.specs.declared.heard.Request.{Request}
 use Rattle.desk_wire.specs.declared.heard.Stop.{Stop}
@@ -19,11 +17,11 @@ use Rattle.desk_wire.specs.Streams.{TakesIn, LiesIn, whole, size, stop_answer, T
 use Rattle.desk_wire.specs.Waiting.{Waiting, after_passing}
 use Rattle.desk_server.specs.Exchanging.{LeavesRest}
 use Rattle.desk_server.specs.Responses.{responses, last_response, refusal_response}
-use Rattle.desk_server.specs.Served.{Taken, body_of, StayOpen, LastCloses, PeerEnded, HasCause, IsWritten, Serves}
+use Rattle.desk_server.specs.Served.{Taken, body_of, StayOpen, LastCloses, PeerEnded, HasCause, IsWritten, ServesIn}
 use Rattle.desk_server.specs.Writing.{Written, WritesAll, WritesFront, Ended, AnswersNext}
 use Rattle.desk_server.specs.declared.session.End.{End}
 use Rattle.desk_server.specs.declared.session.End.TheVariants.{Closed, Cut, Refused, ReadFault, WriteFault, TooMuch, NoMemory}
-use Rattle.desk_server.proofs.Steps.{HasAnswered, HasServed, answered-heard, answered-next, wrote-next, text-next, served-next}
+use Rattle.desk_server.proofs.Steps.{Sessions, AnswersOne, HasAnswered, HasServed, answered-heard, answered-next, wrote-next, text-next, served-next}
 use Rattle.desk_server.proofs.Streams.{StayOpen-push, LastCloses-push}
 
 -- a front of more was written behind what was written before
@@ -45,15 +43,15 @@ all-came (Some xs) (Some ys) stream piece before after took behind all =
     ap (λ (l : List ℕ). stream ++ l) (append_cancel_left before piece ys (sym behind ∙ all)) ∙ sym took
 
 module _ {P : Type 0} (left : P → Option (List ℕ)) (taken : P → ℕ) (written : P → Option (List ℕ)) (faults : P → ℕ)
-    (desk : ℕ) (old : View Deed) (first : P) where
-  abbrev bytes_at : {now : View Deed} {link : P} (waits : Waiting) → HasAnswered left taken desk old now first link waits → Taken
+    {K : Type 0} (view : K → View Deed) (sessions : Sessions K) (old : K) (first : P) where
+  abbrev bytes_at : {now : K} {link : P} (waits : Waiting) → HasAnswered left taken view sessions old now first link waits → Taken
   bytes_at waits so_far = record { stream = so_far.stream; requests = so_far.requests; rest = waits.bytes }
 
-  serves-at : (now : View Deed) (link : P) (waits : Waiting) (so_far : HasAnswered left taken desk old now first link waits)
+  serves-at : (now : K) (link : P) (waits : Waiting) (so_far : HasAnswered left taken view sessions old now first link waits)
       (refused : Option ℕ) (end : End)
       → IsWritten end (written first) (written link) (responses so_far.requests so_far.answers ++ last_response refused)
       → HasCause (left first) (bytes_at waits so_far) refused (faults first) (faults link) end
-      → Serves left taken written faults desk old now first link end
+      → ServesIn left taken written faults (sessions old now) first link end
   serves-at now link waits so_far refused end wrote cause = record {
     bytes = bytes_at waits so_far;
     took = so_far.took;
@@ -68,24 +66,24 @@ module _ {P : Type 0} (left : P → Option (List ℕ)) (taken : P → ℕ) (writ
   }
 
   -- memory was wanting for the inbox
-  pub serves-none : Serves left taken written faults desk old old first first NoMemory
-  serves-none = record {
+  pub serves-none : sessions old old [] [] → ServesIn left taken written faults (sessions old old) first first NoMemory
+  serves-none none = record {
     bytes = record { stream = []; requests = []; rest = [] };
     took = Consumes-nil (left first);
     counted = omega arith;
     within = omega arith;
     parts = refl;
     answers = [];
-    session = HasSession-none (IsReadAs true) desk old;
+    session = none;
     refused = None;
     wrote = Appends-nil (written first);
     cause = refl;
   }
 
   -- the link was ended, which changes neither its bytes nor its count
-  pub serves-ended : (now : View Deed) (link link' : P) (end : End) → Serves left taken written faults desk old now first link end
+  pub serves-ended : (now : K) (link link' : P) (end : End) → ServesIn left taken written faults (sessions old now) first link end
       → left link' ≡ left link → taken link' ≡ taken link → written link' ≡ written link → faults link' ≡ faults link
-      → Serves left taken written faults desk old now first link' end
+      → ServesIn left taken written faults (sessions old now) first link' end
   serves-ended now link link' end serves left_kept taken_kept written_kept faults_kept = record {
     bytes = serves.bytes;
     took = subst (λ (k : Option (List ℕ)). Consumes (left first) k serves.bytes.stream) (sym left_kept) serves.took;
@@ -110,23 +108,23 @@ module _ {P : Type 0} (left : P → Option (List ℕ)) (taken : P → ℕ) (writ
   wrote-alone link text wrote = subst (Appends (written first) (written link)) (sym (append-nil text)) wrote
 
   -- a read failed
-  pub serves-read_fault : (now : View Deed) (link link' : P) (waits waits' : Waiting)
-      → HasServed left taken written faults desk old now first link waits → TakesIn left taken waits waits' link link'
-      → written link' ≡ written link → Rose (faults link) (faults link') → Serves left taken written faults desk old now first link' ReadFault
+  pub serves-read_fault : (now : K) (link link' : P) (waits waits' : Waiting)
+      → HasServed left taken written faults view sessions old now first link waits → TakesIn left taken waits waits' link link'
+      → written link' ≡ written link → Rose (faults link) (faults link') → ServesIn left taken written faults (sessions old now) first link' ReadFault
   serves-read_fault now link link' waits waits' served takes_in kept rose =
-      let so_far = answered-heard left taken written faults desk old first now link link' waits waits' served.so_far takes_in in
+      let so_far = answered-heard left taken written faults view sessions old first now link link' waits waits' served.so_far takes_in in
       serves-at now link' waits' so_far None ReadFault
       (wrote-alone link' (responses so_far.requests so_far.answers)
       (subst (λ (k : Option (List ℕ)). Appends (written first) k (responses so_far.requests so_far.answers)) (sym kept) served.wrote))
       (served.stays_open, rose-since link link' served.no_fault rose)
 
   -- no request follows
-  module _ (now : View Deed) (link link' : P) (waits : Waiting) (served : HasServed left taken written faults desk old now first link waits)
+  module _ (now : K) (link link' : P) (waits : Waiting) (served : HasServed left taken written faults view sessions old now first link waits)
       (left_kept : left link' ≡ left link) (taken_kept : taken link' ≡ taken link) where
-    abbrev so_far : HasAnswered left taken desk old now first link waits
+    abbrev so_far : HasAnswered left taken view sessions old now first link waits
     so_far = served.so_far
 
-    abbrev answered-there : HasAnswered left taken desk old now first link' waits
+    abbrev answered-there : HasAnswered left taken view sessions old now first link' waits
     answered-there = record {
       stream = so_far.stream;
       requests = so_far.requests;
@@ -148,16 +146,16 @@ module _ {P : Type 0} (left : P → Option (List ℕ)) (taken : P → ℕ) (writ
 
     pub serves-last : (why : Stop) (end : End) → Answers waits.bytes (stop_answer why) → TellsLimit (Last why) waits
         → (why ≡ stop.Ended → IfSome (left first) (λ all. so_far.stream ≡ all)) → Ended written faults link link' why (length waits.bytes) end
-        → Serves left taken written faults desk old now first link' end
+        → ServesIn left taken written faults (sessions old now) first link' end
     serves-last (stop.Refused status) end answers limit all ended =
         ⊎_elim
         (λ (w : (end ≡ Refused status) × WritesAll written faults link link' (refusal_response status)).
-        subst (Serves left taken written faults desk old now first link') (sym w.0)
+        subst (ServesIn left taken written faults (sessions old now) first link') (sym w.0)
         (serves-at now link' waits answered-there (Some status) (Refused status)
         (Appends-trans (written first) (written link) (written link') (responses so_far.requests so_far.answers) (refusal_response status)
         served.wrote w.1.appends) (refl, served.stays_open, answers)))
         (λ (w : (end ≡ WriteFault) × WritesFront written faults link link' (refusal_response status)).
-        subst (Serves left taken written faults desk old now first link') (sym w.0)
+        subst (ServesIn left taken written faults (sessions old now) first link') (sym w.0)
         (serves-at now link' waits answered-there (Some status) WriteFault
         (AppendsFront-behind (written first) (written link) (written link') (responses so_far.requests so_far.answers) (refusal_response status)
         served.wrote w.1.front) (served.stays_open, answers, rose-since link link' served.no_fault w.1.fault)))
@@ -167,37 +165,37 @@ module _ {P : Type 0} (left : P → Option (List ℕ)) (taken : P → ℕ) (writ
         record { stays_open = served.stays_open; needs = answers; in_reach = omega (arith, so_far.spare, limit); all = all refl } in
         ⊎_elim
         (λ (w : (length waits.bytes ≡ 0) × (end ≡ Closed)).
-        subst (Serves left taken written faults desk old now first link') (sym w.1)
+        subst (ServesIn left taken written faults (sessions old now) first link') (sym w.1)
         (serves-at now link' waits answered-there None Closed (wrote-there ended.0) (inr (nil_from_length waits.bytes w.0, peer))))
         (λ (w : (0 < length waits.bytes) × (end ≡ Cut (length waits.bytes))).
-        subst (Serves left taken written faults desk old now first link') (sym w.1)
+        subst (ServesIn left taken written faults (sessions old now) first link') (sym w.1)
         (serves-at now link' waits answered-there None (Cut (length waits.bytes)) (wrote-there ended.0) (w.0, refl, peer)))
         ended.1
     serves-last stop.TooMuch end answers limit all ended =
-        subst (Serves left taken written faults desk old now first link') (sym ended.1)
+        subst (ServesIn left taken written faults (sessions old now) first link') (sym ended.1)
         (serves-at now link' waits answered-there None TooMuch (wrote-there ended.0)
         (served.stays_open, answers, omega (arith, so_far.spare, limit)))
 
   -- one more request was answered
-  module _ (now new : View Deed) (link link' : P) (waits : Waiting) (request : Request)
-      (served : HasServed left taken written faults desk old now first link waits) (answers : Answers waits.bytes (whole request))
-      (lies : LiesIn waits.bytes request) (leaves : LeavesRest now new)
+  module _ (now new : K) (link link' : P) (waits : Waiting) (request : Request)
+      (served : HasServed left taken written faults view sessions old now first link waits) (answers : Answers waits.bytes (whole request))
+      (lies : LiesIn waits.bytes request) (leaves : LeavesRest (view now) (view new))
       (left_kept : left link' ≡ left link) (taken_kept : taken link' ≡ taken link) (end : Option End)
-      (next : AnswersNext written faults desk now new (body_of waits.bytes request) request.close link link' end) where
-    abbrev answered : HasAnswered left taken desk old new first link' (after_passing waits (size request))
-    answered = answered-next left taken written faults desk old first now new link link' waits request next.response served answers lies
-        next.responds leaves left_kept taken_kept
+      (next : AnswersNext written faults (AnswersOne view sessions now new (body_of waits.bytes request) request.close) request.close link link' end) where
+    abbrev answered : HasAnswered left taken view sessions old new first link' (after_passing waits (size request))
+    answered = answered-next left taken written faults view sessions old first now new link link' waits request next.response served answers lies
+        next.answered leaves left_kept taken_kept
 
     wrote-answered : Appends (written link) (written link') next.response
         → Appends (written first) (written link') (responses answered.requests answered.answers)
-    wrote-answered = wrote-next left taken written faults desk old first now new link link' waits request next.response served answers lies
-        next.responds leaves left_kept taken_kept
+    wrote-answered = wrote-next left taken written faults view sessions old first now new link link' waits request next.response served answers lies
+        next.answered leaves left_kept taken_kept
 
-    pub goes-on : end ≡ None → HasServed left taken written faults desk old new first link' (after_passing waits (size request))
+    pub goes-on : end ≡ None → HasServed left taken written faults view sessions old new first link' (after_passing waits (size request))
     goes-on none =
         let w = subst (Written written faults link link' next.response request.close) none next.wrote in
-        served-next left taken written faults desk old first now new link link' waits request next.response served answers lies
-        next.responds leaves left_kept taken_kept w.0 w.1.appends w.1.no_fault
+        served-next left taken written faults view sessions old first now new link link' waits request next.response served answers lies
+        next.answered leaves left_kept taken_kept w.0 w.1.appends w.1.no_fault
 
     open-or-closes : StayOpen answered.requests ⊎ LastCloses answered.requests
     open-or-closes = by_close request.close refl
@@ -207,7 +205,7 @@ module _ {P : Type 0} (left : P → Option (List ℕ)) (taken : P → ℕ) (writ
         by_close false is = inl (StayOpen-push served.so_far.requests request served.stays_open is)
 
     ends-so : (e : End) → Written written faults link link' next.response request.close (Some e)
-        → Serves left taken written faults desk old new first link' e
+        → ServesIn left taken written faults (sessions old new) first link' e
     ends-so Closed w =
         serves-at new link' (after_passing waits (size request)) answered None Closed
         (wrote-alone link' (responses answered.requests answered.answers) (wrote-answered w.1.appends))
@@ -216,7 +214,7 @@ module _ {P : Type 0} (left : P → Option (List ℕ)) (taken : P → ℕ) (writ
         serves-at new link' (after_passing waits (size request)) answered None WriteFault
         (subst (AppendsFront (written first) (written link'))
         (sym (append-nil (responses answered.requests answered.answers)
-        ∙ text-next left taken written faults desk old first now new link link' waits request next.response served answers lies next.responds
+        ∙ text-next left taken written faults view sessions old first now new link link' waits request next.response served answers lies next.answered
         leaves left_kept taken_kept))
         (AppendsFront-behind (written first) (written link) (written link') (responses served.so_far.requests served.so_far.answers)
         next.response served.wrote w.front))
@@ -227,5 +225,5 @@ module _ {P : Type 0} (left : P → Option (List ℕ)) (taken : P → ℕ) (writ
     ends-so TooMuch w = absurd w
     ends-so NoMemory w = absurd w
 
-    pub serves-answered : (e : End) → end ≡ Some e → Serves left taken written faults desk old new first link' e
+    pub serves-answered : (e : End) → end ≡ Some e → ServesIn left taken written faults (sessions old new) first link' e
     serves-answered e is = ends-so e (subst (Written written faults link link' next.response request.close) is next.wrote)

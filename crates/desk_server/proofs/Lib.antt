@@ -1,9 +1,9 @@
 mod ResponseTexts
 mod Streams
-mod Steps
-mod Ending
-mod Refusals
+pub mod Steps
+pub mod Ending
+pub mod Refusals
 mod FixedTexts
 mod Over
-mod Bodies
-mod AtDesk
+pub mod Bodies
+pub mod AtDesk

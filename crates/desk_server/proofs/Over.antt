@@ -20,6 +20,7 @@ use Rattle.generation_book.proofs.Following.{follows-itself}
 use Rattle.session_laws.specs.Answers.{IsAnswer}
 use Rattle.session_laws.specs.Exchanges.{store_failures}
 use Rattle.session_laws.specs.Sentences.{AcceptsNone}
+use Rattle.mirrored_sessions.specs.Steps.{printed_in}
 use Rattle.session_laws.proofs.AnswerCases.{KeepsOne, KeepsNothing, answer-cases}
 use Rattle.book_answers.specs.Posts.{Posts, CountsFailure}
 use Rattle.desk_server.specs.Answering.{AnswersOver, AnswersOnceTold, ComesTo}
@@ -30,9 +31,10 @@ use Rattle.desk_server.specs.declared.answering.Answered.TheVariants.{Whole, Unt
 
 module _ (desk : ℕ) (request : Request) (close : Bool) (old new : BookState) where
   -- nothing was kept, and memory was wanting
-  pub over-no_memory : (response : List ℕ) → new.history ≡ old.history → NeverFalls old.keeper.faults new.keeper.faults
-      → Follows (start_of old) new → response ≡ response_to (Told MemoryFailed []) close → AnswersOver desk request close old new response
-  over-no_memory response same never_falls follows text = record {
+  pub over-no_memory : (response : List ℕ) (covered : ℕ) → new.history ≡ old.history → NeverFalls old.keeper.faults new.keeper.faults
+      → Follows (start_of old) new → response ≡ response_to (Told MemoryFailed []) close
+      → AnswersOver desk request close old new response covered
+  over-no_memory response covered same never_falls follows text = record {
     answer = Told MemoryFailed [];
     kept = [];
     answers = inl (refl, refl);
@@ -40,6 +42,7 @@ module _ (desk : ℕ) (request : Request) (close : Bool) (old new : BookState) w
     faults = record { never_falls = never_falls; failed = λ _. omega (arith, never_falls) };
     follows = follows;
     response_is = text;
+    covers = omega arith;
   }
 
   -- nothing was kept, and the answer is told, or memory is wanting for that
@@ -49,16 +52,25 @@ module _ (desk : ℕ) (request : Request) (close : Bool) (old new : BookState) w
   over-told answer kept answers none grows faults follows response told =
       ⊎_elim
       (λ (text : response ≡ response_to answer close).
-      record { answer = answer; kept = kept; answers = inr answers; grows = grows; faults = faults; follows = follows; response_is = text })
+      record {
+        answer = answer;
+        kept = kept;
+        answers = inr answers;
+        grows = grows;
+        faults = faults;
+        follows = follows;
+        response_is = text;
+        covers = omega arith;
+      })
       (λ (no_memory : response ≡ response_to (Told MemoryFailed []) close).
-      over-no_memory response (grows ∙ ap (λ (k : List Deed). old.history ++ k) none ∙ append-nil old.history) faults.never_falls follows no_memory)
+      over-no_memory response (printed_in answer) (grows ∙ ap (λ (k : List Deed). old.history ++ k) none ∙ append-nil old.history) faults.never_falls follows no_memory)
       told
 
   -- what was told is what was kept
   pub over-accepted : (what : What) (answer : Answer) (n next : RecordNo) (response : List ℕ) → request ≡ Post what
       → Posts desk old.history what answer new.history → CountsFailure answer old.keeper.faults new.keeper.faults
       → Follows (start_of old) new → answer ≡ Told (Accepted n) [] → (n.0 ≡ accepted old.history + 1 → next ≡ n)
-      → response ≡ response_to (Told (Accepted next) []) close → AnswersOver desk request close old new response
+      → response ≡ response_to (Told (Accepted next) []) close → AnswersOver desk request close old new response 0
   over-accepted what answer n next response asked posts faults follows is same text =
       ⊎_elim
       (λ (one : KeepsOne desk old.history (Post what) answer posts.kept).
@@ -74,6 +86,7 @@ module _ (desk : ℕ) (request : Request) (close : Bool) (old new : BookState) w
         follows = follows;
         response_is = text ∙ ap (λ (r : RecordNo). response_to (Told (Accepted r) []) close) next_is
             ∙ ap (λ (a : Answer). response_to a close) (sym is);
+        covers = omega (arith, ap printed_in is);
       })
       (λ (nothing : KeepsNothing answer posts.kept). absurd (nothing.other n is))
       (answer-cases desk old.history answer posts.kept (Post what) posts.posted)

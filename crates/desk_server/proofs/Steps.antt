@@ -1,28 +1,39 @@
--- What a session has done for its peer, as it goes on and as it ends.
+-- What a session has done for its peer, as it goes on and as it ends. What is known in it, at first and then, is of any kind that has in it
+-- what the pass knows; and which sessions lead from one to the other is a relation that the steps keep.
 use Rattle.std.proofs.Common.{◌≡◌, ℕ, ◌+◌, ◌≤◌, List, [], ◌∷◌, ◌++◌, length, refl, sym, ap, ◌∙◌, subst, arith, append_assoc, append-nil, length-append, Option}
-use Rattle.std.specs.Prelude.{true, false}
+use Rattle.std.specs.Prelude.{Bool, false}
 use Rattle.std.specs.Io.KnownBytes.{Consumes, Appends}
 use Rattle.std.proofs.KnownBytes.{Consumes-nil, Consumes-trans, Appends-nil, Appends-trans}
 use Rattle.std.proofs.lemmas.List.{length-drop}
 use Rattle.stock_model.specs.declared.answers.Answer.{Answer}
 use Rattle.stock_model.specs.declared.deeds.Deed.{Deed}
 use Rattle.turn_lock.specs.declared.view.View.{View}
-use Rattle.session_laws.specs.Sessions.{HasSession}
-use Rattle.session_laws.proofs.Bodies.{HasSession-none, HasSession-more}
-use Rattle.voucher_json.specs.Requests.{IsReadAs}
 use Rattle.desk_wire.specs.declared.heard.Request.{Request}
 use Rattle.desk_wire.specs.Framings.{Parts}
 use Rattle.desk_wire.specs.Rules.{Answers}
 use Rattle.desk_wire.specs.Streams.{TakesIn, LiesIn, whole, size}
 use Rattle.desk_wire.specs.Waiting.{Waiting, nothing_waits, after_passing}
-use Rattle.desk_server.specs.Exchanging.{LeavesRest, Responds}
+use Rattle.desk_server.specs.Exchanging.{LeavesRest}
 use Rattle.desk_server.specs.Responses.{responses, response_to}
 use Rattle.desk_server.specs.Served.{byte_limit, body_of, bodies, StayOpen}
 use Rattle.desk_server.proofs.Streams.{Parts-push, Parts-behind, bodies-push, bodies-behind, StayOpen-push}
 
+-- a relation of what is known at first and then: the bodies were answered so in a session between
+abbrev pub Sessions : Type 0 → Type 1
+Sessions K = K → K → List (List ℕ) → List Answer → Type 0
+
+-- one more body was answered, with a turn of the pass or without one, this is the response, and every session goes on so
+pub record AnswersOne {K : Type 0} (view : K → View Deed) (sessions : Sessions K) (now new : K) (body : List ℕ) (close : Bool)
+    (response : List ℕ) : Type 0 where
+  pub answer : Answer
+  pub goes_on : (old : K) (bodies : List (List ℕ)) (answers : List Answer) → sessions old now bodies answers
+      → sessions old new (bodies ++ body ∷ []) (answers ++ answer ∷ [])
+  pub one_turn : length (view new).stops ≤ length (view now).stops + 1
+  pub response_is : response ≡ response_to answer close
+
 -- the requests so far were answered, in order, whether or not the last one asks to close
-pub record HasAnswered {P : Type 0} (left : P → Option (List ℕ)) (taken : P → ℕ) (desk : ℕ) (old now : View Deed) (first link : P)
-    (waits : Waiting) : Type 0 where
+pub record HasAnswered {P : Type 0} (left : P → Option (List ℕ)) (taken : P → ℕ) {K : Type 0} (view : K → View Deed)
+    (sessions : Sessions K) (old now : K) (first link : P) (waits : Waiting) : Type 0 where
   pub stream : List ℕ
   pub requests : List Request
   pub answers : List Answer
@@ -30,15 +41,15 @@ pub record HasAnswered {P : Type 0} (left : P → Option (List ℕ)) (taken : P 
   pub counted : taken link ≡ taken first + length stream
   pub spare : byte_limit ≡ waits.spare + length stream
   pub parts : Parts stream requests waits.bytes
-  pub session : HasSession (IsReadAs true) desk old now (bodies stream requests) answers
+  pub session : sessions old now (bodies stream requests) answers
   pub each : length requests ≡ length answers
-  pub turns : length now.stops + waits.spare + length waits.bytes ≤ length old.stops + byte_limit
-  pub rest : LeavesRest old now
+  pub turns : length (view now).stops + waits.spare + length waits.bytes ≤ length (view old).stops + byte_limit
+  pub rest : LeavesRest (view old) (view now)
 
 -- no request asked to close, and all responses were written with no fault
 pub record HasServed {P : Type 0} (left : P → Option (List ℕ)) (taken : P → ℕ) (written : P → Option (List ℕ)) (faults : P → ℕ)
-    (desk : ℕ) (old now : View Deed) (first link : P) (waits : Waiting) : Type 0 where
-  pub so_far : HasAnswered left taken desk old now first link waits
+    {K : Type 0} (view : K → View Deed) (sessions : Sessions K) (old now : K) (first link : P) (waits : Waiting) : Type 0 where
+  pub so_far : HasAnswered left taken view sessions old now first link waits
   pub stays_open : StayOpen so_far.requests
   pub wrote : Appends (written first) (written link) (responses so_far.requests so_far.answers)
   pub no_fault : faults link ≡ faults first
@@ -58,10 +69,10 @@ LeavesRest-trans a b c one other =
     ∙ ap (λ (v : View Deed). record v { seen = c.seen; seen_faults = c.seen_faults; made = c.made; stops = c.stops; faults = c.faults }) one
 
 module _ {P : Type 0} (left : P → Option (List ℕ)) (taken : P → ℕ) (written : P → Option (List ℕ)) (faults : P → ℕ)
-    (desk : ℕ) (old : View Deed) (first : P) where
-  pub served-none : (waits : Waiting) → waits ≡ nothing_waits byte_limit
-      → HasServed left taken written faults desk old old first first waits
-  served-none waits is = subst (HasServed left taken written faults desk old old first first) (sym is) (record {
+    {K : Type 0} (view : K → View Deed) (sessions : Sessions K) (old : K) (first : P) where
+  pub served-none : (waits : Waiting) → waits ≡ nothing_waits byte_limit → sessions old old [] []
+      → HasServed left taken written faults view sessions old old first first waits
+  served-none waits is none = subst (HasServed left taken written faults view sessions old old first first) (sym is) (record {
     so_far = record {
       stream = [];
       requests = [];
@@ -70,7 +81,7 @@ module _ {P : Type 0} (left : P → Option (List ℕ)) (taken : P → ℕ) (writ
       counted = omega arith;
       spare = omega arith;
       parts = refl;
-      session = HasSession-none (IsReadAs true) desk old;
+      session = none;
       each = refl;
       turns = omega arith;
       rest = refl;
@@ -81,8 +92,8 @@ module _ {P : Type 0} (left : P → Option (List ℕ)) (taken : P → ℕ) (writ
   })
 
   -- a piece came
-  abbrev pub answered-heard : (now : View Deed) (link link' : P) (waits waits' : Waiting) → HasAnswered left taken desk old now first link waits
-      → TakesIn left taken waits waits' link link' → HasAnswered left taken desk old now first link' waits'
+  abbrev pub answered-heard : (now : K) (link link' : P) (waits waits' : Waiting) → HasAnswered left taken view sessions old now first link waits
+      → TakesIn left taken waits waits' link link' → HasAnswered left taken view sessions old now first link' waits'
   answered-heard now link link' waits waits' so_far takes_in =
       let longer = length-append so_far.stream takes_in.piece in
       record {
@@ -94,7 +105,7 @@ module _ {P : Type 0} (left : P → Option (List ℕ)) (taken : P → ℕ) (writ
         spare = omega (arith, so_far.spare, takes_in.spare, longer);
         parts = subst (Parts (so_far.stream ++ takes_in.piece) so_far.requests) (sym takes_in.behind)
             (Parts-behind so_far.stream takes_in.piece so_far.requests waits.bytes so_far.parts);
-        session = subst (λ (b : List (List ℕ)). HasSession (IsReadAs true) desk old now b so_far.answers)
+        session = subst (λ (b : List (List ℕ)). sessions old now b so_far.answers)
             (sym (bodies-behind so_far.stream takes_in.piece so_far.requests waits.bytes so_far.parts)) so_far.session;
         each = so_far.each;
         turns = omega (
@@ -107,9 +118,9 @@ module _ {P : Type 0} (left : P → Option (List ℕ)) (taken : P → ℕ) (writ
         rest = so_far.rest;
       }
 
-  abbrev pub served-heard : (now : View Deed) (link link' : P) (waits waits' : Waiting) → HasServed left taken written faults desk old now first link waits
+  abbrev pub served-heard : (now : K) (link link' : P) (waits waits' : Waiting) → HasServed left taken written faults view sessions old now first link waits
       → TakesIn left taken waits waits' link link' → written link' ≡ written link → faults link' ≡ faults link
-      → HasServed left taken written faults desk old now first link' waits'
+      → HasServed left taken written faults view sessions old now first link' waits'
   served-heard now link link' waits waits' served takes_in kept no_fault =
       let so_far = served.so_far in
       record {
@@ -119,38 +130,37 @@ module _ {P : Type 0} (left : P → Option (List ℕ)) (taken : P → ℕ) (writ
         no_fault = no_fault ∙ served.no_fault;
       }
 
-  module _ (now new : View Deed) (link link' : P) (waits : Waiting) (request : Request) (response : List ℕ)
-      (served : HasServed left taken written faults desk old now first link waits) (answers : Answers waits.bytes (whole request))
+  module _ (now new : K) (link link' : P) (waits : Waiting) (request : Request) (response : List ℕ)
+      (served : HasServed left taken written faults view sessions old now first link waits) (answers : Answers waits.bytes (whole request))
       (lies : LiesIn waits.bytes request)
-      (responds : Responds desk now new (body_of waits.bytes request) request.close response) (leaves : LeavesRest now new)
+      (one : AnswersOne view sessions now new (body_of waits.bytes request) request.close response) (leaves : LeavesRest (view now) (view new))
       (left_kept : left link' ≡ left link) (taken_kept : taken link' ≡ taken link) where
-    abbrev so_far : HasAnswered left taken desk old now first link waits
+    abbrev so_far : HasAnswered left taken view sessions old now first link waits
     so_far = served.so_far
 
     -- the request that waited was answered, and let go
-    abbrev pub answered-next : HasAnswered left taken desk old new first link' (after_passing waits (size request))
+    abbrev pub answered-next : HasAnswered left taken view sessions old new first link' (after_passing waits (size request))
     answered-next = record {
       stream = so_far.stream;
       requests = so_far.requests ++ request ∷ [];
-      answers = so_far.answers ++ responds.exchange.answer ∷ [];
+      answers = so_far.answers ++ one.answer ∷ [];
       took = subst (λ (k : Option (List ℕ)). Consumes (left first) k so_far.stream) (sym left_kept) so_far.took;
       counted = taken_kept ∙ so_far.counted;
       spare = so_far.spare;
       parts = Parts-push so_far.stream so_far.requests waits.bytes request so_far.parts answers;
-      session = subst (λ (b : List (List ℕ)). HasSession (IsReadAs true) desk old new b (so_far.answers ++ responds.exchange.answer ∷ []))
+      session = subst (λ (b : List (List ℕ)). sessions old new b (so_far.answers ++ one.answer ∷ []))
           (sym (bodies-push so_far.stream so_far.requests waits.bytes request so_far.parts))
-          (HasSession-more (IsReadAs true) desk old now new (bodies so_far.stream so_far.requests) so_far.answers
-          (body_of waits.bytes request) responds.exchange so_far.session responds.asked responds.session);
-      each = omega (arith, so_far.each, length-append so_far.requests (request ∷ []), length-append so_far.answers (responds.exchange.answer ∷ []));
-      turns = omega (arith, so_far.turns, responds.one_turn, lies.some, lies.within, length-drop (size request) waits.bytes);
-      rest = LeavesRest-trans old now new so_far.rest leaves;
+          (one.goes_on old (bodies so_far.stream so_far.requests) so_far.answers so_far.session);
+      each = omega (arith, so_far.each, length-append so_far.requests (request ∷ []), length-append so_far.answers (one.answer ∷ []));
+      turns = omega (arith, so_far.turns, one.one_turn, lies.some, lies.within, length-drop (size request) waits.bytes);
+      rest = LeavesRest-trans (view old) (view now) (view new) so_far.rest leaves;
     }
 
     -- the responses are one more
     pub text-next : responses answered-next.requests answered-next.answers ≡ responses so_far.requests so_far.answers ++ response
     text-next =
-        responses-push so_far.requests so_far.answers request responds.exchange.answer so_far.each
-        ∙ ap (λ (l : List ℕ). responses so_far.requests so_far.answers ++ l) (sym responds.response_is)
+        responses-push so_far.requests so_far.answers request one.answer so_far.each
+        ∙ ap (λ (l : List ℕ). responses so_far.requests so_far.answers ++ l) (sym one.response_is)
 
     pub wrote-next : Appends (written link) (written link') response
         → Appends (written first) (written link') (responses answered-next.requests answered-next.answers)
@@ -160,7 +170,7 @@ module _ {P : Type 0} (left : P → Option (List ℕ)) (taken : P → ℕ) (writ
 
     -- and the session goes on
     pub served-next : request.close ≡ false → Appends (written link) (written link') response → faults link' ≡ faults link
-        → HasServed left taken written faults desk old new first link' (after_passing waits (size request))
+        → HasServed left taken written faults view sessions old new first link' (after_passing waits (size request))
     served-next close wrote no_fault = record {
       so_far = answered-next;
       stays_open = StayOpen-push so_far.requests request served.stays_open close;

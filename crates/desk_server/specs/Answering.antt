@@ -1,5 +1,5 @@
 -- How a request is answered over a book.
-use Rattle.std.specs.Prelude.{ℕ, ◌≡◌, ◌⊎◌, Bool, List, [], ◌++◌, Option, Some, None, ⊤}
+use Rattle.std.specs.Prelude.{ℕ, ◌≡◌, ◌≤◌, ◌⊎◌, Bool, List, [], ◌++◌, Option, Some, None, ⊤}
 use Rattle.stock_nums.specs.declared.numbers.RecordNo.{RecordNo}
 use Rattle.stock_model.specs.declared.answers.Answer.{Answer}
 use Rattle.stock_model.specs.declared.answers.Answer.TheVariants.{Told}
@@ -11,6 +11,7 @@ use Rattle.generation_book.specs.State.{BookState}
 use Rattle.generation_book.specs.Follows.{start_of, Follows}
 use Rattle.session_laws.specs.Answers.{IsAnswer, LacksMemory}
 use Rattle.session_laws.specs.Sentences.{AcceptsNone}
+use Rattle.mirrored_sessions.specs.Steps.{printed_in}
 use Rattle.book_answers.specs.Answers.{HasText}
 use Rattle.book_answers.specs.Posts.{CountsFailure}
 use Rattle.desk_server.specs.Responses.{response_to}
@@ -31,8 +32,9 @@ abbrev pub TellsNumber : Answer → Option RecordNo → Type 0
 TellsNumber answer (Some n) = answer ≡ Told (Accepted n) []
 TellsNumber answer None = AcceptsNone answer
 
--- the request is answered over the book, at this point of its history, and this is the response
-pub record AnswersOver (desk : ℕ) (request : Request) (close : Bool) (old new : BookState) (response : List ℕ) : Type 0 where
+-- the request is answered over the book, at this point of its history, this is the response, and the answer says no more than so many
+-- records to be covered
+pub record AnswersOver (desk : ℕ) (request : Request) (close : Bool) (old new : BookState) (response : List ℕ) (covered : ℕ) : Type 0 where
   pub answer : Answer
   pub kept : List Deed
   pub answers : LacksMemory answer kept ⊎ IsAnswer desk old.history request answer kept
@@ -40,6 +42,7 @@ pub record AnswersOver (desk : ℕ) (request : Request) (close : Bool) (old new 
   pub faults : CountsFailure answer old.keeper.faults new.keeper.faults
   pub follows : Follows (start_of old) new
   pub response_is : response ≡ response_to answer close
+  pub covers : printed_in answer ≤ covered
 
 -- the answer whose response is still to be made has a text
 abbrev pub CanBeTold : Answered → Type 0
@@ -60,7 +63,12 @@ abbrev pub WritesNoSheet : Request → Answered → Type 0
 WritesNoSheet (Report query) (Whole (Text text)) = ⊥
 WritesNoSheet request answered = ⊤
 
+-- how many records the answer says to be covered that is still to be told. A response that is whole says nothing of it
+abbrev pub covered_in : Answered → ℕ
+covered_in (Whole response) = 0
+covered_in (Untold answer) = printed_in answer
+
 -- the request is answered over the book, at this point of its history, whatever bytes the response comes to
 abbrev pub AnswersOnceTold : ℕ → Request → Bool → BookState → BookState → Answered → Type 0
 AnswersOnceTold desk request close old new answered =
-    (response : List ℕ) → ComesTo answered close response → AnswersOver desk request close old new response
+    (response : List ℕ) → ComesTo answered close response → AnswersOver desk request close old new response (covered_in answered)

@@ -76,20 +76,25 @@ abbrev pub IsWritten : End → Option (List ℕ) → Option (List ℕ) → List 
 IsWritten WriteFault old new text = AppendsFront old new text
 IsWritten _ old new text = Appends old new text
 
--- These bytes were taken. They are whole requests one after another, and a rest. Each request was answered, in a session of this
--- desk. The responses were written, and then the one to the rest, if it was refused. The session ended for its cause.
-pub record Serves {P : Type 0} (left : P → Option (List ℕ)) (taken : P → ℕ) (written : P → Option (List ℕ)) (faults : P → ℕ)
-    (desk : ℕ) (old new : View Deed) (link link' : P) (end : End) : Type 0 where
+-- These bytes were taken. They are whole requests one after another, and a rest. Each request was answered, the bodies of all in
+-- such a session. The responses were written, and then the one to the rest, if it was refused. The session ended for its cause.
+pub record ServesIn {P : Type 0} (left : P → Option (List ℕ)) (taken : P → ℕ) (written : P → Option (List ℕ)) (faults : P → ℕ)
+    (is_session : List (List ℕ) → List Answer → Type 0) (link link' : P) (end : End) : Type 0 where
   pub bytes : Taken
   pub took : Consumes (left link) (left link') bytes.stream
   pub counted : taken link' ≡ taken link + length bytes.stream
   pub within : length bytes.stream ≤ byte_limit
   pub parts : Parts bytes.stream bytes.requests bytes.rest
   pub answers : List Answer
-  pub session : HasSession (IsReadAs true) desk old new (bodies bytes.stream bytes.requests) answers
+  pub session : is_session (bodies bytes.stream bytes.requests) answers
   pub refused : Option ℕ
   pub wrote : IsWritten end (written link) (written link') (responses bytes.requests answers ++ last_response refused)
   pub cause : HasCause (left link) bytes refused (faults link) (faults link') end
+
+-- the peer was served in a session of this desk at the lock
+abbrev pub Serves : {P : Type 0} → (P → Option (List ℕ)) → (P → ℕ) → (P → Option (List ℕ)) → (P → ℕ) → ℕ → View Deed → View Deed
+    → P → P → End → Type 0
+Serves left taken written faults desk old new = ServesIn left taken written faults (HasSession (IsReadAs true) desk old new)
 
 -- the session that serves the peer was over while the link was as open as it was at first
 pub record IsServedOpen {P : Type 0} (ended : P → Bool) (serves : P → P → End → Type 0) (link : P) (end : End) : Type 0 where

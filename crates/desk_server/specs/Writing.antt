@@ -6,9 +6,6 @@ use Rattle.stock_io.specs.Streams.{AppendsFront}
 use Rattle.desk_wire.specs.declared.heard.Stop.{Stop}
 use Rattle.desk_wire.specs.declared.heard.Stop.TheVariants as stop
 use Rattle.desk_server.specs.Responses.{refusal_response, IsRefusalStatus}
-use Rattle.stock_model.specs.declared.deeds.Deed.{Deed}
-use Rattle.turn_lock.specs.declared.view.View.{View}
-use Rattle.desk_server.specs.Exchanging.{Responds}
 use Rattle.desk_server.specs.declared.session.End.{End}
 use Rattle.desk_server.specs.declared.session.End.TheVariants.{Closed, Cut, Refused, WriteFault, TooMuch}
 
@@ -44,9 +41,9 @@ MayBeTold (stop.Refused status) = IsRefusalStatus status
 MayBeTold stop.Ended = ⊤
 MayBeTold stop.TooMuch = ⊤
 
--- a body was answered in an exchange, and its response was written
-pub record AnswersNext {P : Type 0} (written : P → Option (List ℕ)) (faults : P → ℕ) (desk : ℕ) (old new : View Deed)
-    (body : List ℕ) (close : Bool) (link link' : P) (end : Option End) : Type 0 where
+-- a request that asks to close or not got a response of this kind, which was written
+pub record AnswersNext {P : Type 0} (written : P → Option (List ℕ)) (faults : P → ℕ) (responds : List ℕ → Type 0) (close : Bool)
+    (link link' : P) (end : Option End) : Type 0 where
   pub response : List ℕ
-  pub responds : Responds desk old new body close response
+  pub answered : responds response
   pub wrote : Written written faults link link' response close end

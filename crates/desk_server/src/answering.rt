@@ -1,10 +1,13 @@
 //! What a request is answered over the book, and the response that comes of it once the book is given back.
-ghost use Rattle.std.specs.Prelude.{ℕ, ◌≤◌, IsTrue};
+ghost use Rattle.std.specs.Prelude.{ℕ, ◌≡◌, ◌≤◌, List, IsTrue};
 ghost use Rattle.stock_nums.specs.declared.limits.TheConstants.{MAX_DESK};
+ghost use Rattle.stock_nums.specs.declared.head.Head.{Head};
 ghost use Rattle.stock_model.specs.Limits.{is_within_limits};
+ghost use Rattle.stock_model.specs.declared.answers.Answer.TheVariants.{Told};
 ghost use Rattle.stock_model.specs.declared.requests.Request.TheVariants as request;
 ghost use Rattle.voucher_json.specs.Requests.{IsWithinLimits};
-ghost use Rattle.desk_server.specs.Answering.{IsOfDesk, TellsNumber, AnswersOnceTold, CanBeTold, ComesTo, WritesNoSheet};
+ghost use Rattle.mirrored_sessions.specs.Steps.{printed_in};
+ghost use Rattle.desk_server.specs.Answering.{IsOfDesk, TellsNumber, AnswersOnceTold, CanBeTold, ComesTo, WritesNoSheet, covered_in};
 ghost use Rattle.desk_server.specs.Responding.{bytes_of};
 
 use crate::responding::{Response, acceptance, response_to};
@@ -41,6 +44,44 @@ impl Answered {
             Answered::Whole(response) => response,
             Answered::Untold(answer) => response_to(alloc, at_rest, &answer, close),
         }
+    }
+
+    /// How many records the answer says to be covered that is still to be told. A response that is whole says nothing of it.
+    pub fn covered(&self) -> RecordNo
+        ensures { result.0 ≡ covered_in self.now }
+    {
+        match self {
+            Answered::Whole(_) => RecordNo(0),
+            Answered::Untold(answer) => covered_told(answer),
+        }
+    }
+}
+
+// How many records the answer says to be covered, 0 where it says nothing of it.
+fn covered_told(answer: &Answer) -> RecordNo
+    ensures { result.0 ≡ printed_in answer.now }
+{
+    match answer {
+        Answer::Shown { selected, .. } => selected.covered,
+        Answer::Told { reply, .. } => covered_by(reply),
+    }
+}
+
+fn covered_by(reply: &Reply) -> RecordNo
+    ensures { (heads : List Head) → result.0 ≡ printed_in (Told reply.now heads) }
+{
+    match reply {
+        Reply::Pending { covered, .. } => *covered,
+        Reply::Accepted(_)
+        | Reply::Refused(_)
+        | Reply::NoSuchRecord { .. }
+        | Reply::Worked(_)
+        | Reply::Settled(_)
+        | Reply::Long
+        | Reply::Bad(_)
+        | Reply::StoreFailed
+        | Reply::MemoryFailed
+        | Reply::Http => RecordNo(0),
     }
 }
 

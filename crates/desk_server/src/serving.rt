@@ -1,9 +1,11 @@
 //! The requests of a peer, heard and answered one after another.
-ghost use Rattle.std.specs.Prelude.{◌≡◌, ◌^◌, ◌<◌, ◌≤◌, length};
+ghost use Rattle.std.specs.Prelude.{◌≡◌, ◌^◌, ◌<◌, ◌≤◌, true, length};
 ghost use Rattle.stock_nums.specs.declared.limits.TheConstants.{MAX_DESK};
 ghost use Rattle.desk_wire.specs.Streams.{LiesIn, size};
 ghost use Rattle.desk_wire.specs.Waiting.{nothing_waits, after_passing};
-ghost use Rattle.desk_server.specs.Exchanging.{LeavesRest};
+ghost use Rattle.voucher_json.specs.Requests.{IsReadAs};
+ghost use Rattle.session_laws.specs.Sessions.{IsAsked};
+ghost use Rattle.desk_server.specs.Exchanging.{LeavesRest, Responds};
 ghost use Rattle.desk_server.specs.Served.{Serves, body_of};
 ghost use Rattle.desk_server.specs.Writing.{AnswersNext};
 
@@ -95,8 +97,9 @@ fn answer_next<K: Keeper, P: Link, R: Wait>(
     ensures same_lock { result.pass.lock ≡ pass.lock }
     ensures rest { LeavesRest pass.view result.pass.view }
     ensures passed { inbox.new ≡ after_passing inbox.old (size request) }
-    ensures answered { AnswersNext P.written P.Source.faults desk.0 pass.view result.pass.view
-        (body_of inbox.old.bytes request) request.close link.old link.new result.end }
+    ensures answered { AnswersNext P.written P.Source.faults
+        (Responds desk.0 pass.view result.pass.view (IsAsked (IsReadAs true) (body_of inbox.old.bytes request)) request.close)
+        request.close link.old link.new result.end }
     ensures left_kept { P.left link.new ≡ P.left link.old }
     ensures taken_kept { P.taken link.new ≡ P.taken link.old }
     ensures ended_kept { P.ended link.new ≡ P.ended link.old }

@@ -76,4 +76,5 @@ returns-clause-responds g c =
           (given.stops ∙ ap (λ (v : View Deed). v.stops ++ length held.result.taken ∷ []) same)
           (given.faults ∙ ap (λ (v : View Deed). v.faults + (after.keeper.faults - held.result.taken_faults)) same);
       response_is = over.response_is;
+      covers = omega (arith, over.covers, c.covered-covered.ensures);
     }

@@ -1,9 +1,13 @@
 -- One more request is heard and answered, or the session ends.
-use Rattle.std.proofs.Common.{ℕ, List, length, refl, sym, subst, ◌∙◌, ap, Ok}
+use Rattle.std.proofs.Common.{ℕ, true, List, length, refl, sym, subst, ◌∙◌, ap, Ok}
 use Rattle.desk_server.specs.Writing.{Ended}
 use Rattle.stock_io.proofs.Writing.{Chained-keeps}
 use Rattle.desk_wire.specs.declared.heard.Heard.TheVariants.{Last, Next}
 use Rattle.desk_wire.proofs.FramingLemmas.{heard_next, heard_last}
+use Rattle.session_laws.specs.Sessions.{HasSession}
+use Rattle.session_laws.proofs.Bodies.{HasSession-none}
+use Rattle.voucher_json.specs.Requests.{IsReadAs}
+use Rattle.desk_server.proofs.Bodies.{one-answered}
 use Rattle.desk_server.proofs.Steps.{HasServed, served-none, served-heard}
 use Rattle.desk_server.proofs.Ending.{serves-read_fault, serves-last, goes-on, serves-answered, all-came}
 use Rattle.desk_server.proofs.Refusals.{may_be_told}
@@ -12,8 +16,8 @@ use Rattle.desk_server.proofs.serving.serve_requests.Goals as goal
 pub loop-init : goal.loop-init
 loop-init g c = record {
   same_lock = refl;
-  served = served-none g.P.Source.left g.P.Source.taken g.P.Sink.written g.P.Source.faults c.args.desk.0 c.args.pass.view c.args.link.now
-      c.args.inbox c.requires.new;
+  served = served-none g.P.Source.left g.P.Source.taken g.P.Sink.written g.P.Source.faults (λ v. v) (HasSession (IsReadAs true) c.args.desk.0) c.args.pass.view c.args.link.now
+      c.args.inbox c.requires.new (HasSession-none (IsReadAs true) c.args.desk.0 c.args.pass.view);
   still_open = refl;
 }
 
@@ -22,26 +26,26 @@ loop-preserved g c =
     let before = c.loop in
     let heard = c.in-Ok-Next.ensures in
     let next = heard_next c.hear.new.self.bytes (c.in-Ok-Next.field-0-is ∙ ap Next (sym c.in-Ok-Next.request-is)) heard.heard heard.there in
-    let served = served-heard g.P.Source.left g.P.Source.taken g.P.Sink.written g.P.Source.faults c.args.desk.0 c.args.pass.view c.args.link.now
+    let served = served-heard g.P.Source.left g.P.Source.taken g.P.Sink.written g.P.Source.faults (λ v. v) (HasSession (IsReadAs true) c.args.desk.0) c.args.pass.view c.args.link.now
     before.pass.view before.link c.hear.new.source before.inbox c.hear.new.self before.invariant.served heard.takes_in
     (Chained-keeps g.P.Source.read_leaves g.P.Sink.written (λ a b step. ((g.met.P.Link g.world.𝓛 g.world.𝓜 g.world.𝓡 ((λ s x. x), (λ x. x), (λ x. x), (λ x. x))).read_keeps a b step).0) _ _ heard.frame)
     heard.faults_kept in
     let answered = c.answer_next-answered in
     record {
       same_lock = answered.ensures.same_lock ∙ before.invariant.same_lock;
-      served = subst (HasServed g.P.Source.left g.P.Source.taken g.P.Sink.written g.P.Source.faults c.args.desk.0 c.args.pass.view
+      served = subst (HasServed g.P.Source.left g.P.Source.taken g.P.Sink.written g.P.Source.faults (λ v. v) (HasSession (IsReadAs true) c.args.desk.0) c.args.pass.view
           answered.result.pass.view c.args.link.now answered.new.link) (sym answered.ensures.passed)
-          (goes-on g.P.Source.left g.P.Source.taken g.P.Sink.written g.P.Source.faults c.args.desk.0 c.args.pass.view c.args.link.now
+          (goes-on g.P.Source.left g.P.Source.taken g.P.Sink.written g.P.Source.faults (λ v. v) (HasSession (IsReadAs true) c.args.desk.0) c.args.pass.view c.args.link.now
           before.pass.view answered.result.pass.view c.hear.new.source answered.new.link c.hear.new.self _ served
           next.0 next.1 answered.ensures.rest answered.ensures.left_kept answered.ensures.taken_kept answered.result.end
-          answered.ensures.answered c.in_default.is);
+          (one-answered c.args.desk.0 _ _ _ _ _ _ _ _ _ answered.ensures.answered) c.in_default.is);
       still_open = answered.ensures.ended_kept ∙ (Chained-keeps g.P.Source.read_leaves g.P.Link.ended (λ a b step. ((g.met.P.Link g.world.𝓛 g.world.𝓜 g.world.𝓡 ((λ s x. x), (λ x. x), (λ x. x), (λ x. x))).read_keeps a b step).1) _ _ c.hear.ensures.frame)
           ∙ before.invariant.still_open;
     }
 
 pub returns-in-Err-clause-serves : goal.returns-in-Err-clause-serves
 returns-in-Err-clause-serves g c =
-    serves-read_fault g.P.Source.left g.P.Source.taken g.P.Sink.written g.P.Source.faults c.args.desk.0 c.args.pass.view c.args.link.now
+    serves-read_fault g.P.Source.left g.P.Source.taken g.P.Sink.written g.P.Source.faults (λ v. v) (HasSession (IsReadAs true) c.args.desk.0) c.args.pass.view c.args.link.now
     c.loop.pass.view c.loop.link c.hear.new.source c.loop.inbox c.hear.new.self c.loop.invariant.served c.hear.ensures.takes_in
     (Chained-keeps g.P.Source.read_leaves g.P.Sink.written (λ a b step. ((g.met.P.Link g.world.𝓛 g.world.𝓜 g.world.𝓡 ((λ s x. x), (λ x. x), (λ x. x), (λ x. x))).read_keeps a b step).0) _ _ c.hear.ensures.frame)
     c.in-Err.ensures.fault
@@ -52,12 +56,12 @@ returns-in-Ok-Last-clause-serves g c =
     let heard = c.in-Ok-Last.ensures in
     let last = heard_last c.hear.new.self c.in-Ok-Last.field-0-is heard.heard heard.limit in
     let so_far = before.invariant.served.so_far in
-    let served = served-heard g.P.Source.left g.P.Source.taken g.P.Sink.written g.P.Source.faults c.args.desk.0 c.args.pass.view c.args.link.now
+    let served = served-heard g.P.Source.left g.P.Source.taken g.P.Sink.written g.P.Source.faults (λ v. v) (HasSession (IsReadAs true) c.args.desk.0) c.args.pass.view c.args.link.now
     before.pass.view before.link c.hear.new.source before.inbox c.hear.new.self before.invariant.served heard.takes_in
     (Chained-keeps g.P.Source.read_leaves g.P.Sink.written (λ a b step. ((g.met.P.Link g.world.𝓛 g.world.𝓜 g.world.𝓡 ((λ s x. x), (λ x. x), (λ x. x), (λ x. x))).read_keeps a b step).0) _ _ heard.frame)
     heard.faults_kept in
     let ended = c.end_at-end in
-    serves-last g.P.Source.left g.P.Source.taken g.P.Sink.written g.P.Source.faults c.args.desk.0 c.args.pass.view c.args.link.now
+    serves-last g.P.Source.left g.P.Source.taken g.P.Sink.written g.P.Source.faults (λ v. v) (HasSession (IsReadAs true) c.args.desk.0) c.args.pass.view c.args.link.now
     before.pass.view c.hear.new.source ended.new.link c.hear.new.self served ended.ensures.left_kept ended.ensures.taken_kept
     c.in-Ok-Last.stop ended.result last.0 last.1
     (λ same. all-came (g.P.Source.left c.args.link.now) (g.P.Source.left before.link) so_far.stream heard.takes_in.piece before.inbox.bytes
@@ -75,15 +79,15 @@ returns-in-Some-end-clause-serves g c =
     let before = c.loop in
     let heard = c.in-Ok-Next.ensures in
     let next = heard_next c.hear.new.self.bytes (c.in-Ok-Next.field-0-is ∙ ap Next (sym c.in-Ok-Next.request-is)) heard.heard heard.there in
-    let served = served-heard g.P.Source.left g.P.Source.taken g.P.Sink.written g.P.Source.faults c.args.desk.0 c.args.pass.view c.args.link.now
+    let served = served-heard g.P.Source.left g.P.Source.taken g.P.Sink.written g.P.Source.faults (λ v. v) (HasSession (IsReadAs true) c.args.desk.0) c.args.pass.view c.args.link.now
     before.pass.view before.link c.hear.new.source before.inbox c.hear.new.self before.invariant.served heard.takes_in
     (Chained-keeps g.P.Source.read_leaves g.P.Sink.written (λ a b step. ((g.met.P.Link g.world.𝓛 g.world.𝓜 g.world.𝓡 ((λ s x. x), (λ x. x), (λ x. x), (λ x. x))).read_keeps a b step).0) _ _ heard.frame)
     heard.faults_kept in
     let answered = c.answer_next-answered in
-    serves-answered g.P.Source.left g.P.Source.taken g.P.Sink.written g.P.Source.faults c.args.desk.0 c.args.pass.view c.args.link.now
+    serves-answered g.P.Source.left g.P.Source.taken g.P.Sink.written g.P.Source.faults (λ v. v) (HasSession (IsReadAs true) c.args.desk.0) c.args.pass.view c.args.link.now
     before.pass.view answered.result.pass.view c.hear.new.source answered.new.link c.hear.new.self _ served
     next.0 next.1 answered.ensures.rest answered.ensures.left_kept answered.ensures.taken_kept answered.result.end
-    answered.ensures.answered _ c.in-Some-end.is
+    (one-answered c.args.desk.0 _ _ _ _ _ _ _ _ _ answered.ensures.answered) _ c.in-Some-end.is
 
 pub returns-in-Err-clause-still_open : goal.returns-in-Err-clause-still_open
 returns-in-Err-clause-still_open g c =

@@ -1,5 +1,8 @@
 -- The session was served, or memory was wanting before it began, and then the link was ended.
-use Rattle.std.proofs.Common.{refl, sym, subst}
+use Rattle.std.proofs.Common.{true, refl, sym, subst}
+use Rattle.session_laws.specs.Sessions.{HasSession}
+use Rattle.session_laws.proofs.Bodies.{HasSession-none}
+use Rattle.voucher_json.specs.Requests.{IsReadAs}
 use Rattle.desk_server.specs.Served.{Serves}
 use Rattle.desk_server.specs.declared.session.End.TheVariants.{NoMemory}
 use Rattle.desk_server.proofs.Ending.{serves-none, serves-ended}
@@ -22,9 +25,11 @@ returns-clause-serves g c =
           l.pass.view c.args.link.now c.match-new.link l.end) (sym w.left-is)
           (subst (λ k. Serves {P = g.row.P.Denot} g.P.Source.left g.P.Source.taken g.P.Sink.written g.P.Source.faults c.args.desk.0 c.args.pass.view
           c.args.pass.view c.args.link.now k NoMemory) (sym w.link-is)
-          (serves-none g.P.Source.left g.P.Source.taken g.P.Sink.written g.P.Source.faults c.args.desk.0 c.args.pass.view c.args.link.now))
+          (serves-none g.P.Source.left g.P.Source.taken g.P.Sink.written g.P.Source.faults (λ v. v) (HasSession (IsReadAs true) c.args.desk.0)
+          c.args.pass.view c.args.link.now (HasSession-none (IsReadAs true) c.args.desk.0 c.args.pass.view)))
     ] in
-    serves-ended g.P.Source.left g.P.Source.taken g.P.Sink.written g.P.Source.faults c.args.desk.0 c.args.pass.view c.args.link.now
+    serves-ended g.P.Source.left g.P.Source.taken g.P.Sink.written g.P.Source.faults (λ v. v) (HasSession (IsReadAs true) c.args.desk.0)
+    c.args.pass.view c.args.link.now
     c.match-new.left.pass.view c.match-new.link c.end.new.self c.match-new.left.end served
     c.end.ensures.left_kept c.end.ensures.taken_kept c.end.ensures.written_kept c.end.ensures.faults_kept
 
@@ -44,6 +49,7 @@ returns-clause-still_open g c =
         served =
             subst (λ l. Serves {P = g.row.P.Denot} g.P.Source.left g.P.Source.taken g.P.Sink.written g.P.Source.faults c.args.desk.0 c.args.pass.view
             l.pass.view c.args.link.now c.args.link.now l.end) (sym w.left-is)
-            (serves-none g.P.Source.left g.P.Source.taken g.P.Sink.written g.P.Source.faults c.args.desk.0 c.args.pass.view c.args.link.now);
+            (serves-none g.P.Source.left g.P.Source.taken g.P.Sink.written g.P.Source.faults (λ v. v) (HasSession (IsReadAs true) c.args.desk.0)
+            c.args.pass.view c.args.link.now (HasSession-none (IsReadAs true) c.args.desk.0 c.args.pass.view));
       }
     ]
