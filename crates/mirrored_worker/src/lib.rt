@@ -1,0 +1,5 @@
+//! A worker beside a mirror: after each publication it shows there what was published, so that reports are read without the book's
+//! lock.
+#![tactic(auto)]
+
+pub mod next_generation;
