@@ -1,1 +1,4 @@
+pub mod Covering
+pub mod Looking
+pub mod MirroredRuns
 pub mod Wholes

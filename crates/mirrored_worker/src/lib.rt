@@ -3,3 +3,7 @@
 #![tactic(auto)]
 
 pub mod next_generation;
+pub mod run_mirrored;
+mod sending;
+pub mod show_published;
+mod shown_turn;
