@@ -2,6 +2,7 @@
 //! lock.
 #![tactic(auto)]
 
+pub mod mirrored_run_laws;
 pub mod next_generation;
 pub mod run_mirrored;
 mod sending;
