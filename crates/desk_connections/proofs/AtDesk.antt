@@ -3,14 +3,12 @@ use Rattle.std.proofs.Common.{◌≡◌, ℕ, ◌+◌, ◌^◌, ◌<◌, ◌≤�
 use Rattle.std.proofs.lemmas.Bool.{cases_lt}
 use Rattle.std.proofs.lemmas.List.{map-append, length-map, take-append-drop, take-append-le, take_all}
 use Rattle.std.specs.Prelude.{◌||◌}
-use Rattle.turn_lock.specs.declared.view.View.{View}
-use Rattle.stock_model.specs.declared.deeds.Deed.{Deed}
 use Rattle.shared_listener.proofs.StepLists.{comes-append, hangs-append, has_ended-append}
 use Rattle.shared_listener.specs.Steps.{comes, hangs, has_ended, NotesCame, NotesEnded, NotesHungUp}
 use Rattle.shared_listener.specs.declared.step.Step.{Step}
 use Rattle.shared_listener.specs.declared.step.Step.TheVariants.{Came, HungUp, Ended}
 use Rattle.desk_connections.specs.Desks.{ServesOne, HasServed}
-use Rattle.desk_connections.specs.Visits.{Visit, Lead}
+use Rattle.desk_connections.specs.Visits.{Visit, Learnt, Lead}
 use Rattle.desk_connections.specs.Ways.{OneAtATime}
 use Rattle.desk_connections.proofs.Visiting.{Lead-more}
 
@@ -40,14 +38,14 @@ module _ {L P : Type 0} where
 
 module _ {L P : Type 0} (is_visit : Visit P → Type 0) where
   -- the peers that came were served and handed back, and one more is at the desk
-  pub record HasPeer (pass pass' : View Deed) (made : List (ℕ × Step L P)) (peer : P) : Type 0 where
+  pub record HasPeer (pass pass' : Learnt) (made : List (ℕ × Step L P)) (peer : P) : Type 0 where
     pub visits : List (Visit P)
     pub lead : Lead is_visit pass pass' visits
     pub came : comes made ≡ map (λ visit. visit.peer) visits ++ peer ∷ []
     pub went : hangs made ≡ map (λ visit. visit.peer_then) visits
     pub one_at_a_time : OneAtATime made
 
-  pub has-first : (pass : View Deed) (made : List (ℕ × Step L P)) (first : P) → comes made ≡ first ∷ [] → hangs made ≡ []
+  pub has-first : (pass : Learnt) (made : List (ℕ × Step L P)) (first : P) → comes made ≡ first ∷ [] → hangs made ≡ []
       → HasPeer pass pass made first
   has-first pass made first came none_went = record {
     visits = [];
@@ -58,7 +56,7 @@ module _ {L P : Type 0} (is_visit : Visit P → Type 0) where
   }
 
   -- no more peers were handed back than came, and one fewer while one is at the desk
-  pub fewer-went : (pass pass' : View Deed) (made : List (ℕ × Step L P)) (peer : P) → HasPeer pass pass' made peer
+  pub fewer-went : (pass pass' : Learnt) (made : List (ℕ × Step L P)) (peer : P) → HasPeer pass pass' made peer
       → length (hangs made) < length (comes made)
   fewer-went pass pass' made peer has =
       omega (
@@ -95,7 +93,7 @@ module _ {L P : Type 0} (is_visit : Visit P → Type 0) where
       )
 
   -- the peer was served and handed back
-  pub then-none : (number : ℕ) (pass mid new : View Deed) (made made' : List (ℕ × Step L P)) (peer : P)
+  pub then-none : (number : ℕ) (pass mid new : Learnt) (made made' : List (ℕ × Step L P)) (peer : P)
       → HasPeer pass mid made peer → ServesOne is_visit number mid new made made' peer → HasServed is_visit pass new made'
   then-none number pass mid new made made' peer has one =
       let step : ℕ × Step L P = (number, HungUp one.went.0) in
@@ -110,8 +108,8 @@ module _ {L P : Type 0} (is_visit : Visit P → Type 0) where
       record {
         visits = has.visits ++ one.visit ∷ [];
         lead =
-            Lead-more is_visit pass new has.visits one.visit (subst (λ (v : View Deed). Lead is_visit pass v has.visits) (sym one.old) has.lead)
-            one.is one.new;
+            Lead-more is_visit pass new has.visits one.visit (subst (λ (v : Learnt). Lead is_visit pass v has.visits) (sym one.before) has.lead)
+            one.is one.after;
         came = came;
         went = went;
         one_at_a_time =
@@ -119,7 +117,7 @@ module _ {L P : Type 0} (is_visit : Visit P → Type 0) where
       }
 
   -- the next peer came
-  pub then-peer : (number : ℕ) (pass pass' : View Deed) (made made' : List (ℕ × Step L P)) (peer : P)
+  pub then-peer : (number : ℕ) (pass pass' : Learnt) (made made' : List (ℕ × Step L P)) (peer : P)
       → HasServed is_visit pass pass' made → NotesCame number peer made made' → HasPeer pass pass' made' peer
   then-peer number pass pass' made made' peer has noted =
       let step : ℕ × Step L P = (number, Came noted.0) in
@@ -137,7 +135,7 @@ module _ {L P : Type 0} (is_visit : Visit P → Type 0) where
       }
 
   -- no further peer came
-  pub ended-none : (number : ℕ) (pass pass' : View Deed) (made made' : List (ℕ × Step L P))
+  pub ended-none : (number : ℕ) (pass pass' : Learnt) (made made' : List (ℕ × Step L P))
       → HasServed is_visit pass pass' made → NotesEnded number made made' → HasServed is_visit pass pass' made'
   ended-none number pass pass' made made' has ended =
       let step : ℕ × Step L P = (number, Ended) in

@@ -2,17 +2,16 @@
 ghost use Rattle.std.specs.Prelude.{◌≡◌, ◌^◌, ◌<◌, ◌≤◌, true, length};
 ghost use Rattle.stock_nums.specs.declared.limits.TheConstants.{MAX_DESK};
 ghost use Rattle.desk_server.specs.Exchanging.{LeavesRest};
-ghost use Rattle.turn_lock.specs.declared.view.View.{View};
-ghost use Rattle.stock_model.specs.declared.deeds.Deed.{Deed};
 ghost use Rattle.shared_listener.specs.Steps.{comes, hangs, has_ended};
 ghost use Rattle.desk_connections.specs.Desks.{HasServed, ServesOne};
-ghost use Rattle.desk_connections.specs.Visits.{IsVisit};
+ghost use Rattle.desk_connections.specs.Visits.{Learnt, learnt, IsVisit};
 ghost use Rattle.desk_connections.specs.Ways.{IsWay, LeavesWay};
 
 use crate::finding::{FEW_TURNS, find, rest};
 use crate::handing_back::give_back;
-use desk_server::session::serve_desk;
 use generation_book::book::Book;
+use mirrored_desk::session::serve_desk_mirrored;
+use report_mirror::reader::MirrorReader;
 use shared_listener::listener::SharedListener;
 use std::alloc::Global;
 use std::sync::Wait;
@@ -23,10 +22,11 @@ use stock_nums::numbers::DeskNo;
 use turn_lock::lock::TurnLock;
 use turn_lock::pass::Pass;
 
-/// What a desk has: its pass of the book's lock, and its way to the listener, which is its pass of that lock.
+/// What a desk has: its pass of the book's lock, its reader of the mirror, and its way to the listener, which is its pass of that lock.
 #[derive(Drop)]
 pub struct Desk<K: Keeper, L: Listener> {
     pub pass: Pass<Book<K>>,
+    pub reader: MirrorReader,
     pub way: Pass<SharedListener<L>>,
 }
 
@@ -56,9 +56,11 @@ pub fn go_further<K: Keeper, P: Link, L: Listener<Peer = P>, R: Wait>(
     ensures over { has_ended result.way.view.made ≡ true }
 
     // What the desk had served before, it has served with these behind it.
-    ensures served { (before : View Deed)
-        → HasServed (IsVisit P.left P.taken P.written P.Source.faults P.ended number.0) before desk.pass.view desk.way.view.made
-        → HasServed (IsVisit P.left P.taken P.written P.Source.faults P.ended number.0) before result.pass.view result.way.view.made }
+    ensures served { (before : Learnt)
+        → HasServed (IsVisit P.left P.taken P.written P.Source.faults P.ended number.0) before
+        (learnt desk.pass.view desk.reader) desk.way.view.made
+        → HasServed (IsVisit P.left P.taken P.written P.Source.faults P.ended number.0) before
+        (learnt result.pass.view result.reader) result.way.view.made }
 {
     let mut desk = desk;
     for _ in rt.forever() {
@@ -101,13 +103,14 @@ pub fn serve_one<K: Keeper, P: Link, L: Listener<Peer = P>, R: Wait>(
     ensures way_rest { LeavesWay desk.way.view result.way.view }
     ensures way { IsWay result.way.view }
     ensures served { ServesOne (IsVisit P.left P.taken P.written P.Source.faults P.ended number.0) number.0
-        desk.pass.view result.pass.view desk.way.view.made result.way.view.made peer }
+        (learnt desk.pass.view desk.reader) (learnt result.pass.view result.reader) desk.way.view.made result.way.view.made peer }
 {
-    let Desk { pass, way } = desk;
+    let Desk { pass, reader, way } = desk;
     let mut peer = peer;
-    let left = serve_desk(rt, alloc, lock, pass, number, &mut peer);
+    let left = serve_desk_mirrored(rt, alloc, lock, pass, reader, number, &mut peer);
     Desk {
         pass: left.pass,
+        reader: left.reader,
         way: give_back(rt, shared, number, way, peer),
     }
 }

@@ -1,6 +1,6 @@
 -- One more peer came, was served and handed back, or none did.
 use Rattle.std.proofs.Common.{◌≡◌, ◌+◌, ◌<◌, ◌∙◌, length, sym, subst, arith}
-use Rattle.desk_connections.specs.Visits.{IsVisit}
+use Rattle.desk_connections.specs.Visits.{learnt, IsVisit}
 use Rattle.desk_connections.specs.Ways.{Finds}
 use Rattle.desk_connections.proofs.AtDesk.{HasPeer, one-came, one-went, was-told, then-peer, then-none, ended-none}
 use Rattle.desk_connections.proofs.WayTurns.{rest-through}
@@ -19,6 +19,7 @@ loop-preserved g c =
     let before = c.loop in
     let found = c.find-found in
     let one = c.serve_one-desk in
+    let known = learnt before.desk.pass.view before.desk.reader in
     let number = c.args.number.0 in
     let peer = c.in-Some-next.peer in
     let is_visit = IsVisit g.P.Source.left g.P.Source.taken g.P.Sink.written g.P.Source.faults g.P.Link.ended number in
@@ -36,9 +37,9 @@ loop-preserved g c =
       way = one.ensures.way;
       all_back = omega (arith, before.invariant.all_back, counts.0, counts.1, counts_then.0, counts_then.1);
       served = λ first has.
-          then-none is_visit number first before.desk.pass.view one.result.pass.view found.result.way.view.made one.result.way.view.made _
-          (subst (λ p. HasPeer is_visit first before.desk.pass.view found.result.way.view.made p) (sym c.in-Some-next.peer-is)
-          (then-peer is_visit number first before.desk.pass.view before.desk.way.view.made found.result.way.view.made peer
+          then-none is_visit number first known (learnt one.result.pass.view one.result.reader) found.result.way.view.made one.result.way.view.made _
+          (subst (λ p. HasPeer is_visit first known found.result.way.view.made p) (sym c.in-Some-next.peer-is)
+          (then-peer is_visit number first known before.desk.way.view.made found.result.way.view.made peer
           (before.invariant.served first has) came)) one.ensures.served;
     }
 
@@ -54,5 +55,5 @@ returns-in-None-next-clause-served g c first has =
     let way = c.loop.desk.way.view in
     let found = c.find-found in
     ended-none (IsVisit g.P.Source.left g.P.Source.taken g.P.Sink.written g.P.Source.faults g.P.Link.ended c.args.number.0) c.args.number.0 first
-    c.loop.desk.pass.view way.made found.result.way.view.made (c.loop.invariant.served first has)
+    (learnt c.loop.desk.pass.view c.loop.desk.reader) way.made found.result.way.view.made (c.loop.invariant.served first has)
     (subst (λ next. Finds c.args.number.0 way next found.result.way.view) c.in-None-next.is found.ensures.found)

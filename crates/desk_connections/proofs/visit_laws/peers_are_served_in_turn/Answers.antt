@@ -9,4 +9,4 @@ returns-clause-each g c desk =
 pub returns-clause-in_turn : goal.returns-clause-in_turn
 returns-clause-in_turn g c desk =
     later_begins (IsVisit g.P.Source.left g.P.Source.taken g.P.Sink.written g.P.Source.faults g.P.Link.ended desk)
-    (λ visit is. is.serves.session.1.grows)
+    (λ visit is. (is.serves.served.session.session.session.grows, is.serves.served.session.session.grows))
