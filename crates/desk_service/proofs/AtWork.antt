@@ -26,13 +26,14 @@ All-two P Q (x ∷ xs) ps qs =
     All-cons (λ y. P y × Q y) x xs (All-head P x xs ps, All-head Q x xs qs) (All-two P Q xs (All-tail P x xs ps) (All-tail Q x xs qs))
 
 module _ {L P : Type 0} (left : P → Option (List ℕ)) (taken : P → ℕ) (written : P → Option (List ℕ)) (faults : P → ℕ) (ended : P → Bool) where
-  abbrev pub attends : ℕ → PassView Deed → PassView Deed → PassView (Step L P) → PassView (Step L P) → Type 0
-  attends = λ desk pass pass' way way'. IsBegun left taken written faults ended desk pass pass' way way' true
+  abbrev pub attends : ℕ → Work L P → Type 0
+  attends = λ desk work.
+      IsBegun left taken written faults ended desk work.pass work.pass_then work.read work.read_then work.way work.way_then true
 
-  pass_is : (n : ℕ) (work : Work L P) → attends n work.pass work.pass_then work.way work.way_then → work.pass_then.view.number ≡ n
+  pass_is : (n : ℕ) (work : Work L P) → attends n work → work.pass_then.view.number ≡ n
   pass_is n work did = ap (λ (v : View Deed). v.number) did.rest ∙ did.number
 
-  way_is : (n : ℕ) (work : Work L P) → attends n work.pass work.pass_then work.way work.way_then → work.way_then.view.number ≡ n
+  way_is : (n : ℕ) (work : Work L P) → attends n work → work.way_then.view.number ≡ n
   way_is n work did = ap (λ (v : View (Step L P)). v.number) did.way_rest ∙ did.way_number
 
   module _ (number : ℕ) where
@@ -92,7 +93,7 @@ module _ {L P : Type 0} (left : P → Option (List ℕ)) (taken : P → ℕ) (wr
       pub work : Work L P
       pub desk : ℕ
       pub desk_is : desk ≡ k
-      pub did : attends desk work.pass work.pass_then work.way work.way_then
+      pub did : attends desk work
       pub facts : Facts work
       pub visits_are : visits_at k works all ≡ did.served.visits
       pub made : made_in k (map (λ w. w.pass_then) works) ≡ work.pass_then.view.made

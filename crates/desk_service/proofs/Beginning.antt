@@ -6,11 +6,12 @@ use Rattle.atomic_table.specs.Seated.{TableId}
 use Rattle.turn_lock.specs.Passes.{PassView}
 use Rattle.turn_lock.specs.declared.view.View.{View}
 use Rattle.stock_model.specs.declared.deeds.Deed.{Deed}
+use Rattle.stock_model.specs.declared.records.Record.{Record}
 use Rattle.shared_listener.specs.Steps.{comes, hangs, has_ended, NotesCame, NotesEnded}
 use Rattle.shared_listener.specs.declared.step.Step.{Step}
 use Rattle.desk_connections.specs.Desks.{HasServed, ServesOne}
 use Rattle.desk_server.specs.Exchanging.{LeavesRest}
-use Rattle.desk_connections.specs.Visits.{Visit, IsVisit}
+use Rattle.desk_connections.specs.Visits.{Learnt, learnt, Visit, IsVisit}
 use Rattle.desk_connections.specs.Ways.{IsWay, LeavesWay, Finds}
 use Rattle.desk_connections.proofs.AtDesk.{has-first, then-none, ended-none, was-told, one-came}
 use Rattle.desk_connections.proofs.WayTurns.{rest-through}
@@ -19,29 +20,29 @@ use Rattle.desk_service.specs.Passes.{fresh}
 use Rattle.desk_service.specs.Serving.{Serving}
 
 -- what was promised of equal inputs
-pub as_promised : {V W : Type 0} (attends : ℕ → V → W → Type 0) (n m : ℕ) (a b : V) (v w : W)
-    → (m ≡ n) × (b ≡ a) × (w ≡ v) → attends m b w → attends n a v
-as_promised {V} {W} attends n m a b v w same done =
-    subst (λ (z : ℕ × V × W). attends z.0 z.1 z.2) (λ i. (same.0 i, same.1 i, same.2 i)) done
+pub as_promised : {V R W : Type 0} (attends : ℕ → V → R → W → Type 0) (n m : ℕ) (a b : V) (r s : R) (v w : W)
+    → (m ≡ n) × (b ≡ a) × (s ≡ r) × (w ≡ v) → attends m b s w → attends n a r v
+as_promised {V} {R} {W} attends n m a b r s v w same done =
+    subst (λ (z : ℕ × V × R × W). attends z.0 z.1 z.2 z.3) (λ i. (same.0 i, same.1 i, same.2 i, same.3 i)) done
 
 none_at_once : (L P : Type 0) (n : ℕ) → length (comes {L = L} {P = P} (take n [])) ≤ length (hangs {L = L} {P = P} (take n [])) + 1
 none_at_once L P zero = omega arith
 none_at_once L P (suc n) = omega arith
 
 module _ {L P : Type 0} (is_visit : Visit P → Type 0) (number : ℕ) where
-  none_served : (pass : View Deed) → HasServed {L = L} is_visit pass pass []
-  none_served pass = record { visits = []; lead = refl; came = refl; went = refl; one_at_a_time = λ n. none_at_once L P n }
+  none_served : (known : Learnt) → HasServed {L = L} is_visit known known []
+  none_served known = record { visits = []; lead = refl; came = refl; went = refl; one_at_a_time = λ n. none_at_once L P n }
 
   -- the first peer that came was served and handed back
-  pub first_served : (pass new : View Deed) (made made' : List (ℕ × Step L P)) (peer : P) → NotesCame number peer [] made
-      → ServesOne is_visit number pass new made made' peer → HasServed is_visit pass new made'
-  first_served pass new made made' peer noted one =
+  pub first_served : (known new : Learnt) (made made' : List (ℕ × Step L P)) (peer : P) → NotesCame number peer [] made
+      → ServesOne is_visit number known new made made' peer → HasServed is_visit known new made'
+  first_served known new made made' peer noted one =
       let came : comes made ≡ peer ∷ [] = ap comes noted.1 ∙ ap (λ (p : P). p ∷ []) noted.2 in
-      then-none is_visit number pass pass new made made' peer (has-first is_visit pass made peer came (ap hangs noted.1)) one
+      then-none is_visit number known known new made made' peer (has-first is_visit known made peer came (ap hangs noted.1)) one
 
   -- none came
-  pub none_came : (pass : View Deed) (made : List (ℕ × Step L P)) → NotesEnded number [] made → HasServed is_visit pass pass made
-  none_came pass made ended = ended-none is_visit number pass pass [] made (none_served pass) ended
+  pub none_came : (known : Learnt) (made : List (ℕ × Step L P)) → NotesEnded number [] made → HasServed is_visit known known made
+  none_came known made ended = ended-none is_visit number known known [] made (none_served known) ended
 
   -- the first peer is at the desk
   pub is_there : (made : List (ℕ × Step L P)) (peer : P) → NotesCame number peer [] made → length (hangs made) < length (comes made)
@@ -50,9 +51,9 @@ module _ {L P : Type 0} (is_visit : Visit P → Type 0) (number : ℕ) where
       omega (arith, counts.0, counts.1)
 
   -- a desk that has served its peers has none
-  pub all_back : (pass new : View Deed) (made : List (ℕ × Step L P)) → HasServed is_visit pass new made
+  pub all_back : (known new : Learnt) (made : List (ℕ × Step L P)) → HasServed is_visit known new made
       → length (hangs made) ≡ length (comes made)
-  all_back pass new made has =
+  all_back known new made has =
       omega (
         arith,
         ap length has.came,
@@ -75,11 +76,11 @@ IsFirst-found number None old new none found = subst (λ z. NotesEnded number z 
 
 module _ {L P : Type 0} (left : P → Option (List ℕ)) (taken : P → ℕ) (written : P → Option (List ℕ)) (faults : P → ℕ) (ended : P → Bool) where
   -- the desk's way had found its first peer before
-  pub IsBegun-found : (desk : ℕ) (pass pass' : PassView Deed) (way mid way' : PassView (Step L P)) (is_over : Bool)
+  pub IsBegun-found : (desk : ℕ) (pass pass' : PassView Deed) (read read' : List Record) (way mid way' : PassView (Step L P)) (is_over : Bool)
       → way.view.number ≡ desk → mid.lock ≡ way.lock → LeavesWay way.view mid.view
-      → IsBegun left taken written faults ended desk pass pass' mid way' is_over
-      → IsBegun left taken written faults ended desk pass pass' way way' is_over
-  IsBegun-found desk pass pass' way mid way' is_over number lock rest begun = record {
+      → IsBegun left taken written faults ended desk pass pass' read read' mid way' is_over
+      → IsBegun left taken written faults ended desk pass pass' read read' way way' is_over
+  IsBegun-found desk pass pass' read read' way mid way' is_over number lock rest begun = record {
     number = begun.number;
     way_number = number;
     same_lock = begun.same_lock;
@@ -92,12 +93,13 @@ module _ {L P : Type 0} (left : P → Option (List ℕ)) (taken : P → ℕ) (wr
   }
 
   -- its first peer was served
-  pub IsBegun-first : (desk : ℕ) (pass mid : PassView Deed) (way way_mid : PassView (Step L P)) (peer : P)
+  pub IsBegun-first : (desk : ℕ) (pass mid : PassView Deed) (read read_mid : List Record) (way way_mid : PassView (Step L P)) (peer : P)
       → pass.view.number ≡ desk → way.view.number ≡ desk → mid.lock ≡ pass.lock → way_mid.lock ≡ way.lock
       → LeavesRest pass.view mid.view → LeavesWay way.view way_mid.view → IsWay way_mid.view → NotesCame desk peer [] way.view.made
-      → ServesOne (IsVisit left taken written faults ended desk) desk pass.view mid.view way.view.made way_mid.view.made peer
-      → IsBegun left taken written faults ended desk pass mid way way_mid false
-  IsBegun-first desk pass mid way way_mid peer number way_number lock way_lock rest way_rest is_way came one = record {
+      → ServesOne (IsVisit left taken written faults ended desk) desk (learnt pass.view read) (learnt mid.view read_mid) way.view.made
+      way_mid.view.made peer
+      → IsBegun left taken written faults ended desk pass mid read read_mid way way_mid false
+  IsBegun-first desk pass mid read read_mid way way_mid peer number way_number lock way_lock rest way_rest is_way came one = record {
     number = number;
     way_number = way_number;
     same_lock = lock;
@@ -105,19 +107,21 @@ module _ {L P : Type 0} (left : P → Option (List ℕ)) (taken : P → ℕ) (wr
     rest = rest;
     way_rest = way_rest;
     is_way = is_way;
-    served = first_served (IsVisit left taken written faults ended desk) desk pass.view mid.view way.view.made way_mid.view.made peer came one;
+    served =
+        first_served (IsVisit left taken written faults ended desk) desk (learnt pass.view read) (learnt mid.view read_mid) way.view.made
+        way_mid.view.made peer came one;
     told = λ over. absurd (cc);
   }
 
   -- then it went further, until it was told the end
-  pub IsBegun-on : (desk : ℕ) (pass mid new : PassView Deed) (way way_mid way_new : PassView (Step L P)) (is_over : Bool)
-      → IsBegun left taken written faults ended desk pass mid way way_mid is_over
+  pub IsBegun-on : (desk : ℕ) (pass mid new : PassView Deed) (read read_mid read_new : List Record) (way way_mid way_new : PassView (Step L P))
+      (is_over : Bool) → IsBegun left taken written faults ended desk pass mid read read_mid way way_mid is_over
       → new.lock ≡ mid.lock → way_new.lock ≡ way_mid.lock → LeavesRest mid.view new.view → LeavesWay way_mid.view way_new.view → IsWay way_new.view
       → has_ended way_new.view.made ≡ true
-      → ((before : View Deed) → HasServed (IsVisit left taken written faults ended desk) before mid.view way_mid.view.made
-      → HasServed (IsVisit left taken written faults ended desk) before new.view way_new.view.made)
-      → IsBegun left taken written faults ended desk pass new way way_new true
-  IsBegun-on desk pass mid new way way_mid way_new is_over begun lock way_lock rest way_rest is_way told goes = record {
+      → ((before : Learnt) → HasServed (IsVisit left taken written faults ended desk) before (learnt mid.view read_mid) way_mid.view.made
+      → HasServed (IsVisit left taken written faults ended desk) before (learnt new.view read_new) way_new.view.made)
+      → IsBegun left taken written faults ended desk pass new read read_new way way_new true
+  IsBegun-on desk pass mid new read read_mid read_new way way_mid way_new is_over begun lock way_lock rest way_rest is_way told goes = record {
     number = begun.number;
     way_number = begun.way_number;
     same_lock = lock ∙ begun.same_lock;
@@ -125,14 +129,14 @@ module _ {L P : Type 0} (left : P → Option (List ℕ)) (taken : P → ℕ) (wr
     rest = rest-through pass.view mid.view new.view begun.rest rest;
     way_rest = rest-through way.view way_mid.view way_new.view begun.way_rest way_rest;
     is_way = is_way;
-    served = goes pass.view begun.served;
+    served = goes (learnt pass.view read) begun.served;
     told = λ over. told;
   }
 
   -- no peer came
-  pub IsBegun-none : (desk : ℕ) (pass : PassView Deed) (way : PassView (Step L P)) → pass.view.number ≡ desk → way.view.number ≡ desk
-      → IsWay way.view → NotesEnded desk [] way.view.made → IsBegun left taken written faults ended desk pass pass way way true
-  IsBegun-none desk pass way number way_number is_way ended_is = record {
+  pub IsBegun-none : (desk : ℕ) (pass : PassView Deed) (read : List Record) (way : PassView (Step L P)) → pass.view.number ≡ desk → way.view.number ≡ desk
+      → IsWay way.view → NotesEnded desk [] way.view.made → IsBegun left taken written faults ended desk pass pass read read way way true
+  IsBegun-none desk pass read way number way_number is_way ended_is = record {
     number = number;
     way_number = way_number;
     same_lock = refl;
@@ -140,37 +144,53 @@ module _ {L P : Type 0} (left : P → Option (List ℕ)) (taken : P → ℕ) (wr
     rest = refl;
     way_rest = refl;
     is_way = is_way;
-    served = none_came (IsVisit left taken written faults ended desk) desk pass.view way.view.made ended_is;
+    served = none_came (IsVisit left taken written faults ended desk) desk (learnt pass.view read) way.view.made ended_is;
     told = λ over. was-told desk [] way.view.made ended_is;
   }
 
-module _ {L P : Type 0} (attends : ℕ → PassView Deed → PassView Deed → PassView (Step L P) → PassView (Step L P) → Type 0) (number : ℕ) where
-  pub Serving-none : (passes : List (PassView Deed)) (ways : List (PassView (Step L P))) → passes ≡ [] → ways ≡ []
-      → Serving attends number passes passes ways ways
-  Serving-none passes ways none no_way =
-      record { works = []; attended = tt; before = none; after = none; ways_before = no_way; ways_after = no_way }
+module _ {L P : Type 0} (attends : ℕ → Work L P → Type 0) (number : ℕ) where
+  pub Serving-none : (passes : List (PassView Deed)) (reads : List (List Record)) (ways : List (PassView (Step L P)))
+      → passes ≡ [] → reads ≡ [] → ways ≡ [] → Serving attends number passes passes reads reads ways ways
+  Serving-none passes reads ways none no_read no_way = record {
+    works = [];
+    attended = tt;
+    before = none;
+    after = none;
+    reads_before = no_read;
+    reads_after = no_read;
+    ways_before = no_way;
+    ways_after = no_way;
+  }
 
-  attended-more : (work : Work L P) (works : List (Work L P)) → attends number work.pass work.pass_then work.way work.way_then
+  attended-more : (work : Work L P) (works : List (Work L P)) → attends number work
       → AreAttended attends (number + 1) works → AreAttended attends number (works ++ work ∷ [])
-  attended-more work [] first all = (subst (λ (n : ℕ). attends n work.pass work.pass_then work.way work.way_then) (omega arith) first, tt)
+  attended-more work [] first all = (subst (λ (n : ℕ). attends n work) (omega arith) first, tt)
   attended-more work (last ∷ works) first all =
       let n : number + 1 + length works ≡ number + length (works ++ work ∷ []) = omega (arith, length-append works (work ∷ [])) in
-      (subst (λ (n : ℕ). attends n last.pass last.pass_then last.way last.way_then) n all.0, attended-more work works first all.1)
+      (subst (λ (n : ℕ). attends n last) n all.0, attended-more work works first all.1)
 
-  pub Serving-more : (work : Work L P) (rest rest' passes passes' : List (PassView Deed)) (other other' ways ways' : List (PassView (Step L P)))
-      → attends number work.pass work.pass_then work.way work.way_then
+  pub Serving-more : (work : Work L P) (rest rest' passes passes' : List (PassView Deed)) (read read' reads reads' : List (List Record))
+      (other other' ways ways' : List (PassView (Step L P))) → attends number work
       → passes ≡ rest ++ work.pass ∷ [] → passes' ≡ rest' ++ work.pass_then ∷ []
+      → reads ≡ read ++ work.read ∷ [] → reads' ≡ read' ++ work.read_then ∷ []
       → ways ≡ other ++ work.way ∷ [] → ways' ≡ other' ++ work.way_then ∷ []
-      → Serving attends (number + 1) rest rest' other other' → Serving attends number passes passes' ways ways'
-  Serving-more work rest rest' passes passes' other other' ways ways' attended before after ways_before ways_after s = record {
-    works = s.works ++ work ∷ [];
-    attended = attended-more work s.works attended s.attended;
-    before = before ∙ ap (λ (z : List (PassView Deed)). z ++ work.pass ∷ []) s.before ∙ sym (map-append (λ (w : Work L P). w.pass) s.works (work ∷ []));
-    after = after ∙ ap (λ (z : List (PassView Deed)). z ++ work.pass_then ∷ []) s.after ∙ sym (map-append (λ (w : Work L P). w.pass_then) s.works (work ∷ []));
-    ways_before =
-        ways_before ∙ ap (λ (z : List (PassView (Step L P))). z ++ work.way ∷ []) s.ways_before
-        ∙ sym (map-append (λ (w : Work L P). w.way) s.works (work ∷ []));
-    ways_after =
-        ways_after ∙ ap (λ (z : List (PassView (Step L P))). z ++ work.way_then ∷ []) s.ways_after
-        ∙ sym (map-append (λ (w : Work L P). w.way_then) s.works (work ∷ []));
-  }
+      → Serving attends (number + 1) rest rest' read read' other other' → Serving attends number passes passes' reads reads' ways ways'
+  Serving-more work rest rest' passes passes' read read' reads reads' other other' ways ways' attended before after reads_before reads_after
+      ways_before ways_after s = record {
+        works = s.works ++ work ∷ [];
+        attended = attended-more work s.works attended s.attended;
+        before = before ∙ ap (λ (z : List (PassView Deed)). z ++ work.pass ∷ []) s.before ∙ sym (map-append (λ (w : Work L P). w.pass) s.works (work ∷ []));
+        after = after ∙ ap (λ (z : List (PassView Deed)). z ++ work.pass_then ∷ []) s.after ∙ sym (map-append (λ (w : Work L P). w.pass_then) s.works (work ∷ []));
+        reads_before =
+            reads_before ∙ ap (λ (z : List (List Record)). z ++ work.read ∷ []) s.reads_before
+            ∙ sym (map-append (λ (w : Work L P). w.read) s.works (work ∷ []));
+        reads_after =
+            reads_after ∙ ap (λ (z : List (List Record)). z ++ work.read_then ∷ []) s.reads_after
+            ∙ sym (map-append (λ (w : Work L P). w.read_then) s.works (work ∷ []));
+        ways_before =
+            ways_before ∙ ap (λ (z : List (PassView (Step L P))). z ++ work.way ∷ []) s.ways_before
+            ∙ sym (map-append (λ (w : Work L P). w.way) s.works (work ∷ []));
+        ways_after =
+            ways_after ∙ ap (λ (z : List (PassView (Step L P))). z ++ work.way_then ∷ []) s.ways_after
+            ∙ sym (map-append (λ (w : Work L P). w.way_then) s.works (work ∷ []));
+      }

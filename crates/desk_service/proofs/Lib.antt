@@ -6,4 +6,5 @@ pub mod Ended
 pub mod Coming
 pub mod Revaluing
 pub mod KeptReports
+pub mod ReadReports
 pub mod Together

@@ -1,34 +1,39 @@
 -- What a service does for its peers, and what it leaves.
 use Rattle.std.specs.Prelude.{ℕ, zero, suc, ◌≡◌, ◌+◌, ◌-◌, ◌^◌, ◌<◌, ◌≤◌, Bool, Option, List, [], length, map, All, IsPermutation}
 use Rattle.turn_lock.specs.Histories.{BeginsWith, past}
-use Rattle.turn_lock.specs.declared.view.View.{View}
-use Rattle.stock_model.specs.History.{IsLegal}
+use Rattle.stock_model.specs.History.{covered_records, IsLegal}
 use Rattle.stock_model.specs.Run.{ArePublications}
 use Rattle.stock_model.specs.declared.deeds.Deed.{Deed}
-use Rattle.session_laws.specs.Exchanges.{Exchange, failures}
+use Rattle.session_laws.specs.Exchanges.{failures}
 use Rattle.session_laws.specs.Makers.{deeds_by}
 use Rattle.session_laws.specs.Sessions.{Served}
+use Rattle.mirrored_sessions.specs.Steps.{Step, answer_in, turned_in, IsReading, AreNoFewer}
 use Rattle.book_answers.specs.Answers.{ShowsKeptStock}
 use Rattle.stock_io.specs.Heard.{Heard}
 use Rattle.shared_listener.specs.Listening.{Accepts, HangsUp}
 use Rattle.shared_listener.specs.Sharing.{AreFirstInOrder}
 use Rattle.shared_listener.specs.Visits.{visits_to}
-use Rattle.desk_connections.specs.Visits.{Visit, IsVisit, Lead, AreSessions, all_exchanges}
+use Rattle.desk_connections.specs.Visits.{Learnt, Visit, IsVisit, Lead, AreSessions, all_steps}
 
 -- These are the visits to the desk with this number, one after another: it served each peer and then ended the connection, and a
--- later visit begins with what the one before it left. Whatever exchanges make their sessions, they are answered by the one history
--- that all desks share, and the ledger keeps the stock of each report among them. No more of them say that the store failed than its
--- keeper counted faults in the desk's turns, where all that the keeper has counted by the end of the service fits its count.
+-- later visit begins with what the one before it left. Whatever steps make their sessions: those with a turn are answered by the one
+-- history that all desks share, and each report that was read from the mirror is the replay of the first records that were covered once,
+-- which the final history covers too, and says no less to be covered than any answer to the same peer before. The ledger keeps the stock
+-- of each report. No more answers say that the store failed than its keeper counted faults in the desk's turns, where all that the keeper
+-- has counted by the end of the service fits its count.
 pub record AreServedBy {P : Type 0} (left : P → Option (List ℕ)) (taken : P → ℕ) (written : P → Option (List ℕ)) (faults : P → ℕ)
     (ended : P → Bool) (desk counted faults_then : ℕ) (first final : List Deed) (visits : List (Visit P)) : Type 0 where
-  pub old : View Deed
-  pub new : View Deed
+  pub old : Learnt
+  pub new : Learnt
   pub lead : Lead (IsVisit left taken written faults ended desk) old new visits
-  pub shared : (sessions : List (List Exchange)) → AreSessions desk visits sessions → Served desk first final (all_exchanges sessions)
-  pub keeps : (sessions : List (List Exchange)) → AreSessions desk visits sessions
-      → All (λ exchange. ShowsKeptStock exchange.answer) (all_exchanges sessions)
-  pub failed : (sessions : List (List Exchange)) → AreSessions desk visits sessions → faults_then < 2 ^ 64 - 1
-      → failures (all_exchanges sessions) ≤ counted
+  pub shared : (sessions : List (List Step)) → AreSessions desk visits sessions → Served desk first final (turned_in (all_steps sessions))
+  pub readings : (sessions : List (List Step)) → AreSessions desk visits sessions
+      → All (IsReading (covered_records final)) (all_steps sessions)
+  pub no_fewer : (sessions : List (List Step)) → AreSessions desk visits sessions → All (AreNoFewer 0) sessions
+  pub keeps : (sessions : List (List Step)) → AreSessions desk visits sessions
+      → All (λ step. ShowsKeptStock (answer_in step)) (all_steps sessions)
+  pub failed : (sessions : List (List Step)) → AreSessions desk visits sessions → faults_then < 2 ^ 64 - 1
+      → failures (turned_in (all_steps sessions)) ≤ counted
 
 -- what each desk from 1 to this one counts, added up
 abbrev pub total_to : ℕ → (ℕ → ℕ) → ℕ

@@ -12,6 +12,7 @@ use crate::desk::{Attends, Started, finish, start};
 use desk_connections::desk::Desk;
 use desk_connections::finding::{Found, find};
 use generation_book::book::Book;
+use report_mirror::reader::MirrorReader;
 use shared_listener::listener::SharedListener;
 use std::alloc::Global;
 use std::snapshot::Snapshot;
@@ -22,10 +23,11 @@ use stock_keeper::keeper::Keeper;
 use stock_nums::numbers::DeskNo;
 use turn_lock::pass::Pass;
 
-/// The passes of desks, and their ways to the listener, as many. Those of the first desk come last.
+/// The passes of desks, their readers of the mirror, and their ways to the listener, as many. Those of the first desk come last.
 #[derive(Drop)]
 pub struct Desks<K: Keeper, L: Listener> {
     pub passes: Vec<Pass<Book<K>>>,
+    pub readers: Vec<MirrorReader>,
     pub ways: Vec<Pass<SharedListener<L>>>,
 }
 
@@ -48,14 +50,16 @@ pub fn accept_all<
 ) -> Desks<K, L>
     requires passes { ArePassesFrom commons.now.lock.lock next.0 desks.passes.items }
     requires ways { AreWaysFrom commons.now.shared.lock next.0 desks.ways.items }
-    requires as_many { vec_len desks.ways ≡ vec_len desks.passes }
+    requires as_many { (vec_len desks.ways ≡ vec_len desks.passes) × (vec_len desks.readers ≡ vec_len desks.passes) }
     requires numbers { next.0 + vec_len desks.passes ≤ MAX_DESK + 1 }
     ensures len { vec_len result.passes ≡ vec_len desks.passes }
+    ensures readers_len { vec_len result.readers ≡ vec_len desks.readers }
     ensures ways_len { vec_len result.ways ≡ vec_len desks.ways }
     ensures passes_room { vec_capacity desks.passes ≤ vec_capacity result.passes }
+    ensures readers_room { vec_capacity desks.readers ≤ vec_capacity result.readers }
     ensures ways_room { vec_capacity desks.ways ≤ vec_capacity result.ways }
-    ensures serving { Serving (λ desk pass pass' way way'. IsBegun L.Peer.left L.Peer.taken L.Peer.written L.Peer.Source.faults L.Peer.ended desk pass pass' way way' true)
-        next.0 desks.passes.items result.passes.items desks.ways.items result.ways.items }
+    ensures serving { Serving (λ desk work. IsBegun L.Peer.left L.Peer.taken L.Peer.written L.Peer.Source.faults L.Peer.ended desk work.pass work.pass_then work.read work.read_then work.way work.way_then true)
+        next.0 desks.passes.items result.passes.items desks.readers.items result.readers.items desks.ways.items result.ways.items }
 {
     if desks.passes.is_empty() {
         return desks;
@@ -79,27 +83,38 @@ struct First<K: Keeper, L: Listener> {
 // Takes the next desk out, which is the last.
 fn first_of<K: Keeper, L: Listener>(desks: Desks<K, L>) -> First<K, L>
     requires some { 0 < vec_len desks.passes }
-    requires as_many { vec_len desks.ways ≡ vec_len desks.passes }
+    requires as_many { (vec_len desks.ways ≡ vec_len desks.passes) × (vec_len desks.readers ≡ vec_len desks.passes) }
     ensures passes { desks.passes.items ≡ result.others.passes.items ++ result.desk.pass ∷ [] }
+    ensures readers { desks.readers.items ≡ result.others.readers.items ++ result.desk.reader ∷ [] }
     ensures ways { desks.ways.items ≡ result.others.ways.items ++ result.desk.way ∷ [] }
     ensures passes_len { vec_len desks.passes ≡ vec_len result.others.passes + 1 }
+    ensures readers_len { vec_len desks.readers ≡ vec_len result.others.readers + 1 }
     ensures ways_len { vec_len desks.ways ≡ vec_len result.others.ways + 1 }
     ensures passes_kept { vec_capacity result.others.passes ≡ vec_capacity desks.passes }
+    ensures readers_kept { vec_capacity result.others.readers ≡ vec_capacity desks.readers }
     ensures ways_kept { vec_capacity result.others.ways ≡ vec_capacity desks.ways }
 {
     let Desks {
         mut passes,
+        mut readers,
         mut ways,
     } = desks;
     let Some(pass) = passes.pop() else {
+        unreachable!()
+    };
+    let Some(reader) = readers.pop() else {
         unreachable!()
     };
     let Some(way) = ways.pop() else {
         unreachable!()
     };
     First {
-        desk: Desk { pass, way },
-        others: Desks { passes, ways },
+        desk: Desk { pass, reader, way },
+        others: Desks {
+            passes,
+            readers,
+            ways,
+        },
     }
 }
 
@@ -122,44 +137,61 @@ fn open<'s, E: 's, K: Keeper + Send + 's, L: Listener + Send + 's, R: Wait + Syn
     requires nothing { desk.way.view.made ≡ [] }
     ensures number { result.promise.number.0 ≡ number.0 }
     ensures pass { result.promise.pass.value ≡ desk.pass }
+    ensures reader { result.promise.reader.value ≡ desk.reader }
     ensures same_way_lock { result.promise.way.value.lock ≡ desk.way.lock }
     ensures way_rest { LeavesWay desk.way.view result.promise.way.value.view }
     ensures promised { IfOk result.running (λ thread. (thread.promise.number.0 ≡ result.promise.number.0)
-        × (thread.promise.pass.value ≡ result.promise.pass.value) × (thread.promise.way.value ≡ result.promise.way.value)) }
+        × (thread.promise.pass.value ≡ result.promise.pass.value) × (thread.promise.reader.value ≡ result.promise.reader.value)
+        × (thread.promise.way.value ≡ result.promise.way.value)) }
     ensures begun { IfErr result.running (λ begun. IsBegun L.Peer.left L.Peer.taken L.Peer.written L.Peer.Source.faults L.Peer.ended result.promise.number.0
-        result.promise.pass.value begun.pass result.promise.way.value begun.way begun.is_over) }
+        result.promise.pass.value begun.pass result.promise.reader.value begun.reader
+        result.promise.way.value begun.way begun.is_over) }
 {
-    let Desk { pass, way } = desk;
+    let Desk { pass, reader, way } = desk;
     let Found { way, next: first } = find(rt, &commons.shared, number, way);
     let promise = Attends {
         number,
         pass: Snapshot::of(&pass),
+        reader: Snapshot::of(&reader),
         way: Snapshot::of(&way),
     };
-    let running = start(rt, alloc, scope, commons, number, Desk { pass, way }, first);
+    let desk = Desk { pass, reader, way };
+    let running = start(rt, alloc, scope, commons, number, desk, first);
     Started { promise, running }
 }
 
 // The same with one desk more, which was before them.
 fn with_desk<K: Keeper, L: Listener>(desks: Desks<K, L>, desk: Desk<K, L>) -> Desks<K, L>
     requires passes_room { vec_len desks.passes < vec_capacity desks.passes }
+    requires readers_room { vec_len desks.readers < vec_capacity desks.readers }
     requires ways_room { vec_len desks.ways < vec_capacity desks.ways }
     ensures passes { result.passes.items ≡ desks.passes.items ++ desk.pass ∷ [] }
+    ensures readers { result.readers.items ≡ desks.readers.items ++ desk.reader ∷ [] }
     ensures ways { result.ways.items ≡ desks.ways.items ++ desk.way ∷ [] }
     ensures passes_len { vec_len result.passes ≡ vec_len desks.passes + 1 }
+    ensures readers_len { vec_len result.readers ≡ vec_len desks.readers + 1 }
     ensures ways_len { vec_len result.ways ≡ vec_len desks.ways + 1 }
     ensures passes_kept { vec_capacity desks.passes ≤ vec_capacity result.passes }
+    ensures readers_kept { vec_capacity desks.readers ≤ vec_capacity result.readers }
     ensures ways_kept { vec_capacity desks.ways ≤ vec_capacity result.ways }
 {
     let Desks {
         mut passes,
+        mut readers,
         mut ways,
     } = desks;
     let Ok(()) = passes.push(desk.pass) else {
         unreachable!()
     };
+    let Ok(()) = readers.push(desk.reader) else {
+        unreachable!()
+    };
     let Ok(()) = ways.push(desk.way) else {
         unreachable!()
     };
-    Desks { passes, ways }
+    Desks {
+        passes,
+        readers,
+        ways,
+    }
 }

@@ -1,4 +1,4 @@
-//! A desk in a thread of its own: its pass and its way go in by value, and come back.
+//! A desk in a thread of its own: its pass, its reader and its way go in by value, and come back.
 ghost use Rattle.std.specs.Prelude.{◌≡◌, ◌^◌, ◌<◌, ◌≤◌, [], true, length, IfOk, IfErr, OnSome};
 ghost use Rattle.stock_nums.specs.declared.limits.TheConstants.{MAX_DESK};
 ghost use Rattle.shared_listener.specs.Steps.{NotesCame};
@@ -9,6 +9,7 @@ use crate::alone::Alone;
 use crate::commons::Commons;
 use desk_connections::desk::{Desk, go_further, serve_one};
 use generation_book::book::Book;
+use report_mirror::reader::MirrorReader;
 use shared_listener::listener::SharedListener;
 use std::alloc::Global;
 use std::snapshot::Snapshot;
@@ -21,30 +22,32 @@ use stock_nums::numbers::DeskNo;
 use turn_lock::lock::TurnLock;
 use turn_lock::pass::Pass;
 
-/// What comes back from a desk's thread: its pass, its way, and whether it was told that no further peer comes. They are no struct, as
-/// that such a one may cross from one thread to another is not found.
-pub type Parts<K, L> = (Pass<Book<K>>, Pass<SharedListener<L>>, bool);
+/// What comes back from a desk's thread: its pass, its reader, its way, and whether it was told that no further peer comes. They are no
+/// struct, as that such a one may cross from one thread to another is not found.
+pub type Parts<K, L> = (Pass<Book<K>>, MirrorReader, Pass<SharedListener<L>>, bool);
 
 /// A desk that has served its first peer, and whether it was told that no further one comes.
 #[derive(Drop)]
 pub struct Begun<K: Keeper, L: Listener> {
     pub pass: Pass<Book<K>>,
+    pub reader: MirrorReader,
     pub way: Pass<SharedListener<L>>,
     pub is_over: bool,
 }
 
-/// That the desk with this number serves peers with this pass and way.
+/// That the desk with this number serves peers with this pass, reader and way.
 #[derive(Drop)]
 pub struct Attends<K: Keeper, L: Listener> {
     pub number: DeskNo,
     pub pass: Snapshot<Pass<Book<K>>>,
+    pub reader: Snapshot<MirrorReader>,
     pub way: Snapshot<Pass<SharedListener<L>>>,
 }
 
-impl<K: Keeper, L: Listener> Promise<(Pass<Book<K>>, Pass<SharedListener<L>>, bool)>
+impl<K: Keeper, L: Listener> Promise<(Pass<Book<K>>, MirrorReader, Pass<SharedListener<L>>, bool)>
     for Attends<K, L> {
     ghost kept_by = { λ promise parts. IsBegun L.Peer.left L.Peer.taken L.Peer.written L.Peer.Source.faults L.Peer.ended promise.number.0
-        promise.pass.value parts.0 promise.way.value parts.1 parts.2 };
+        promise.pass.value parts.0 promise.reader.value parts.1 promise.way.value parts.2 parts.3 };
 }
 
 /// Serves a peer that came to the desk, and then those that come after it, unless the desk has no thread. It may wait, for peers and
@@ -68,13 +71,14 @@ pub fn begin<K: Keeper, P: Link, L: Listener<Peer = P>, R: Wait>(
     requires few_way_turns { length desk.way.view.stops < 2 ^ 57 }
     requires way { IsWay desk.way.view }
     requires came { NotesCame number.0 first [] desk.way.view.made }
-    ensures { IsBegun P.left P.taken P.written P.Source.faults P.ended number.0 desk.pass result.pass desk.way result.way
-        result.is_over }
+    ensures { IsBegun P.left P.taken P.written P.Source.faults P.ended number.0 desk.pass result.pass desk.reader result.reader
+        desk.way result.way result.is_over }
 {
     let desk = serve_one(rt, alloc, lock, shared, number, desk, first);
     if alone.is(number) {
         return Begun {
             pass: desk.pass,
+            reader: desk.reader,
             way: desk.way,
             is_over: false,
         };
@@ -82,6 +86,7 @@ pub fn begin<K: Keeper, P: Link, L: Listener<Peer = P>, R: Wait>(
     let desk = go_further(rt, alloc, lock, shared, number, desk);
     Begun {
         pass: desk.pass,
+        reader: desk.reader,
         way: desk.way,
         is_over: true,
     }
@@ -118,14 +123,16 @@ pub fn start<'s, E: 's, K: Keeper + Send + 's, L: Listener + Send + 's, R: Wait 
     requires way { IsWay desk.way.view }
     requires found { IsFirst number.0 first desk.way.view.made }
     ensures promised { IfOk result (λ thread. (thread.promise.number.0 ≡ number.0)
-        × (thread.promise.pass.value ≡ desk.pass) × (thread.promise.way.value ≡ desk.way)) }
+        × (thread.promise.pass.value ≡ desk.pass) × (thread.promise.reader.value ≡ desk.reader)
+        × (thread.promise.way.value ≡ desk.way)) }
     ensures begun { IfErr result (λ begun. IsBegun L.Peer.left L.Peer.taken L.Peer.written L.Peer.Source.faults L.Peer.ended number.0
-        desk.pass begun.pass desk.way begun.way begun.is_over) }
+        desk.pass begun.pass desk.reader begun.reader desk.way begun.way begun.is_over) }
 {
     match first {
         Some(first) => start_thread(rt, alloc, scope, commons, number, desk, first),
         None => Err(Begun {
             pass: desk.pass,
+            reader: desk.reader,
             way: desk.way,
             is_over: true,
         }),
@@ -153,17 +160,19 @@ fn start_thread<'s, E: 's, K: Keeper + Send + 's, L: Listener + Send + 's, R: Wa
     requires way { IsWay desk.way.view }
     requires came { NotesCame number.0 first [] desk.way.view.made }
     ensures promised { IfOk result (λ thread. (thread.promise.number.0 ≡ number.0)
-        × (thread.promise.pass.value ≡ desk.pass) × (thread.promise.way.value ≡ desk.way)) }
+        × (thread.promise.pass.value ≡ desk.pass) × (thread.promise.reader.value ≡ desk.reader)
+        × (thread.promise.way.value ≡ desk.way)) }
     ensures begun { IfErr result (λ begun. IsBegun L.Peer.left L.Peer.taken L.Peer.written L.Peer.Source.faults L.Peer.ended number.0
-        desk.pass begun.pass desk.way begun.way begun.is_over) }
+        desk.pass begun.pass desk.reader begun.reader desk.way begun.way begun.is_over) }
 {
-    let Desk { pass, way } = desk;
+    let Desk { pass, reader, way } = desk;
     let promise = Attends {
         number,
         pass: Snapshot::of(&pass),
+        reader: Snapshot::of(&reader),
         way: Snapshot::of(&way),
     };
-    let job = move || -> (Pass<Book<K>>, Pass<SharedListener<L>>, bool)
+    let job = move || -> (Pass<Book<K>>, MirrorReader, Pass<SharedListener<L>>, bool)
         requires same_lock { pass.lock ≡ commons.now.lock.lock }
         requires same_way_lock { way.lock ≡ commons.now.shared.lock }
         requires number { number.0 ≡ pass.view.number }
@@ -173,9 +182,9 @@ fn start_thread<'s, E: 's, K: Keeper + Send + 's, L: Listener + Send + 's, R: Wa
         requires few_way_turns { length way.view.stops < 2 ^ 57 }
         requires way { IsWay way.view }
         requires came { NotesCame number.0 first [] way.view.made }
-        ensures { IsBegun L.Peer.left L.Peer.taken L.Peer.written L.Peer.Source.faults L.Peer.ended number.0 pass result.0 way result.1 result.2 }
+        ensures { IsBegun L.Peer.left L.Peer.taken L.Peer.written L.Peer.Source.faults L.Peer.ended number.0 pass result.0 reader result.1 way result.2 result.3 }
     {
-        let desk = Desk { pass, way };
+        let desk = Desk { pass, reader, way };
         let begun = begin(
             rt,
             alloc,
@@ -186,14 +195,19 @@ fn start_thread<'s, E: 's, K: Keeper + Send + 's, L: Listener + Send + 's, R: Wa
             desk,
             first,
         );
-        (begun.pass, begun.way, begun.is_over)
+        (begun.pass, begun.reader, begun.way, begun.is_over)
     };
     match scope.spawn_with(promise, job) {
         Ok(thread) => Ok(thread),
         Err(refused) => {
             commons.alone.tell(number);
-            let (pass, way, is_over) = (refused.value)();
-            Err(Begun { pass, way, is_over })
+            let (pass, reader, way, is_over) = (refused.value)();
+            Err(Begun {
+                pass,
+                reader,
+                way,
+                is_over,
+            })
         }
     }
 }
@@ -204,11 +218,14 @@ fn joined<K: Keeper, P: Link, L: Listener<Peer = P>, R: Threads>(
     started: Started<K, L>,
 ) -> Begun<K, L>
     requires promised { IfOk started.running (λ thread. (thread.promise.number.0 ≡ started.promise.number.0)
-        × (thread.promise.pass.value ≡ started.promise.pass.value) × (thread.promise.way.value ≡ started.promise.way.value)) }
+        × (thread.promise.pass.value ≡ started.promise.pass.value) × (thread.promise.reader.value ≡ started.promise.reader.value)
+        × (thread.promise.way.value ≡ started.promise.way.value)) }
     requires begun { IfErr started.running (λ begun. IsBegun P.left P.taken P.written P.Source.faults P.ended started.promise.number.0
-        started.promise.pass.value begun.pass started.promise.way.value begun.way begun.is_over) }
+        started.promise.pass.value begun.pass started.promise.reader.value begun.reader
+        started.promise.way.value begun.way begun.is_over) }
     ensures { IsBegun P.left P.taken P.written P.Source.faults P.ended started.promise.number.0
-        started.promise.pass.value result.pass started.promise.way.value result.way result.is_over }
+        started.promise.pass.value result.pass started.promise.reader.value result.reader
+        started.promise.way.value result.way result.is_over }
 {
     let Started {
         promise: _,
@@ -216,8 +233,13 @@ fn joined<K: Keeper, P: Link, L: Listener<Peer = P>, R: Threads>(
     } = started;
     match running {
         Ok(thread) => {
-            let (pass, way, is_over) = thread.join(rt);
-            Begun { pass, way, is_over }
+            let (pass, reader, way, is_over) = thread.join(rt);
+            Begun {
+                pass,
+                reader,
+                way,
+                is_over,
+            }
         }
         Err(begun) => begun,
     }
@@ -235,15 +257,23 @@ pub fn finish<K: Keeper, P: Link, L: Listener<Peer = P>, R: Threads + Wait>(
     requires same_way_lock { started.promise.way.value.lock ≡ shared.now.lock }
     requires desk { started.promise.number.0 ≤ MAX_DESK }
     requires promised { IfOk started.running (λ thread. (thread.promise.number.0 ≡ started.promise.number.0)
-        × (thread.promise.pass.value ≡ started.promise.pass.value) × (thread.promise.way.value ≡ started.promise.way.value)) }
+        × (thread.promise.pass.value ≡ started.promise.pass.value) × (thread.promise.reader.value ≡ started.promise.reader.value)
+        × (thread.promise.way.value ≡ started.promise.way.value)) }
     requires begun { IfErr started.running (λ begun. IsBegun P.left P.taken P.written P.Source.faults P.ended started.promise.number.0
-        started.promise.pass.value begun.pass started.promise.way.value begun.way begun.is_over) }
+        started.promise.pass.value begun.pass started.promise.reader.value begun.reader
+        started.promise.way.value begun.way begun.is_over) }
     ensures { IsBegun P.left P.taken P.written P.Source.faults P.ended started.promise.number.0
-        started.promise.pass.value result.pass started.promise.way.value result.way true }
+        started.promise.pass.value result.pass started.promise.reader.value result.reader
+        started.promise.way.value result.way true }
 {
     let number = started.promise.number;
-    let Begun { pass, way, is_over } = joined::<K, P, L, R>(rt, started);
-    let desk = Desk { pass, way };
+    let Begun {
+        pass,
+        reader,
+        way,
+        is_over,
+    } = joined::<K, P, L, R>(rt, started);
+    let desk = Desk { pass, reader, way };
     if is_over {
         return desk;
     }

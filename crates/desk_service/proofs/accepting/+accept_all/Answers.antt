@@ -1,16 +1,25 @@
 -- The first peer is served by the first desk, and the others by the rest.
-use Rattle.std.proofs.Common.{ℕ, ◌≤◌, ◌≡◌, List, [], length, sym, ap, ◌∙◌, subst, arith, rules}
+use Rattle.std.proofs.Common.{ℕ, ◌≤◌, ◌≡◌, List, [], ◌∷◌, length, refl, sym, ap, ◌∙◌, subst, arith, rules}
+use Rattle.turn_lock.specs.Passes.{PassView}
+use Rattle.stock_model.specs.declared.deeds.Deed.{Deed}
+use Rattle.stock_model.specs.declared.records.Record.{Record}
+use Rattle.desk_service.specs.Desks.{Work}
 use Rattle.desk_service.proofs.AtWork.{attends}
 use Rattle.desk_service.proofs.Beginning.{Serving-none, Serving-more, IsBegun-found, IsWay-fresh}
 use Rattle.desk_service.proofs.SplitOff.{popped}
 use Rattle.desk_service.proofs.accepting.+accept_all.Goals as goal
 
+no_items : {A : Type 0} (items : List A) → length items ≡ 0 → items ≡ []
+no_items [] none = refl
+no_items (item ∷ items) none = absurd (omega (arith, none))
+
 pub returns-then-is_empty-clause-serving : goal.returns-then-is_empty-clause-serving
 returns-then-is_empty-clause-serving g t c =
     let none : c.args.desks.passes.items ≡ [] = grind rules in
+    let no_read : c.args.desks.readers.items ≡ [] = no_items c.args.desks.readers.items (omega (arith, c.requires.as_many.1, ap length none)) in
     let no_way : c.args.desks.ways.items ≡ [] = grind rules in
     Serving-none (attends g.L.Peer.Source.left g.L.Peer.Source.taken g.L.Peer.Sink.written g.L.Peer.Source.faults g.L.Peer.Link.ended) c.args.next.0
-    c.args.desks.passes.items c.args.desks.ways.items none no_way
+    c.args.desks.passes.items c.args.desks.readers.items c.args.desks.ways.items none no_read no_way
 
 pub open-started-requires-clause-same_lock : goal.open-started-requires-clause-same_lock
 open-started-requires-clause-same_lock g t c κs within =
@@ -80,21 +89,30 @@ returns-clause-serving g t c =
     let does = attends g.L.Peer.Source.left g.L.Peer.Source.taken g.L.Peer.Sink.written g.L.Peer.Source.faults g.L.Peer.Link.ended in
     let first = c.first_of-desk in
     let pass = first.result.desk.pass in
+    let read = first.result.desk.reader in
     let way = first.result.desk.way in
     let started = c.open-started in
     let done = c.finish.result in
     let rest = c.accept_all-rest.result in
     let p = popped c.args.commons.now.shared.lock c.requires.ways.0 c.args.next.0 c.args.desks.ways.items first.result.others.ways.items way
     c.requires.ways.2 first.ensures.ways in
-    let begun = subst (λ (z : ℕ × _). does z.0 z.1 done.pass started.result.promise.way.value done.way)
-    (λ i. (started.ensures.number i, started.ensures.pass i)) c.finish.ensures in
-    let attended : does c.args.next.0 pass done.pass way done.way =
-    IsBegun-found g.L.Peer.Source.left g.L.Peer.Source.taken g.L.Peer.Sink.written g.L.Peer.Source.faults g.L.Peer.Link.ended c.args.next.0 pass done.pass way
-    started.result.promise.way.value done.way _ (ap (λ p. p.view.number) p.pass_is) started.ensures.same_way_lock started.ensures.way_rest begun in
-    Serving-more does c.args.next.0 (record { pass = pass; pass_then = done.pass; way = way; way_then = done.way })
+    let work : Work _ _ = record { pass = pass; pass_then = done.pass; read = read; read_then = done.reader; way = way; way_then = done.way } in
+    let begun = subst (λ (z : ℕ × PassView Deed × List Record). does z.0 (record {
+      pass = z.1;
+      pass_then = done.pass;
+      read = z.2;
+      read_then = done.reader;
+      way = started.result.promise.way.value;
+      way_then = done.way;
+    })) (λ i. (started.ensures.number i, started.ensures.pass i, started.ensures.reader i)) c.finish.ensures in
+    let attended : does c.args.next.0 work =
+    IsBegun-found g.L.Peer.Source.left g.L.Peer.Source.taken g.L.Peer.Sink.written g.L.Peer.Source.faults g.L.Peer.Link.ended c.args.next.0 pass done.pass
+    read done.reader way started.result.promise.way.value done.way _ (ap (λ p. p.view.number) p.pass_is) started.ensures.same_way_lock started.ensures.way_rest begun in
+    Serving-more does c.args.next.0 work
     first.result.others.passes.items rest.passes.items c.args.desks.passes.items c.with_desk.result.passes.items
+    first.result.others.readers.items rest.readers.items c.args.desks.readers.items c.with_desk.result.readers.items
     first.result.others.ways.items rest.ways.items c.args.desks.ways.items c.with_desk.result.ways.items
-    attended first.ensures.passes c.with_desk.ensures.passes first.ensures.ways c.with_desk.ensures.ways c.accept_all-rest.ensures.serving
+    attended first.ensures.passes c.with_desk.ensures.passes first.ensures.readers c.with_desk.ensures.readers first.ensures.ways c.with_desk.ensures.ways c.accept_all-rest.ensures.serving
 
 pub finish-requires-clause-same_lock : goal.finish-requires-clause-same_lock
 finish-requires-clause-same_lock g t c κs within =

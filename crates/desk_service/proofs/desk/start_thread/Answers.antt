@@ -5,4 +5,4 @@ use Rattle.desk_service.proofs.desk.start_thread.Goals as goal
 
 pub job-pass-requires-clause-came : goal.job-pass-requires-clause-came
 job-pass-requires-clause-came g c κs within =
-    subst (λ job. NotesCame job.5.0 job.6 [] job.1.view.made) (sym c.in-Err.ensures.err) c.requires.came
+    subst (λ job. NotesCame job.6.0 job.7 [] job.2.view.made) (sym c.in-Err.ensures.err) c.requires.came

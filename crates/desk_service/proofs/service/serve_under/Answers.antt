@@ -2,7 +2,10 @@
 use Rattle.std.proofs.Common.{◌≡◌, List, None, length, sym, ap, ◌∙◌, subst}
 use Rattle.stock_io.specs.Heard.{heard}
 use Rattle.stock_io.specs.Listeners.{IsFresh}
+use Rattle.stock_model.specs.History.{covered_records}
 use Rattle.stock_model.specs.declared.deeds.Deed.{Deed}
+use Rattle.stock_model.specs.declared.records.Record.{Record}
+use Rattle.turn_lock.specs.Histories.{BeginsWith}
 use Rattle.turn_lock.specs.Views.{opened}
 use Rattle.turn_lock.specs.declared.view.Start.{Start}
 use Rattle.turn_lock.specs.declared.view.View.{View}
@@ -24,6 +27,17 @@ in_threads-team-requires-clause-work g c κs _ =
     ap (λ (v : View Deed). v.seen) c.split_all-pass.ensures.pass ∙ ap (λ (v : View Deed). v.seen) c.requires.pass
     in
     subst (λ (h : List Deed). IsWorkOf h c.args.build) (sym (ap without_makers seen_is ∙ without_makers-with_makers history)) c.requires.work
+
+pub in_threads-team-requires-clause-shown : goal.in_threads-team-requires-clause-shown
+in_threads-team-requires-clause-shown g c κs _ =
+    let history = c.args.locks.book.value.history in
+    let seen_is : c.split_all-pass.result.pass.view.seen ≡ with_makers history =
+    ap (λ (v : View Deed). v.seen) c.split_all-pass.ensures.pass ∙ ap (λ (v : View Deed). v.seen) c.requires.pass
+    in
+    let covers : covered_records (without_makers c.split_all-pass.result.pass.view.seen) ≡ c.args.writer =
+    ap covered_records (ap without_makers seen_is ∙ without_makers-with_makers history) ∙ sym c.requires.shown
+    in
+    subst (λ (records : List Record). BeginsWith records c.args.writer) (sym covers) (begins_self c.args.writer)
 
 pub in_threads-team-requires-clause-passes : goal.in_threads-team-requires-clause-passes
 in_threads-team-requires-clause-passes g c κs _ =
@@ -51,7 +65,7 @@ ended-requires-clause-of_lock g c κs _ =
     let desks = c.args.locks.desks in
     let are = opened-passes lock _ (with_makers book.history) book.keeper.faults desks _ _ _ c.requires.locked.0 c.requires.pass c.split_all-pass.ensures.passes in
     let split = opened-split (with_makers book.history) book.keeper.faults desks _ _ _ c.requires.pass c.split_all-pass.ensures.pass in
-    of_lock _ _ _ _ _ lock book.history book.keeper.faults desks _ _ _ _ _ _ _ _ _ split are c.in_threads-team.ensures.teamwork
+    of_lock _ _ _ _ _ lock book.history book.keeper.faults desks _ _ _ _ _ _ _ _ _ _ _ _ _ split are c.in_threads-team.ensures.teamwork
 
 pub ended-requires-clause-split : goal.ended-requires-clause-split
 ended-requires-clause-split g c κs _ =
@@ -60,7 +74,7 @@ ended-requires-clause-split g c κs _ =
     let desks = c.args.locks.desks in
     let are = opened-passes lock _ (with_makers book.history) book.keeper.faults desks _ _ _ c.requires.locked.0 c.requires.pass c.split_all-pass.ensures.passes in
     let split = opened-split (with_makers book.history) book.keeper.faults desks _ _ _ c.requires.pass c.split_all-pass.ensures.pass in
-    split_is _ _ _ _ _ lock book.history book.keeper.faults desks _ _ _ _ _ _ _ _ _ split are c.in_threads-team.ensures.teamwork
+    split_is _ _ _ _ _ lock book.history book.keeper.faults desks _ _ _ _ _ _ _ _ _ _ _ _ _ split are c.in_threads-team.ensures.teamwork
 
 pub ended-requires-clause-of_way_lock : goal.ended-requires-clause-of_way_lock
 ended-requires-clause-of_way_lock g c κs _ =
@@ -71,7 +85,7 @@ ended-requires-clause-of_way_lock g c κs _ =
     let split = opened-split (with_makers book.history) book.keeper.faults desks _ _ _ c.requires.pass c.split_all-pass.ensures.pass in
     let way = c.requires.way in
     let ways_are = opened-passes c.args.locks.shared.lock _ way.log 0 desks _ _ _ c.requires.shared.0 way.view c.split_all-way.ensures.passes in
-    of_way_lock _ _ _ _ _ lock book.history book.keeper.faults desks _ _ _ _ _ _ _ _ _ split are c.in_threads-team.ensures.teamwork
+    of_way_lock _ _ _ _ _ lock book.history book.keeper.faults desks _ _ _ _ _ _ _ _ _ _ _ _ _ split are c.in_threads-team.ensures.teamwork
     c.args.locks.shared.lock (opened way.log 0 (record { plan = None; calls = 0; events = 0 })) ways_are
 
 pub ended-requires-clause-ways_split : goal.ended-requires-clause-ways_split
@@ -84,7 +98,7 @@ ended-requires-clause-ways_split g c κs _ =
     let way = c.requires.way in
     let way_split = opened-split way.log 0 desks _ _ _ way.view c.split_all-way.ensures.pass in
     ap (λ v. v.split) way_split
-    ∙ sym (ways_count _ _ _ _ _ lock book.history book.keeper.faults desks _ _ _ _ _ _ _ _ _ split are c.in_threads-team.ensures.teamwork)
+    ∙ sym (ways_count _ _ _ _ _ lock book.history book.keeper.faults desks _ _ _ _ _ _ _ _ _ _ _ _ _ split are c.in_threads-team.ensures.teamwork)
 
 pub returns-clause-served : goal.returns-clause-served
 returns-clause-served g c =
@@ -98,7 +112,7 @@ returns-clause-served g c =
     let way_split = opened-split way.log 0 desks _ _ _ way.view c.split_all-way.ensures.pass in
     let telling = heard g.L.Listener.waiting g.L.Listener.hung_up g.L.Listener.accepts g.L.Listener.hang_ups g.L.Listener.faults in
     let is_fresh = IsFresh g.P.Source.taken g.P.Sink.written g.P.Source.faults g.P.Link.ended in
-    let as_many = works_count _ _ _ _ _ lock book.history book.keeper.faults desks _ _ _ _ _ _ _ _ _ split are team in
+    let as_many = works_count _ _ _ _ _ lock book.history book.keeper.faults desks _ _ _ _ _ _ _ _ _ _ _ _ _ split are team in
     let is = visited _ _ _ _ _ telling _ is_fresh c.args.locks.listener.value desks c.args.locks.connections way.log way.is_opened _ way_split
     team.serving.works team.serving.attended as_many _ team.serving.ways_after _ _ c.ended.ensures.unshared in
     let told = told_first _ _ _ _ _ telling _ is_fresh c.args.locks.listener.value desks c.args.locks.connections way.log way.is_opened _ way_split
@@ -107,8 +121,8 @@ returns-clause-served g c =
     team.serving.works team.serving.attended as_many _ team.serving.ways_after _ _ c.ended.ensures.unshared in
     let inside = within _ _ _ _ _ telling _ is_fresh c.args.locks.listener.value desks c.args.locks.connections way.log way.is_opened _ way_split
     team.serving.works team.serving.attended as_many _ team.serving.ways_after _ _ c.ended.ensures.unshared in
-    service_is _ _ _ _ _ lock book.history book.keeper.faults desks _ _ _ _ _ _ _ _ _ split are team c.ended.result.book.history
-    c.ended.result.book.keeper.faults c.ended.ensures.closed c.ended.ensures.legal c.the_ledger_keeps_the_stock.ensures is_fresh
+    service_is _ _ _ _ _ lock book.history book.keeper.faults desks _ _ _ _ _ _ _ _ _ _ _ _ _ split are team c.ended.result.book.history
+    c.ended.result.book.keeper.faults c.ended.ensures.closed c.ended.ensures.legal c.the_ledger_keeps_the_stock.ensures c.ended.ensures.met is_fresh
     c.args.locks.connections (telling c.args.locks.listener.value) (telling c.ended.result.listener) _ c.ended.result.accepted is told came inside
 
 pub returns-clause-follows : goal.returns-clause-follows
@@ -119,7 +133,7 @@ returns-clause-follows g c =
     let are = opened-passes lock _ (with_makers book.history) book.keeper.faults desks _ _ _ c.requires.locked.0 c.requires.pass c.split_all-pass.ensures.passes in
     let split = opened-split (with_makers book.history) book.keeper.faults desks _ _ _ c.requires.pass c.split_all-pass.ensures.pass in
     subst (λ (noted : Start). Follows noted c.ended.result.book)
-    (start_is _ _ _ _ _ lock book.history book.keeper.faults desks _ _ _ _ _ _ _ _ _ split are c.in_threads-team.ensures.teamwork)
+    (start_is _ _ _ _ _ lock book.history book.keeper.faults desks _ _ _ _ _ _ _ _ _ _ _ _ _ split are c.in_threads-team.ensures.teamwork)
     c.ended.ensures.follows
 
 pub returns-clause-port_kept : goal.returns-clause-port_kept
@@ -134,7 +148,7 @@ returns-clause-port_kept g c =
     let way_split = opened-split way.log 0 desks _ _ _ way.view c.split_all-way.ensures.pass in
     let telling = heard g.L.Listener.waiting g.L.Listener.hung_up g.L.Listener.accepts g.L.Listener.hang_ups g.L.Listener.faults in
     let is_fresh = IsFresh g.P.Source.taken g.P.Sink.written g.P.Source.faults g.P.Link.ended in
-    let as_many = works_count _ _ _ _ _ lock book.history book.keeper.faults desks _ _ _ _ _ _ _ _ _ split are team in
+    let as_many = works_count _ _ _ _ _ lock book.history book.keeper.faults desks _ _ _ _ _ _ _ _ _ _ _ _ _ split are team in
     port_kept _ _ _ _ _ telling _ is_fresh c.args.locks.listener.value desks c.args.locks.connections way.log way.is_opened _ way_split
     team.serving.works team.serving.attended as_many _ team.serving.ways_after _ _ c.ended.ensures.unshared
 
@@ -146,5 +160,5 @@ returns-clause-work g c =
     let are = opened-passes lock _ (with_makers book.history) book.keeper.faults desks _ _ _ c.requires.locked.0 c.requires.pass c.split_all-pass.ensures.passes in
     let split = opened-split (with_makers book.history) book.keeper.faults desks _ _ _ c.requires.pass c.split_all-pass.ensures.pass in
     subst (IsWorkOf c.ended.result.book.history) (sym c.ended.ensures.build)
-    (work_is _ _ _ _ _ lock book.history book.keeper.faults desks _ _ _ _ _ _ _ _ _ split are c.in_threads-team.ensures.teamwork
+    (work_is _ _ _ _ _ lock book.history book.keeper.faults desks _ _ _ _ _ _ _ _ _ _ _ _ _ split are c.in_threads-team.ensures.teamwork
     c.ended.result.book.history c.ended.result.book.keeper.faults c.ended.ensures.closed)
