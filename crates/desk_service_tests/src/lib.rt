@@ -2,9 +2,13 @@
 #![tactic(auto)]
 
 #[cfg(test)]
+mod held_book;
+#[cfg(test)]
 mod script;
 #[cfg(test)]
 mod served;
+#[cfg(test)]
+mod shown;
 #[cfg(test)]
 mod signals;
 #[cfg(test)]
