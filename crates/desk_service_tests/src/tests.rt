@@ -29,19 +29,39 @@ fn peer_of(alloc: Global, request: &[u8]) -> Result<MemLink, NoMemory>
 
 // The helpers below have no clauses that a caller doesn't want, so that a test carries none of a service's from call to call.
 
-// One peer that posts, and one that asks.
-fn two_peers(alloc: Global) -> Result<Vec<MemLink>, NoMemory>
+// Peers that send these requests, each in small pieces.
+fn peers_of(alloc: Global, requests: &[&[u8]]) -> Result<Vec<MemLink>, NoMemory>
     ensures { IfOk result (λ peers. All IsNewPeer peers.items) }
 {
     let mut peers = Vec::new(alloc);
-    peers.push(peer_of(alloc, POSTS_ITEM)?)?;
-    peers.push(peer_of(alloc, ASKS_FOR_BALANCE)?)?;
+    for request in requests {
+        peers.push(peer_of(alloc, request)?)?;
+    }
     Ok(peers)
 }
 
 // A listener to which they come.
+fn listener_of(alloc: Global, requests: &[&[u8]]) -> Result<MemListener, NoMemory> {
+    MemListener::new(alloc, peers_of(alloc, requests)?, Lines::new(alloc))
+}
+
+// A listener to which one peer comes that posts, and one that asks.
 fn listener_of_two(alloc: Global) -> Result<MemListener, NoMemory> {
-    MemListener::new(alloc, two_peers(alloc)?, Lines::new(alloc))
+    listener_of(alloc, &[POSTS_ITEM, ASKS_FOR_BALANCE])
+}
+
+// A listener to which one peer comes that posts, and four that ask.
+fn listener_of_five(alloc: Global) -> Result<MemListener, NoMemory> {
+    listener_of(
+        alloc,
+        &[
+            POSTS_ITEM,
+            ASKS_FOR_BALANCE,
+            ASKS_FOR_BALANCE,
+            ASKS_FOR_BALANCE,
+            ASKS_FOR_BALANCE,
+        ],
+    )
 }
 
 // Whether all of the request was taken, the request was done, and the connection was ended.
@@ -58,6 +78,17 @@ fn are_answered(listener: &MemListener) -> bool {
         }
         _ => false,
     }
+}
+
+// How many of the peers that were hung up sent this request, and had it done.
+fn count_answered(listener: &MemListener, request: &[u8]) -> usize {
+    let mut count: usize = 0;
+    for peer in listener.hung_up() {
+        if is_answered(peer, request) {
+            count = count.saturating_add(1);
+        }
+    }
+    count
 }
 
 #[test]
@@ -79,5 +110,29 @@ fn a_listener_that_fails_ends_the_service(rt: HostRuntime) -> Result<(), Fail> {
     };
     assert!(rt; ending.accepted == 2 && ending.listener.faults() == 1);
     assert!(rt; ending.listener.hung_up().len() == 2);
+    Ok(())
+}
+
+#[test]
+fn two_desks_serve_five_peers(rt: HostRuntime) -> Result<(), Fail> {
+    let alloc = rt.alloc();
+    let Some(ending) = served(&rt, alloc, listener_of_five(alloc)?, 2, 5) else {
+        panic!(rt; "no memory")
+    };
+    assert!(rt; ending.accepted == 5 && ending.records == RecordNo(1));
+    assert!(rt; ending.listener.faults() == 0 && ending.listener.hung_up().len() == 5);
+    assert!(rt; count_answered(&ending.listener, POSTS_ITEM) == 1);
+    assert!(rt; count_answered(&ending.listener, ASKS_FOR_BALANCE) == 4);
+    Ok(())
+}
+
+#[test]
+fn fewer_peers_than_are_wanted_are_served(rt: HostRuntime) -> Result<(), Fail> {
+    let alloc = rt.alloc();
+    let Some(ending) = served(&rt, alloc, listener_of_five(alloc)?, 2, 7) else {
+        panic!(rt; "no memory")
+    };
+    assert!(rt; ending.accepted == 5 && ending.listener.faults() == 1);
+    assert!(rt; ending.listener.hung_up().len() == 5);
     Ok(())
 }
