@@ -18,14 +18,14 @@ SECONDS_LARGE = 2
 BOOKS = [1_000, 45_000, 100_000, 180_000]
 LINES = 100  # of a voucher by which a book is filled
 SCRIPT = """
-local posts_alone, turn, items, stores = %s, 0, %d, %d
+local asked, turn, items, stores = "%s", 0, %d, %d
 function init(args) math.randomseed(tonumber(string.sub(tostring({}), 8), 16)) end
 local function moment()
   return string.format("2026-%%02d-%%02dT%%02d:00:00", math.random(12), math.random(28), math.random(0, 23))
 end
 function request()
   turn = turn + 1
-  if not posts_alone and turn %% 2 == 0 then
+  if asked == "balances" or asked == "both" and turn %% 2 == 0 then
     return wrk.format("POST", "/desk", nil, '{"do":"report","of":"balance"}')
   end
   local item, store = math.random(0, items - 1), math.random(0, stores - 1)
@@ -49,11 +49,11 @@ def milliseconds(text, part):
     return round(float(number) * UNITS[unit], 3)
 
 
-def load(room, port, connections, seconds, posts_alone, items, stores):
-    """Returns what `wrk` gets over so many connections."""
+def load(room, port, connections, seconds, asked, items, stores):
+    """Returns what `wrk` gets over so many connections, which ask for `posts`, for `balances`, or for `both` by turns."""
     path = f"{room}/wrk.lua"
     with open(path, "w", encoding="ascii") as it:
-        it.write(SCRIPT % ("true" if posts_alone else "false", items, stores))
+        it.write(SCRIPT % (asked, items, stores))
     threads = min(connections, 2)
     words = ["wrk", f"-t{threads}", f"-c{connections}", f"-d{seconds}s", "--latency", "--timeout", "60s", "-s", path, f"http://127.0.0.1:{port}/desk"]
     done = subprocess.run(words, capture_output=True, text=True)
@@ -76,7 +76,15 @@ def rates(service, batch, program, room, masters, desks, items, stores):
     path = f"{room}/loaded-{desks}"
     batch(program, ["--file", path], masters)
     with going_on(service, program, path, desks) as port:
-        return load(room, port, desks, SECONDS, False, items, stores)
+        return load(room, port, desks, SECONDS, "both", items, stores)
+
+
+def asking(service, batch, program, room, masters, desks, items, stores):
+    """Balances alone, of a small book that is published."""
+    path = f"{room}/asked-{desks}"
+    batch(program, ["--file", path], [*masters, *filling(1_000, items, stores), '{"do":"settle"}'])
+    with going_on(service, program, path, desks) as port:
+        return load(room, port, desks, SECONDS, "balances", items, stores)
 
 
 def filling(movements, items, stores):
@@ -97,11 +105,11 @@ def large_books(service, batch, program, room, masters, desks, items, stores):
         path = f"{room}/book-{movements}"
         batch(program, ["--file", path], [*masters, *filling(movements, items, stores), '{"do":"settle"}'])
         with going_on(service, program, path, desks) as port:
-            found[movements] = load(room, port, desks, SECONDS_LARGE, True, items, stores)
+            found[movements] = load(room, port, desks, SECONDS_LARGE, "posts", items, stores)
     return found
 
 
 def beside(nginx, room, desks):
     """What nginx answers to the same connections, whatever they send."""
     with nginx(room) as port:
-        return load(room, port, desks, SECONDS, False, 1, 1)
+        return load(room, port, desks, SECONDS, "both", 1, 1)
