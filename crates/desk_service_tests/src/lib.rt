@@ -8,8 +8,6 @@ mod script;
 #[cfg(test)]
 mod served;
 #[cfg(test)]
-mod shown;
-#[cfg(test)]
 mod signals;
 #[cfg(test)]
 mod talker;
