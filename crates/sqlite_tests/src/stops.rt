@@ -1,13 +1,11 @@
 //! A ledger is kept over disks in memory that stop after so many calls, for each number of calls. What is opened again then has all
-//! records that were acknowledged, or those and the next one, and covers what was acknowledged last, or what comes next; and a book
-//! begins with them.
+//! records that were acknowledged, or those and the next one, and covers what was acknowledged last, or what comes next.
 ghost use Rattle.std.specs.Prelude.{IsTrue};
-ghost use Rattle.stock_keeper.specs.Keeping.{HoldsOfNone, Within};
+ghost use Rattle.stock_keeper.specs.Keeping.{HoldsOfNone};
 ghost use Rattle.sqlite_tables.specs.Stored.{TellsTables};
 
 use crate::sqlite_keepers::{adds, publishes, untold};
 use keeper_sqlite::sqlite_keeper::SqliteKeeper;
-use repost_worker::revalued_book::RevaluedBook;
 use sqlite::{Alter, Connection, FileStore, Files, Options};
 use sqlite_disk::{Crash, Disk, Fuse, Memory};
 use std::alloc::Global;
@@ -158,17 +156,7 @@ fn run<D: Disk + Drop>(alloc: Global, files: Files<D>) -> (Acknowledged, Files<D
     (told, files_of(keeper))
 }
 
-// Whether a book begins over this keeper, with so many records.
-fn begins<K: Keeper + Drop>(alloc: Global, keeper: K, records: usize) -> bool
-    requires { Within (K.tells keeper) (K.may_leave keeper) }
-{
-    match RevaluedBook::begin(alloc, keeper) {
-        Ok(book) => book.book().accepted().0 as usize == records,
-        Err(_) => false,
-    }
-}
-
-/// The tables in these files, if a book begins with them.
+/// The tables in these files.
 pub(crate) fn loaded<D: Disk + Drop>(alloc: Global, files: Files<D>) -> Option<Tables>
     requires log { IsTrue (D.Disk.is_usable files.log) }
     requires db { IsTrue (D.Disk.is_usable files.db) }
@@ -177,15 +165,7 @@ pub(crate) fn loaded<D: Disk + Drop>(alloc: Global, files: Files<D>) -> Option<T
         return None;
     };
     let mut keeper = untold(alloc, conn)?;
-    let tables = keeper.load().ok()?;
-    let Ok(keeper) = SqliteKeeper::prepared(alloc, keeper.into_connection()) else {
-        return None;
-    };
-    if begins(alloc, keeper, tables.records.len()) {
-        Some(tables)
-    } else {
-        None
-    }
+    keeper.load().ok()
 }
 
 // Whether this is the record with this index.
