@@ -2,8 +2,6 @@
 #![tactic(auto)]
 
 #[cfg(test)]
-mod held_book;
-#[cfg(test)]
 mod script;
 #[cfg(test)]
 mod served;
