@@ -7,10 +7,13 @@ import json
 import re
 import shutil
 import signal
+import socket
 import subprocess
+import time
 
 from measuring import require
 
+PATIENCE = 120  # seconds that any one answer may take, and that a run may take to end
 CONNECTIONS = 1_000_000  # more than come
 SECONDS = 5
 # A book takes 200,000 movements at most, so a large one is posted to for a shorter time.
@@ -40,6 +43,20 @@ end
 UNITS = {"us": 1e-3, "ms": 1, "s": 1e3, "m": 6e4}
 
 
+def connected(port):
+    """Returns a socket to the port, once something listens there."""
+    end = time.monotonic() + PATIENCE
+    while True:
+        try:
+            link = socket.create_connection(("127.0.0.1", port), PATIENCE)
+            link.setsockopt(socket.IPPROTO_TCP, socket.TCP_NODELAY, 1)
+            return link
+        except ConnectionRefusedError:
+            if time.monotonic() > end:
+                raise
+            time.sleep(0.01)
+
+
 def has_wrk():
     return shutil.which("wrk") is not None
 
@@ -66,6 +83,7 @@ def load(room, port, connections, seconds, asked, items, stores):
 def going_on(service, program, path, desks):
     """A service for more connections than come, which is ended by a signal."""
     with service(program, path, desks, "--connections", str(CONNECTIONS)) as (run, port):
+        connected(port).close()
         yield port
         run.terminate()
         require(run.wait(60) == -signal.SIGTERM, f"a service ended with {run.returncode} in place of by its signal")
