@@ -15,4 +15,6 @@ mod opened_tables;
 #[cfg(test)]
 mod records;
 #[cfg(test)]
+mod row_lists;
+#[cfg(test)]
 mod workers;

@@ -9,4 +9,5 @@ pub mod Extended
 pub mod Extending
 pub mod Givens
 pub mod Rows
+pub mod BlockRows
 pub mod Turned

@@ -1,5 +1,5 @@
 -- What is found of movements, as rows.
-use Rattle.std.specs.Prelude.{List, map, filter}
+use Rattle.std.specs.Prelude.{ℕ, ◌≡◌, ◌+◌, ◌≤◌, List, length, map, filter, take, drop}
 use Rattle.std.specs.Option.{option_map_or}
 use Rattle.stock_nums.specs.declared.entry.Row.{Row}
 use Rattle.repost_frontier.specs.Readings.{slot_found}
@@ -14,3 +14,9 @@ slot_row s = record { entry = s.entry; worth = option_map_or worth_of (slot_foun
 -- the rows of those that were valued since the last publication
 abbrev pub valued_rows : List Slot → List Row
 valued_rows slots = map slot_row (filter is_revalued slots)
+
+-- these are the rows of movements from the start on, and that many or more stand before it
+pub record IsRunAt (slots : List Slot) (made start : ℕ) (rows : List Row) : Type 0 where
+  pub later : made ≤ start
+  pub within : start + length rows ≤ length slots
+  pub same : rows ≡ map slot_row (take (length rows) (drop start slots))

@@ -2,4 +2,6 @@
 #![tactic(auto)]
 
 pub mod build;
+mod row_blocks;
 mod sending;
+mod slot_rows;

@@ -5,7 +5,7 @@ use Rattle.stock_nums.specs.declared.entry.Row.{Row}
 use Rattle.repost_frontier.specs.declared.slot.Slot.{Slot}
 use Rattle.repost_build.specs.Rows.{slot_row}
 use Rattle.repost_build.proofs.Rows.{rows-next}
-use Rattle.repost_build.proofs.build.push_rows.Goals as goal
+use Rattle.repost_build.proofs.slot_rows.push_rows.Goals as goal
 
 pub loop-slot-preserved : goal.loop-slot-preserved
 loop-slot-preserved c =

@@ -5,8 +5,8 @@ use Rattle.stock_nums.specs.declared.entry.Row.{Row}
 use Rattle.repost_frontier.specs.declared.slot.Slot.{Slot}
 use Rattle.repost_build.specs.Rows.{slot_row, valued_rows}
 use Rattle.repost_build.proofs.Rows.{valued-next}
-use Rattle.repost_build.proofs.build.push_valued.Goals as goal
-use Rattle.repost_build.proofs.build.push_valued.Goals.{then-slot+in_ok-push, else-slot}
+use Rattle.repost_build.proofs.slot_rows.push_valued.Goals as goal
+use Rattle.repost_build.proofs.slot_rows.push_valued.Goals.{then-slot+in_ok-push, else-slot}
 
 pub loop-slot-preserved : goal.loop-slot-preserved
 loop-slot-preserved c =
