@@ -16,5 +16,3 @@ mod opened_tables;
 mod records;
 #[cfg(test)]
 mod row_lists;
-#[cfg(test)]
-mod workers;
