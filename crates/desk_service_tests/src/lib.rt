@@ -7,6 +7,8 @@ mod attending;
 #[cfg(test)]
 mod balances;
 #[cfg(test)]
+mod held_book;
+#[cfg(test)]
 mod mirrors;
 #[cfg(test)]
 mod records;
@@ -14,6 +16,8 @@ mod records;
 mod script;
 #[cfg(test)]
 mod served;
+#[cfg(test)]
+mod shown;
 #[cfg(test)]
 mod signals;
 #[cfg(test)]
