@@ -15,7 +15,7 @@ use stock_nums::moment::Moment;
 ///
 /// # Errors
 ///
-/// `NoMemory`: 2^63 hold the rows already.
+/// `NoMemory`: 2^63 hold the rows already, or 2^64 are up to the moment.
 pub fn rows_until(
     rows: &SharedBlocks<Row>,
     until: Option<Moment>,
@@ -24,25 +24,28 @@ pub fn rows_until(
     ensures { IfOk result (λ front. front ≡ filter (is_until until) rows.now) }
 {
     match until {
-        Some(until) => rows.front(count_until(rows, until)),
+        Some(until) => rows.front(count_until(rows, until)?),
         None => rows.share(),
     }
 }
 
-// How many movements are up to the moment, where those that are come first.
-fn count_until(rows: &SharedBlocks<Row>, until: Moment) -> usize
+// How many movements are up to the moment, where those that are come first. The only error is that there are 2^64.
+fn count_until(rows: &SharedBlocks<Row>, until: Moment) -> Result<usize, NoMemory>
     requires { IsPartitionedBy (is_until (Some until)) rows.now }
-    ensures within { result ≤ length rows.now }
-    ensures front { take result rows.now ≡ filter (is_until (Some until)) rows.now }
+    ensures within { IfOk result (λ count. count ≤ length rows.now) }
+    ensures front { IfOk result (λ count. take count rows.now ≡ filter (is_until (Some until)) rows.now) }
 {
-    let mut count = 0;
+    let mut count: usize = 0;
     for row in rows.items() {
         if is_later(row.entry.place.moment, until) {
-            return count;
+            return Ok(count);
         }
-        count += 1;
+        let Some(more) = count.checked_add(1) else {
+            return Err(NoMemory);
+        };
+        count = more;
     }
-    count
+    Ok(count)
 }
 
 fn is_later(a: Moment, b: Moment) -> bool
