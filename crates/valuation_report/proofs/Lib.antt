@@ -21,3 +21,4 @@ mod Reports
 mod RowsByKey
 mod RunningHoldings
 mod SummedRows
+mod Walks
