@@ -21,4 +21,3 @@ mod Reports
 mod RowsByKey
 mod RunningHoldings
 mod SummedRows
-mod Walks

@@ -5,7 +5,7 @@ use Rattle.stock_nums.specs.declared.entry.Row.{Row}
 use Rattle.stock_model.specs.Sheets.{is_asked_key}
 use Rattle.valuation_report.specs.Grouping.{IsHeldByKey, is_asked_row}
 use Rattle.valuation_report.proofs.HeldByKey.{room-by_key, held-more, held-same}
-use Rattle.valuation_report.proofs.Walks.{at_next, at_end}
+use Rattle.stock_laws.proofs.Walks.{at_next, at_end}
 use Rattle.valuation_report.proofs.balance_sheet.holdings_by_key.Goals as goal
 
 pub add_row-requires : goal.add_row-requires

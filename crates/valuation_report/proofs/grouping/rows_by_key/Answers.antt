@@ -5,7 +5,7 @@ use Rattle.stock_nums.specs.declared.entry.Row.{Row}
 use Rattle.stock_model.specs.Sheets.{is_asked_key}
 use Rattle.valuation_report.specs.Grouping.{IsByKey, is_asked_row}
 use Rattle.valuation_report.proofs.RowsByKey.{IsByKey-more, IsByKey-same}
-use Rattle.valuation_report.proofs.Walks.{at_next, at_end}
+use Rattle.stock_laws.proofs.Walks.{at_next, at_end}
 use Rattle.valuation_report.proofs.grouping.rows_by_key.Goals as goal
 
 pub loop-row-preserved-in-Continue-1 : goal.loop-row-preserved-in-Continue-1

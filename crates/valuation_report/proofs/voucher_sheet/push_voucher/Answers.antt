@@ -5,7 +5,7 @@ use Rattle.stock_nums.specs.declared.entry.Row.{Row}
 use Rattle.stock_model.specs.Books.{has_lines}
 use Rattle.valuation_report.proofs.PiecesSoFar.{no_piece}
 use Rattle.valuation_report.proofs.RecordPieces.{of_record, of_other, of_all}
-use Rattle.valuation_report.proofs.Walks.{at_next, at_end}
+use Rattle.stock_laws.proofs.Walks.{at_next, at_end}
 use Rattle.valuation_report.proofs.voucher_sheet.push_voucher.Goals as goal
 
 pub loop-row-init : goal.loop-row-init
