@@ -10,4 +10,5 @@ pub mod Extending
 pub mod Givens
 pub mod Rows
 pub mod BlockRows
+pub mod SameRows
 pub mod Turned

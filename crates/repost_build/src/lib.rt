@@ -3,5 +3,6 @@
 
 pub mod build;
 mod row_blocks;
+mod row_equality;
 mod sending;
 mod slot_rows;

@@ -1,8 +1,8 @@
 //! The rows of movements in blocks, of which those that did not change are blocks of rows that were made before.
-ghost use Rattle.std.specs.Prelude.{◌≡◌, ◌+◌, ◌≤◌, IsTrue, length, map, take, drop, IfSome, IfOk, OnOk};
+ghost use Rattle.std.specs.Prelude.{◌≡◌, ◌-◌, ◌≤◌, IsTrue, length, map, take, drop, IfSome, IfOk, OnOk};
 ghost use Rattle.std.specs.List.{flat_map};
 ghost use Rattle.repost_spread.specs.Movements.{slots_of};
-ghost use Rattle.repost_build.specs.Rows.{slot_row, IsRunAt};
+ghost use Rattle.repost_build.specs.Rows.{slot_row, IsRunUntil};
 
 use crate::slot_rows::{is_run, push_rows};
 use repost_spread::movements::Movements;
@@ -52,26 +52,27 @@ fn push_where_same(
     ensures rows { IfOk result (λ count. flat_map (λ block. block) blocks.new ≡ map slot_row (take count (slots_of movements.now))) }
 {
     let rows = block.as_slice();
-    let Some(start) = start_of(movements, made, rows) else {
+    let Some(end) = end_of(movements, made, rows) else {
         return Ok(made);
     };
-    push_between(alloc, blocks, movements, made, start)?;
+    push_between(alloc, blocks, movements, made, end - rows.len())?;
     blocks.push(block.share()?)?;
-    Ok(start + rows.len())
+    Ok(end)
 }
 
-// Where these are rows of the movements, after the first so many, and are not few: how many movements stand before them.
-fn start_of(movements: &Movements, made: usize, rows: &[Row]) -> Option<usize>
+// Where these are rows of movements after the first so many, and are not few: how many movements stand up to the last of them.
+fn end_of(movements: &Movements, made: usize, rows: &[Row]) -> Option<usize>
     requires { made ≤ length (slots_of movements.now) }
-    ensures { IfSome result (λ start. IsRunAt (slots_of movements.now) made start rows.now) }
+    ensures { IfSome result (λ end. IsRunUntil (slots_of movements.now) made end rows.now) }
 {
     if rows.len() < FEWEST {
         return None;
     }
     let last = rows.last()?;
-    let start = count_until(movements, &last.entry.place).checked_sub(rows.len())?;
-    if start >= made && are_rows(movements, start, rows) {
-        Some(start)
+    let end = count_until(movements, &last.entry.place);
+    let start = end.checked_sub(rows.len())?;
+    if start >= made && are_rows(movements, end, rows) {
+        Some(end)
     } else {
         None
     }
@@ -93,19 +94,22 @@ fn count_until(movements: &Movements, place: &Place) -> usize
     low
 }
 
-// Whether these are the rows of the movements from the start on.
-fn are_rows(movements: &Movements, start: usize, rows: &[Row]) -> bool
-    requires { start + length rows.now ≤ length (slots_of movements.now) }
-    ensures { IsTrue result → rows.now ≡ map slot_row (take (length rows.now) (drop start (slots_of movements.now))) }
+// Whether these are the rows of the movements up to an index.
+fn are_rows(movements: &Movements, end: usize, rows: &[Row]) -> bool
+    requires as_many { length rows.now ≤ end }
+    requires within { end ≤ length (slots_of movements.now) }
+    ensures { IsTrue result → rows.now ≡ map slot_row (take (length rows.now) (drop (end - length rows.now) (slots_of movements.now))) }
 {
-    let mut passed = 0;
-    while passed < rows.len() {
-        let run = movements.run_from(start + passed);
-        let count = run.len().min(rows.len() - passed);
+    let start = end - rows.len();
+    let mut index = start;
+    while index < end {
+        let run = movements.run_from(index);
+        let count = run.len().min(end - index);
+        let passed = index - start;
         if !is_run(&run[..count], &rows[passed..passed + count]) {
             return false;
         }
-        passed += count;
+        index += count;
     }
     true
 }
@@ -125,28 +129,31 @@ fn push_between(
 {
     let mut index = from;
     while index < upto {
-        let count = MOST.min(upto - index);
-        blocks.push(block_of(alloc, movements, index, count)?)?;
-        index += count;
+        let next = index + MOST.min(upto - index);
+        blocks.push(block_of(alloc, movements, index, next)?)?;
+        index = next;
     }
     Ok(())
 }
 
-// A block of so many movements from an index on.
+// A block of the movements from the one index to the other.
 fn block_of(
     alloc: Global,
     movements: &Movements,
     from: usize,
-    count: usize,
+    upto: usize,
 ) -> Result<SharedList<Row>, NoMemory>
-    requires { from + count ≤ length (slots_of movements.now) }
-    ensures { IfOk result (λ block. block ≡ map slot_row (take count (drop from (slots_of movements.now)))) }
+    requires order { from ≤ upto }
+    requires within { upto ≤ length (slots_of movements.now) }
+    ensures { IfOk result (λ block. block ≡ map slot_row (take (upto - from) (drop from (slots_of movements.now)))) }
 {
-    let mut rows = Lines::from_vec(Vec::with_capacity(alloc, count)?);
-    while rows.len() < count {
-        let run = movements.run_from(from + rows.len());
-        let few = run.len().min(count - rows.len());
-        push_rows(&mut rows, &run[..few])?;
+    let mut rows = Lines::from_vec(Vec::with_capacity(alloc, upto - from)?);
+    let mut index = from;
+    while index < upto {
+        let run = movements.run_from(index);
+        let count = run.len().min(upto - index);
+        push_rows(&mut rows, &run[..count])?;
+        index += count;
     }
     SharedList::of(alloc, rows)
 }

@@ -2,6 +2,7 @@
 ghost use Rattle.std.specs.Prelude.{◌≡◌, ◌++◌, IsTrue, length, map, OnOk};
 ghost use Rattle.repost_build.specs.Rows.{slot_row, valued_rows};
 
+use crate::row_equality::is_same;
 use repost_frontier::slot::Slot;
 use stock_nums::entry::{Row, Worth};
 use stock_nums::lines::Lines;
@@ -36,7 +37,7 @@ pub(crate) fn is_run(slots: &[Slot], rows: &[Row]) -> bool
     ensures { IsTrue result → rows.now ≡ map slot_row slots.now }
 {
     for index in 0..rows.len() {
-        if row_of(&slots[index]) != rows[index] {
+        if !is_same(&row_of(&slots[index]), &rows[index]) {
             return false;
         }
     }

@@ -14,10 +14,12 @@ loop-row-preserved c =
     let rows = c.args.rows.now in
     let seen = c.loop-row.invariant.0 in
     let row = c.in-Some.row.now in
-    let next = at_next rows c.loop-row.row-iterator c.next.new.self seen row c.loop-row.invariant.1 c.in-Some.ensures.steps in
-    (seen + 1, next.2,
-    entries-more rows seen row c.spot_worth-own.result c.loop-row.by_spot.entries c.insert.new.self.entries next.0 next.1
-    c.spot_worth-own.ensures c.loop-row.invariant.2 c.in_ok-insert.ensures.entries)
+    let next = at_next rows c.loop-row.row-iterator c.next.new.self seen row c.loop-row.invariant.1 c.in-Some.ensures.steps in (
+      seen + 1,
+      next.2,
+      entries-more rows seen row c.spot_worth-own.result c.loop-row.by_spot.entries c.insert.new.self.entries next.0 next.1
+          c.spot_worth-own.ensures c.loop-row.invariant.2 c.in_ok-insert.ensures.entries,
+    )
 
 pub returns : goal.returns
 returns c =
