@@ -1,12 +1,9 @@
 //! What a mirror shows of a book before a worker has worked over it, and then.
-ghost use Rattle.std.specs.Prelude.{◌≡◌, ◌<◌};
 
 use crate::records::{ITEM, RECEIPT, STORE, book_of};
 use crate::workers::{UntilIdle, Worked, run_over};
 use std::alloc::Global;
-use std::marker::Brand;
 use std::sync::Wait;
-use std::sync::ledger::{Blank, Ledger};
 
 const COVERS_NONE: &str = r#"{"covered":0,"report":"balance","rows":[],"status":"ok"}"#;
 
@@ -17,26 +14,16 @@ const COVERS_THREE: &str =
 
 // What a worker's run over a book with these lines' records left, and what its mirror has for a report of all balances that covers so
 // many records. None where a line is refused or memory is wanting.
-fn shown<L: Ledger, R: Wait>(
-    rt: &R,
-    alloc: Global,
-    lines: &[&str],
-    need: u32,
-    blank: Blank,
-) -> Option<Worked>
-    requires name { blank.name ≡ L.name }
-    requires parts { blank.parts ≡ L.parts }
-    requires some { 0 < L.parts }
-{
+fn shown<R: Wait>(rt: &R, alloc: Global, lines: &[&str], need: u32) -> Option<Worked> {
     let Some(book) = book_of(alloc, lines) else {
         return None;
     };
-    run_over::<L, R>(rt, alloc, book, &mut UntilIdle::new(), need, blank)
+    run_over(rt, alloc, book, &mut UntilIdle::new(), need)
 }
 
 #[test]
 fn nothing_is_shown_of_an_empty_book(rt: HostRuntime) {
-    let Some(worked) = shown::<Brand, _>(&rt, rt.alloc(), &[], 0, Blank::new(1)) else {
+    let Some(worked) = shown(&rt, rt.alloc(), &[], 0) else {
         panic!(rt; "no memory")
     };
     assert!(rt; worked.before.has_text(COVERS_NONE) && worked.after.has_text(COVERS_NONE));
@@ -44,7 +31,7 @@ fn nothing_is_shown_of_an_empty_book(rt: HostRuntime) {
 
 #[test]
 fn an_item_and_a_store_are_covered_without_rows(rt: HostRuntime) {
-    let Some(worked) = shown::<Brand, _>(&rt, rt.alloc(), &[ITEM, STORE], 0, Blank::new(1)) else {
+    let Some(worked) = shown(&rt, rt.alloc(), &[ITEM, STORE], 0) else {
         panic!(rt; "no memory")
     };
     assert!(rt; worked.before.has_text(COVERS_NONE) && worked.after.has_text(COVERS_TWO));
@@ -52,7 +39,7 @@ fn an_item_and_a_store_are_covered_without_rows(rt: HostRuntime) {
 
 #[test]
 fn a_mirror_of_two_records_is_behind_the_third(rt: HostRuntime) {
-    let Some(worked) = shown::<Brand, _>(&rt, rt.alloc(), &[ITEM, STORE], 3, Blank::new(1)) else {
+    let Some(worked) = shown(&rt, rt.alloc(), &[ITEM, STORE], 3) else {
         panic!(rt; "no memory")
     };
     assert!(rt; worked.before.covers_only(0) && worked.after.covers_only(2));
@@ -61,7 +48,7 @@ fn a_mirror_of_two_records_is_behind_the_third(rt: HostRuntime) {
 #[test]
 fn a_receipt_is_shown_once_it_was_valued(rt: HostRuntime) {
     let lines = [ITEM, STORE, RECEIPT];
-    let Some(worked) = shown::<Brand, _>(&rt, rt.alloc(), &lines, 3, Blank::new(1)) else {
+    let Some(worked) = shown(&rt, rt.alloc(), &lines, 3) else {
         panic!(rt; "no memory")
     };
     assert!(rt; worked.before.covers_only(0) && worked.after.has_text(COVERS_THREE));

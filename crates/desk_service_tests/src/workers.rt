@@ -72,9 +72,20 @@ pub struct Worked {
     pub gives: u64,
 }
 
-/// Lets a worker run over the book, until it is idle or the gate says to stop, and looks for a report of all balances that covers so many
-/// records, before and after it. None where memory is wanting.
-pub fn run_over<L: Ledger, R: Wait>(
+/// Lets a worker run over the book, until it is idle, and looks for a report of all balances that covers so many records, before and
+/// after it. None where memory is wanting.
+pub fn run_over<R: Wait>(
+    rt: &R,
+    alloc: Global,
+    book: RevaluedBook<Nowhere>,
+    gate: &mut UntilIdle,
+    need: u32,
+) -> Option<Worked> {
+    run_counted::<Brand, R>(rt, alloc, book, gate, need, Blank::new(1))
+}
+
+// The run, whose steps are counted.
+fn run_counted<L: Ledger, R: Wait>(
     rt: &R,
     alloc: Global,
     book: RevaluedBook<Nowhere>,
@@ -118,7 +129,7 @@ fn a_worker_values_and_publishes(rt: HostRuntime) {
         panic!(rt; "all is accepted")
     };
     let mut gate = UntilIdle::new();
-    let Some(worked) = run_over::<Brand, _>(&rt, alloc, book, &mut gate, 0, Blank::new(1)) else {
+    let Some(worked) = run_over(&rt, alloc, book, &mut gate, 0) else {
         panic!(rt; "no memory")
     };
     // a fetch, a publication, a look, and nothing to do are four turns at the lock
