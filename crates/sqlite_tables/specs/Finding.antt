@@ -67,7 +67,7 @@ IsUpgradeOf db t = (old : Tables) × StandsFor db old × (t ≡ upgraded old)
 abbrev pub TellsWhatWas : Database → (Tables → Type 0) → Type 0
 TellsWhatWas db told = (IsBlank db × Within (λ t. t ≡ new_tables) told) ⊎ ((db.schema ≡ whole) × Within (IsUpgradeOf db) told)
 
--- The connection was made anew, and over that one tables are told, and some are unless the disk lied or it is shut.
+-- Over a connection that stands in place of another tables are told, and some are unless the disk lied or it is shut.
 pub record WasPrepared {S : Type 0} (store : Ghosts S) (old : Held S) (new : Base S) : Type 0 where
   pub renewed : Held S
   pub is_renewed : IsRenewed store old renewed
@@ -77,7 +77,7 @@ pub record WasPrepared {S : Type 0} (store : Ghosts S) (old : Held S) (new : Bas
   pub told : TellsWhatWas (state store renewed).now (TellsTables store new)
   pub crash : Survives (state store renewed) (state store new.conn) (LeavesPrepared store renewed)
 
--- The connection was made anew, and its database is as it was.
+-- Of a connection that stands in place of another the database is as it was.
 pub record WasRefused {S : Type 0} (store : Ghosts S) (old new : Held S) : Type 0 where
   pub renewed : Held S
   pub is_renewed : IsRenewed store old renewed
