@@ -22,10 +22,12 @@ use stock_nums::numbers::RecordNo;
 pub struct StoredTables<S: Alter> {
     conn: Connection<S>,
     ready: bool,
+    // What was read as the tables were found, until it is loaded or they change.
+    kept: Option<Tables>,
 }
 
 impl<S: Alter> Model for StoredTables<S> {
-    ghost use Rattle.sqlite_tables.specs.Stored.{Base, base_code, IsSettled};
+    ghost use Rattle.sqlite_tables.specs.Stored.{Base, base_code, IsStored};
 
     ghost Value = { Base S };
 
@@ -33,7 +35,7 @@ impl<S: Alter> Model for StoredTables<S> {
 
     ghost view = { λ s. record { conn = s.conn; ready = s.ready } };
 
-    ghost invariant = { λ s. IsSettled S.Store s.conn s.ready };
+    ghost invariant = { λ s. IsStored S.Store s.conn s.ready s.kept };
 }
 
 impl<S: Alter + Drop> StoredTables<S> {
@@ -90,7 +92,11 @@ impl<S: Alter> StoredTables<S> {
     {
         let mut conn = conn;
         match preparing::prepare(alloc, &mut conn) {
-            Ok(()) => Ok(StoredTables { conn, ready: true }),
+            Ok(kept) => Ok(StoredTables {
+                conn,
+                ready: true,
+                kept,
+            }),
             Err(error) => Err((error, conn)),
         }
     }
@@ -100,7 +106,11 @@ impl<S: Alter> StoredTables<S> {
         requires { conn.in_transaction ≡ false }
         ensures { result ≡ record { conn = conn; ready = false } }
     {
-        StoredTables { conn, ready: false }
+        StoredTables {
+            conn,
+            ready: false,
+            kept: None,
+        }
     }
 
     /// The connection, for good.
@@ -124,6 +134,7 @@ impl<S: Alter> StoredTables<S> {
         ensures crash { OnErr result (MayMake (appended number body.now) (TellsTables S.Store self.old) (MayLeaveTables S.Store self.old)
             (MayLeaveTables S.Store self.new)) }
     {
+        self.kept = None;
         writing::append(&mut self.conn, number, body)
     }
 
@@ -139,6 +150,7 @@ impl<S: Alter> StoredTables<S> {
         ensures crash { OnErr result (MayMake (published covered changes.now) (TellsTables S.Store self.old) (MayLeaveTables S.Store self.old)
             (MayLeaveTables S.Store self.new)) }
     {
+        self.kept = None;
         writing::publish(&mut self.conn, covered, changes)
     }
 
@@ -157,6 +169,9 @@ impl<S: Alter> StoredTables<S> {
         ensures tables_kept { Within (TellsTables S.Store self.old) (TellsTables S.Store self.new) }
         ensures crash { Within (MayLeaveTables S.Store self.old) (MayLeaveTables S.Store self.new) }
     {
-        reading::load(alloc, &mut self.conn)
+        match self.kept.take() {
+            Some(copy) => Ok(copy),
+            None => reading::load(alloc, &mut self.conn),
+        }
     }
 }
