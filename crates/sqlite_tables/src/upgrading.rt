@@ -17,8 +17,8 @@ use stock_keeper::tables::{Tables, VERSION};
 ///
 /// # Errors
 ///
-/// `NotADatabase` where the schema is not exactly that of a ledger's database. `DatabaseCorrupt` where the worths come out of order, or
-/// two at one spot, or the head has not one row. `IntegralValueOutOfRange` where a number of a worth is none that its field can have. All
+/// `NotADatabase` where the schema is not exactly that of a ledger's database. `DatabaseCorrupt` where two worths stand at one spot, or
+/// the head has not one row. `IntegralValueOutOfRange` where a number of a worth is none that its field can have. All
 /// others are those of the database. It is as it was, but a crash may leave the tables of a ledger as they would be.
 pub(crate) fn upgrade_ledger<S: Alter>(
     alloc: Global,
