@@ -15,4 +15,4 @@ mod opened_tables;
 #[cfg(test)]
 mod records;
 #[cfg(test)]
-mod row_lists;
+mod workers;

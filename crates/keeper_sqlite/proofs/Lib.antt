@@ -1,2 +1,1 @@
 pub mod ShelfLaw
-pub mod FileOrder

@@ -6,7 +6,6 @@ ghost use Rattle.report_mirror.specs.Generations.{IsGeneration};
 
 use crate::record_blocks::RecordBlocks;
 use report_selection::until::rows_until;
-use shared_list::blocks::SharedBlocks;
 use shared_list::list::SharedList;
 use std::marker::Model;
 use stock_model::queries::{Query, Selected};
@@ -21,7 +20,7 @@ use stock_nums::numbers::RecordNo;
 pub struct Generation {
     covered: RecordNo,
     records: RecordBlocks,
-    rows: SharedBlocks<Row>,
+    rows: SharedList<Row>,
     heads: SharedList<Head>,
 }
 
@@ -42,7 +41,7 @@ impl Generation {
     pub fn new(
         covered: RecordNo,
         records: RecordBlocks,
-        rows: SharedBlocks<Row>,
+        rows: SharedList<Row>,
         heads: SharedList<Head>,
     ) -> Generation
         requires { IsGeneration covered.0 records rows heads }
@@ -82,7 +81,7 @@ impl Generation {
         Ok(Selected {
             covered: self.covered,
             rows: rows_until(&self.rows, query.until)?,
-            heads: self.heads.share()?,
+            heads: self.heads.front(self.heads.len())?,
         })
     }
 }

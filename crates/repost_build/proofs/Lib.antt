@@ -9,6 +9,4 @@ pub mod Extended
 pub mod Extending
 pub mod Givens
 pub mod Rows
-pub mod BlockRows
-pub mod SameRows
 pub mod Turned

@@ -2,7 +2,4 @@
 #![tactic(auto)]
 
 pub mod build;
-mod row_blocks;
-mod row_equality;
 mod sending;
-mod slot_rows;

@@ -1,11 +1,9 @@
-//! That lists may be held in several threads where their items may.
+//! That a list may be held in several threads where its items may.
 
-use crate::blocks::SharedBlocks;
 use crate::list::SharedList;
 
 fn sent<T: Send>() {}
 
-fn lists_may_cross_threads<T: Drop + Send + Sync>() {
+fn list_may_cross_threads<T: Drop + Send + Sync>() {
     sent::<SharedList<T>>();
-    sent::<SharedBlocks<T>>();
 }

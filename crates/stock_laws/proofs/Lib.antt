@@ -19,7 +19,6 @@ pub mod Received
 pub mod LandedSums
 pub mod Valuation
 pub mod Until
-pub mod Walks
 pub mod LayersLeft
 pub mod ReturnedUnits
 pub mod Legality

@@ -2,7 +2,6 @@
 ghost use Rattle.std.specs.Prelude.{◌≡◌};
 ghost use Rattle.stock_model.specs.Reports.{need_of};
 
-use shared_list::blocks::SharedBlocks;
 use shared_list::list::SharedList;
 use stock_nums::code::Code;
 use stock_nums::entry::Row;
@@ -101,6 +100,6 @@ pub enum SelectFault {
 #[derive(Drop)]
 pub struct Selected {
     pub covered: RecordNo,
-    pub rows: SharedBlocks<Row>,
+    pub rows: SharedList<Row>,
     pub heads: SharedList<Head>,
 }

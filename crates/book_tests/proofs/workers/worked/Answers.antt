@@ -1,0 +1,15 @@
+-- A pass that a lock is made with has seen the history of its book.
+use Rattle.std.proofs.Common.{List, sym, ap, ◌∙◌, subst}
+use Rattle.stock_model.specs.declared.deeds.Deed.{Deed}
+use Rattle.turn_lock.specs.declared.view.View.{View}
+use Rattle.session_laws.specs.Makers.{without_makers}
+use Rattle.repost_worker.specs.Turns.{IsWorkOf}
+use Rattle.session_laws.proofs.MakersOf.{without_makers-with_makers}
+use Rattle.book_tests.proofs.workers.worked.Goals as goal
+
+pub run_worker-pass-requires-clause-work : goal.run_worker-pass-requires-clause-work
+run_worker-pass-requires-clause-work g c =
+    let parts = c.into_parts-book in
+    subst (λ (h : List Deed). IsWorkOf h parts.result.1)
+    (sym (ap (λ (v : View Deed). without_makers v.seen) c.in-Ok.ensures.pass ∙ without_makers-with_makers parts.result.0.history))
+    parts.ensures.work
