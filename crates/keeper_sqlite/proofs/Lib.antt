@@ -1,1 +1,2 @@
 pub mod ShelfLaw
+pub mod FileOrder

@@ -8,7 +8,7 @@ ghost use Rattle.stock_keeper.specs.Worths.{AreInOrder};
 ghost use Rattle.stock_keeper.specs.declared.fault.KeepFault.TheVariants as fault;
 ghost use Rattle.stock_keeper.specs.declared.tables.Tables.{Tables};
 ghost use Rattle.sqlite_tables.specs.Finding.{WasPrepared, WasRefused};
-ghost use Rattle.sqlite_tables.specs.Sorted.{LeavesNoMore};
+ghost use Rattle.sqlite_tables.specs.Sorted.{IsUnchanged, KnowsOrder, LeavesNoMore};
 ghost use Rattle.sqlite_tables.specs.Stored.{TellsTables, MayLeaveTables};
 
 use crate::refusing::{fault_of, refused};
@@ -33,16 +33,12 @@ pub struct SqliteKeeper<S: Alter> {
 
 impl<S: Alter + Drop> SqliteKeeper<S> {
     /// A keeper that had no fault yet, over the tables of a database, which it tells from then on. The connection is made anew, with
-    /// nothing changed. Where the database has nothing in it, the tables of an empty ledger are made in one transaction. Where it has
-    /// exactly the tables of a ledger, and they can be read, those of version 1 become those of the version that is written now, in one
-    /// transaction, and all else stays as it is.
+    /// nothing changed, and then as `prepared_in_order`.
     ///
     /// # Errors
     ///
-    /// `Failed` where the database has something in it, and not exactly the tables of a ledger, where these can't be read, or where the
-    /// database refuses else. `NoMemory` for want of memory. The database stays as it is, but a crash may leave all of the tables in one
-    /// that had nothing in it, and those of a ledger as they would be. The connection is given back, or its store where it could not be
-    /// made anew.
+    /// Those of `prepared_in_order`, and those of a connection that can't be made anew. The connection is given back, or its store where
+    /// it could not be made anew.
     pub fn prepared(
         alloc: Global,
         conn: Connection<S>,
@@ -66,6 +62,38 @@ impl<S: Alter + Drop> SqliteKeeper<S> {
 }
 
 impl<S: Alter> SqliteKeeper<S> {
+    /// A keeper that had no fault yet, over the tables of a database, which it tells from then on. Nothing of the database is changed
+    /// yet, and it is known that the rows of its tables stand by rowid. Where the database has nothing in it, the tables of an empty
+    /// ledger are made in one transaction. Where it has exactly the tables of a ledger, and they can be read, those of version 1 become
+    /// those of the version that is written now, in one transaction, and all else stays as it is.
+    ///
+    /// # Errors
+    ///
+    /// `Failed` where the database has something in it, and not exactly the tables of a ledger, where these can't be read, or where the
+    /// database refuses else. `NoMemory` for want of memory. The database stays as it is, but a crash may leave all of the tables in one
+    /// that had nothing in it, and those of a ledger as they would be. The connection is given back.
+    pub fn prepared_in_order(
+        alloc: Global,
+        conn: Connection<S>,
+    ) -> Result<SqliteKeeper<S>, (KeepFault, Connection<S>)>
+        requires unchanged { IsUnchanged S.Store conn }
+        requires order { KnowsOrder S.Store conn }
+        ensures fresh { IfOk result (λ keeper. keeper.faults ≡ 0) }
+        ensures told { IfOk result (λ keeper. WasPrepared S.Store conn keeper.tables) }
+        ensures durable { IfOk result (λ keeper. Within (TellsTables S.Store keeper.tables) (MayLeaveTables S.Store keeper.tables)) }
+        ensures ended { IfErr result (λ e. e.1.in_transaction ≡ false) }
+        ensures refused { IfErr result (λ e. WasRefused S.Store conn e.1) }
+    {
+        match StoredTables::prepared_in_order(alloc, conn) {
+            Ok(tables) => Ok(SqliteKeeper {
+                alloc,
+                tables,
+                faults: 0,
+            }),
+            Err((error, conn)) => Err((fault_of(error), conn)),
+        }
+    }
+
     /// A keeper over this database, which had no fault yet. It tells nothing.
     pub fn over(alloc: Global, conn: Connection<S>) -> SqliteKeeper<S>
         requires { conn.in_transaction ≡ false }

@@ -4,6 +4,7 @@ ghost use Rattle.stock_io.specs.Counts.{NeverFalls, raised};
 ghost use Rattle.stock_keeper.specs.Keeping.{Within};
 ghost use Rattle.stock_keeper.specs.declared.fault.KeepFault.TheVariants as fault;
 ghost use Rattle.sqlite_tables.specs.Finding.{WasPrepared};
+ghost use Rattle.sqlite_tables.specs.Sorted.{IsUnchanged, KnowsOrder};
 ghost use Rattle.sqlite_tables.specs.Stored.{TellsTables, MayLeaveTables};
 
 use crate::refusing::{counted, refused};
@@ -123,7 +124,8 @@ fn kept_in<S: Alter + Drop>(
     log: &Option<String>,
     faults: &mut u64,
 ) -> Result<SqliteKeeper<S>, KeepFault>
-    requires { conn.in_transaction ≡ false }
+    requires unchanged { IsUnchanged S.Store conn }
+    requires order { KnowsOrder S.Store conn }
     ensures fresh { IfOk result (λ keeper. keeper.faults ≡ 0) }
     ensures told { IfOk result (λ keeper. WasPrepared S.Store conn keeper.tables) }
     ensures durable { IfOk result (λ keeper. Within (TellsTables S.Store keeper.tables) (MayLeaveTables S.Store keeper.tables)) }
@@ -131,7 +133,7 @@ fn kept_in<S: Alter + Drop>(
     ensures fault { result ≡ Err fault.Failed → faults.new ≡ raised faults.old }
     ensures never_falls { NeverFalls faults.old faults.new }
 {
-    match SqliteKeeper::prepared(rt.alloc(), conn) {
+    match SqliteKeeper::prepared_in_order(rt.alloc(), conn) {
         Ok(keeper) => Ok(keeper),
         Err((fault, left)) => {
             standing::take_away(rt, log);

@@ -4,7 +4,7 @@ use Rattle.std.specs.List.{AllByRecursion}
 use Rattle.std.specs.List.Sorted.{IsPermutation}
 use Rattle.std.specs.FinMap.{int_cmp-IsAntisymmetric}
 use Rattle.std.proofs.lemmas.Bool.{and_parts, and_from, not-true, false_from_ne_true}
-use Rattle.std.proofs.lemmas.List.Sorted.{length_permutation}
+use Rattle.std.proofs.lemmas.List.Sorted.{IsPermutation-sym, length_permutation}
 use Rattle.sqlite_value.specs.Keys.{plain, first_key}
 use Rattle.sqlite_value.specs.declared.value.Value.{Value}
 use Rattle.sqlite_value.specs.declared.value.Value.TheVariants.{Null, Int, Real, Text, Blob}
@@ -21,18 +21,17 @@ use Rattle.sqlite.specs.Effect.{Database, IsDatabase, Answers}
 use Rattle.sqlite.proofs.Callers.{one_permutation}
 use Rattle.stock_keeper.specs.declared.changes.SpotWorth.{SpotWorth}
 use Rattle.stock_keeper.specs.declared.tables.StoredRecord.{StoredRecord}
-use Rattle.stock_keeper.specs.declared.tables.Tables.{Tables}
 use Rattle.stock_keeper.specs.Worths.{AreInOrder}
 use Rattle.sqlite_tables.specs.Finding.{IsOneHead}
-use Rattle.sqlite_tables.specs.Rows.{record_row, worth_row, record_cells, spot_cells, worth_cells, head_cells, worth_columns, AreWorthsOf}
+use Rattle.sqlite_tables.specs.Rows.{record_row, worth_row, record_cells, spot_cells, worth_cells, head_cells, worth_columns, AreWorthsOf, AreSortedOf}
 use Rattle.sqlite_tables.specs.Sorted.{IsSorted}
 use Rattle.sqlite_tables.specs.Standing.{HoldsWorths, StandsFor}
 use Rattle.sqlite_tables.specs.Whole.{whole, records_table, worths_table}
 use Rattle.sqlite_tables.proofs.DeleteLaw.{rowid_is, has_itself}
-use Rattle.sqlite_tables.proofs.Members.{has_map, has_mapped}
+use Rattle.sqlite_tables.proofs.Members.{has_map, has_mapped, has_permutation}
 use Rattle.sqlite_tables.proofs.QueryLaw.{shows, shown_has, shown_all}
 use Rattle.sqlite_tables.proofs.Tests.{equal_self, differ-Int, tied}
-use Rattle.sqlite_tables.proofs.TextLaws.{alone, head_order, whole_head_query, whole_head_terms, worths_query, worths_terms, worths_order}
+use Rattle.sqlite_tables.proofs.TextLaws.{alone, head_order, whole_head_query, whole_head_terms, worths_terms, scan_query}
 use Rattle.sqlite_tables.proofs.WorthLaw.{spot_of_cells}
 
 -- ---- the rows of the records
@@ -48,7 +47,7 @@ int_is (Real x) h = absurd (true≢false (sym h))
 int_is (Text t) h = absurd (true≢false (sym h))
 int_is (Blob b) h = absurd (true≢false (sym h))
 
-abbrev record_of : Row → StoredRecord
+abbrev pub record_of : Row → StoredRecord
 record_of r = record { number = int_in (column r 0); body = bytes (column r 2) }
 
 -- a row that keeps the types, and has no NULL where none may be, has a blob for its body
@@ -96,21 +95,22 @@ agree_from s r a b c cells same =
     agree_is s r ∙ rw (first, second, third, also, too, last) (and_from _ _ (equal_self a) (and_from _ _ (equal_self b) (and_from _ _ (equal_self c) refl)))
 
 module _ (db : Trees) (rows : List Row) (ws : List SpotWorth) (table : IsTable (db 1)) (ints : AllByRecursion (λ r. IsTrue (is_int (rowid r))) (db 1))
-    (unique : AllByRecursion (λ r. passes Unique whole db worths_table r ≡ true) (db 1)) (answers : Answers (record { schema = whole; trees = db }) (alone worths_query) [] rows)
-    (read : AreWorthsOf rows ws) (in_order : AreInOrder ws) where
+    (unique : AllByRecursion (λ r. passes Unique whole db worths_table r ≡ true) (db 1)) (answers : Answers (record { schema = whole; trees = db }) (alone scan_query) [] rows)
+    (seen : List SpotWorth) (read : AreWorthsOf rows seen) (sorted : IsPermutation seen ws) (in_order : AreInOrder ws) where
   keyed : (r : Row) → Has (db 1) r → column r 0 ≡ Int (int_in (column r 0))
   keyed r h = int_is (column r 0) (all_has (λ x. IsTrue (is_int (rowid x))) (db 1) r ints h)
 
   worth_at : (r : Row) → Has (db 1) r → (w : SpotWorth) × Has ws w × (worth_cells r ≡ worth_row w)
   worth_at r h =
-      let there = has_map worth_columns rows (worth_cells r) (shown_all 1 [] worths_terms worths_order db [] whole rows refl answers r h refl) in
-      let found = has_mapped worth_row ws (worth_cells r) (subst (λ l. Has l (worth_cells r)) (sym read) there) in
-      (found.0, found.1, found.2)
+      let there = has_map worth_columns rows (worth_cells r) (shown_all 1 [] worths_terms [] db [] whole rows refl answers r h refl) in
+      let found = has_mapped worth_row seen (worth_cells r) (subst (λ l. Has l (worth_cells r)) (sym read) there) in
+      (found.0, has_permutation seen ws found.0 sorted found.1, found.2)
 
   row_of : (w : SpotWorth) → Has ws w → (r : Row) × Has (db 1) r × (worth_cells r ≡ worth_row w)
   row_of w h =
-      let found = has_mapped worth_columns rows (worth_row w) (subst (λ l. Has l (worth_row w)) read (has_map worth_row ws w h)) in
-      let row = shown_has 1 [] worths_terms worths_order db [] whole rows refl answers found.0 found.1 in
+      let there = has_permutation ws seen w (IsPermutation-sym seen ws sorted) h in
+      let found = has_mapped worth_columns rows (worth_row w) (subst (λ l. Has l (worth_row w)) read (has_map worth_row seen w there)) in
+      let row = shown_has 1 [] worths_terms [] db [] whole rows refl answers found.0 found.1 in
       (row.0, row.1, sym (found.2 ∙ ap worth_columns row.3))
 
   -- what has the same spot has the same rowid, since the spot is unique
@@ -172,19 +172,18 @@ head_found db rows version covered answers one = go (db 3) refl
 
 -- ---- the whole database
 
-pub found_stands : (db : Database) (worths heads : List Row) (ws : List SpotWorth) (version covered : ℤ) → db.schema ≡ whole → IsSorted db → Answers db (alone worths_query) [] worths
-    → AreWorthsOf worths ws → AreInOrder ws → Answers db (alone whole_head_query) [] heads → IsOneHead heads version covered → (t : Tables) × StandsFor db t
+pub found_stands : (db : Database) (worths heads : List Row) (ws : List SpotWorth) (version covered : ℤ) → db.schema ≡ whole → IsSorted db → Answers db (alone scan_query) [] worths
+    → AreSortedOf worths ws → AreInOrder ws → Answers db (alone whole_head_query) [] heads → IsOneHead heads version covered
+    → StandsFor db (record { version = version; records = map record_of (db.trees 0); covered = covered; worths = ws })
 found_stands db worths heads ws version covered has sorted shown read in_order head_shown head =
     let same : db ≡ record { schema = whole; trees = db.trees } = λ i. record { schema = has i; trees = db.trees } in
     let sound : IsDatabase (record { schema = whole; trees = db.trees }) = subst IsDatabase same sorted.sound in
     let rises = (subst IsSorted same sorted).rises in
-    let rules = sound.obeys.rules in (
-      record { version = version; records = map record_of (db.trees 0); covered = covered; worths = ws },
-      record {
-        schema = has;
-        records = records_are db.trees (db.trees 0) rises.0.1 (rules Datatype).0 (rules NotNull).0;
-        rises = rises.0.0;
-        worths = holds_found db.trees worths ws rises.1.0.0 rises.1.0.1 (rules Unique).1.0 (subst (λ d. Answers d (alone worths_query) [] worths) same shown) read in_order;
-        head = head_found db.trees heads version covered (subst (λ d. Answers d (alone whole_head_query) [] heads) same head_shown) head;
-      },
-    )
+    let rules = sound.obeys.rules in
+    record {
+      schema = has;
+      records = records_are db.trees (db.trees 0) rises.0.1 (rules Datatype).0 (rules NotNull).0;
+      rises = rises.0.0;
+      worths = holds_found db.trees worths ws rises.1.0.0 rises.1.0.1 (rules Unique).1.0 (subst (λ d. Answers d (alone scan_query) [] worths) same shown) read.0 read.1 read.2 in_order;
+      head = head_found db.trees heads version covered (subst (λ d. Answers d (alone whole_head_query) [] heads) same head_shown) head;
+    }

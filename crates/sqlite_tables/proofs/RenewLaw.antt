@@ -1,5 +1,5 @@
 -- What is known of a connection that was made anew over the store of another.
-use Rattle.std.proofs.Common.{◌≡◌, ◌≤◌, Bool, true, false, IsTrue, refl, sym, ap, ◌∙◌, subst, true≢false, arith}
+use Rattle.std.proofs.Common.{◌≡◌, ◌≤◌, le_refl, Bool, true, false, IsTrue, refl, sym, ap, ◌∙◌, subst, true≢false, arith}
 use Rattle.std.specs.List.{AllByRecursion}
 use Rattle.sqlite_trees.specs.declared.store.Store.{Ghosts}
 use Rattle.sqlite_trees.specs.declared.store.Shape.TheVariants as shape
@@ -14,7 +14,7 @@ use Rattle.sqlite_catalog.proofs.LayoutLemmas.{laid_out, objects_rise}
 use Rattle.sqlite.specs.Effect.{Database}
 use Rattle.sqlite.specs.State.{HasCleanDisk, IsLive, Opens}
 use Rattle.sqlite.specs.Held.{Held, state, IsNew}
-use Rattle.sqlite_tables.specs.Sorted.{IsRising, KnowsOrder, IsRenewed}
+use Rattle.sqlite_tables.specs.Sorted.{IsRising, KnowsOrder, IsUnchanged, IsRenewed}
 
 -- the tables of a store that is not broken stand by rowid
 sorted_trees : (v : View) (schema : Schema) → IsListed (v.trees catalog_tree) v.shape v.reals → IsOrdered v.shape v.trees → IsSound schema v.trees
@@ -67,3 +67,34 @@ module _ {S : Type 0} (store : Ghosts S) (old new : Held S) (it : S) (unbroken :
           crash = λ db left. subst (store.recovers old.store) (sym (settled new.store db now.0.is_open left ∙ ap (λ (d : Database). d.trees) (sym now.0.clean) ∙ same)) (stays old.store was_open);
         };
   }
+
+-- ---- what stands in place of what stood in place of another
+
+pub renewed_twice : {S : Type 0} (store : Ghosts S) (old mid new : Held S) → IsRenewed store old mid → IsRenewed store mid new → IsRenewed store old new
+renewed_twice store old mid new first then = record {
+  clean = omega (arith, first.clean, then.clean);
+  shield = λ s. then.shield (first.shield s);
+  renews = λ sure.
+      let mid_clean : HasCleanDisk (state store mid) = omega (arith, then.clean, sure) in
+      let was = first.renews mid_clean in
+      let is = then.renews sure in
+      record {
+        was_open = was.was_open;
+        is_open = is.is_open;
+        trees = is.trees ∙ ap (λ (d : Database). d.trees) was.committed ∙ was.trees;
+        committed = is.committed;
+        crash = λ db left. was.crash db (is.crash db left);
+      };
+}
+
+-- a connection with nothing changed stands in its own place
+pub renewed_itself : {S : Type 0} (store : Ghosts S) (conn : Held S) → IsUnchanged store conn → IsRenewed store conn conn
+renewed_itself store conn unchanged = record {
+  clean = le_refl _;
+  shield = λ s. s;
+  renews = λ sure. let it = unchanged sure in
+      record { was_open = it.0; is_open = it.0; trees = ap (λ (d : Database). d.trees) it.1; committed = sym it.1; crash = λ db left. left };
+}
+
+pub renewed_unchanged : {S : Type 0} (store : Ghosts S) (old new : Held S) → IsRenewed store old new → IsUnchanged store new
+renewed_unchanged store old new it sure = let is = it.renews sure in (is.is_open, sym is.committed)

@@ -159,6 +159,17 @@ pub worths_plain : IsPlain (understood whole texts.select_worths) × (reads_list
 unfolding understood everything
 worths_plain = ((refl, refl), refl)
 
+abbrev pub scan_query : Query
+scan_query = query_of 1 [] worths_terms []
+
+pub scan_is : command_of (understood whole texts.scan_worths) ≡ Select (alone scan_query) (codes "voucher" ∷ codes "line" ∷ codes "side" ∷ codes "value" ∷ codes "share" ∷ [])
+unfolding understood everything
+scan_is = refl
+
+pub scan_plain : IsPlain (understood whole texts.scan_worths) × (reads_listing whole texts.scan_worths ≡ false)
+unfolding understood everything
+scan_plain = ((refl, refl), refl)
+
 abbrev pub head_terms : List Term
 head_terms = col 1 2 ∷ col 1 3 ∷ []
 

@@ -1,5 +1,5 @@
 -- What a database is before its tables are told, and what preparing it makes of it.
-use Rattle.std.specs.Prelude.{◌≡◌, ◌⊎◌, ⊤, ℕ, ℤ, pos, List, IsTrue, [], ◌∷◌}
+use Rattle.std.specs.Prelude.{◌≡◌, ◌⊎◌, ⊤, ℕ, ℤ, pos, List, Option, Some, None, IsTrue, [], ◌∷◌}
 use Rattle.sqlite_value.specs.declared.value.Value.TheVariants.{Int}
 use Rattle.sqlite_value.specs.Order.{Row, column}
 use Rattle.sqlite_trees.specs.declared.store.Store.{Ghosts}
@@ -33,16 +33,20 @@ IsWholeHead row version covered = (column row 0 ≡ Int (pos 1)) × (column row 
 abbrev pub IsOneHead : List Row → ℤ → ℤ → Type 0
 IsOneHead rows version covered = (row : Row) × (rows ≡ row ∷ []) × IsWholeHead row version covered
 
--- the database stands for tables, where the disk is clean, the schema that of a ledger's database, and its rows stand by rowid
-abbrev pub HasFound : {S : Type 0} → Ghosts S → Held S → Held S → Type 0
-HasFound store old new =
-    HasCleanDisk (state store new) → (state store old).now.schema ≡ whole → IsSorted (state store old).now → (t : Tables) × StandsFor (state store old).now t
+-- the database stands for these tables, where the disk is clean, the schema that of a ledger's database, and its rows stand by rowid
+abbrev pub HasFound : {S : Type 0} → Ghosts S → Held S → Held S → Tables → Type 0
+HasFound store old new t =
+    HasCleanDisk (state store new) → (state store old).now.schema ≡ whole → IsSorted (state store old).now → StandsFor (state store old).now t
+
+-- these are the tables that were found, in the version that is written now
+abbrev pub HasFoundBefore : {S : Type 0} → Ghosts S → Held S → Held S → Tables → Type 0
+HasFoundBefore store old new t = (from : Tables) × HasFound store old new from × (t ≡ upgraded from)
 
 -- There were just the tables of a ledger, whose rows could be read. They are those of the version that is written now, where they were of
--- the one before it, and that is committed.
-pub record IsUpgraded {S : Type 0} (store : Ghosts S) (old new : Held S) : Type 0 where
+-- the one before it, and that is committed. The copy is of what they are then.
+pub record IsUpgraded {S : Type 0} (store : Ghosts S) (old new : Held S) (copy : Tables) : Type 0 where
   pub is_whole : (state store old).now.schema ≡ whole
-  pub found : HasFound store old new
+  pub found : HasFoundBefore store old new copy
   pub made : HasMade store (λ _. ⊤) upgraded old new
 
 -- a crash may leave trees with that made whole, where there were just the tables of a ledger
@@ -50,9 +54,11 @@ pub record LeavesUpgraded {S : Type 0} (store : Ghosts S) (old : Held S) (trees 
   pub is_whole : (state store old).now.schema ≡ whole
   pub tried : IsTried (λ _. ⊤) upgraded (state store old) trees
 
--- the tables were made where there was nothing, or those of a ledger are of the version that is written now
-abbrev pub IsPrepared : {S : Type 0} → Ghosts S → Held S → Held S → Type 0
-IsPrepared store old new = (IsBlank (state store old).now × HasMadeTables store old new) ⊎ IsUpgraded store old new
+-- The tables were made where there was nothing, and there is no copy; or those of a ledger are of the version that is written now, and
+-- there is one.
+abbrev pub IsPrepared : {S : Type 0} → Ghosts S → Held S → Held S → Option Tables → Type 0
+IsPrepared store old new None = IsBlank (state store old).now × HasMadeTables store old new
+IsPrepared store old new (Some copy) = IsUpgraded store old new copy
 
 -- A crash may leave trees with either of the two made whole. Of a database that has something else in it, it leaves only what it might
 -- have left before.
@@ -67,7 +73,7 @@ IsUpgradeOf db t = (old : Tables) × StandsFor db old × (t ≡ upgraded old)
 abbrev pub TellsWhatWas : Database → (Tables → Type 0) → Type 0
 TellsWhatWas db told = (IsBlank db × Within (λ t. t ≡ new_tables) told) ⊎ ((db.schema ≡ whole) × Within (IsUpgradeOf db) told)
 
--- The connection was made anew, and over that one tables are told, and some are unless the disk lied or it is shut.
+-- Over a connection that stands in place of another tables are told, and some are unless the disk lied or it is shut.
 pub record WasPrepared {S : Type 0} (store : Ghosts S) (old : Held S) (new : Base S) : Type 0 where
   pub renewed : Held S
   pub is_renewed : IsRenewed store old renewed
@@ -77,7 +83,7 @@ pub record WasPrepared {S : Type 0} (store : Ghosts S) (old : Held S) (new : Bas
   pub told : TellsWhatWas (state store renewed).now (TellsTables store new)
   pub crash : Survives (state store renewed) (state store new.conn) (LeavesPrepared store renewed)
 
--- The connection was made anew, and its database is as it was.
+-- Of a connection that stands in place of another the database is as it was.
 pub record WasRefused {S : Type 0} (store : Ghosts S) (old new : Held S) : Type 0 where
   pub renewed : Held S
   pub is_renewed : IsRenewed store old renewed

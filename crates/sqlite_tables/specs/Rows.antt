@@ -1,5 +1,5 @@
 -- How records, worths and the head stand in rows.
-use Rattle.std.specs.Prelude.{◌≡◌, ℤ, pos, List, map, [], ◌∷◌}
+use Rattle.std.specs.Prelude.{◌≡◌, ℤ, pos, List, map, IsPermutation, [], ◌∷◌}
 use Rattle.sqlite_value.specs.declared.value.Value.TheVariants.{Int, Blob}
 use Rattle.sqlite_value.specs.Order.{Row, column}
 use Rattle.stock_nums.specs.Places.{side_rank}
@@ -64,3 +64,7 @@ AreRecordsOf rows records = map record_row records ≡ map record_columns rows
 
 abbrev pub AreWorthsOf : List Row → List SpotWorth → Type 0
 AreWorthsOf rows worths = map worth_row worths ≡ map worth_columns rows
+
+-- the worths of these rows, in some order
+abbrev pub AreSortedOf : List Row → List SpotWorth → Type 0
+AreSortedOf rows worths = (read : List SpotWorth) × AreWorthsOf rows read × IsPermutation read worths

@@ -23,6 +23,10 @@ pub record KnowsOrder {S : Type 0} (store : Ghosts S) (conn : Held S) : Type 0 w
   pub settled : conn.in_transaction ≡ false
   pub sorted : HasCleanDisk (state store conn) → IsTrue (state store conn).is_open → IsSorted (state store conn).now
 
+-- the connection is open, with nothing changed since the last commit, unless the disk lied
+abbrev pub IsUnchanged : {S : Type 0} → Ghosts S → Held S → Type 0
+IsUnchanged store conn = HasCleanDisk (state store conn) → IsTrue (state store conn).is_open × ((state store conn).now ≡ (state store conn).committed)
+
 -- what was committed last is there, with nothing changed since, and a crash leaves nothing that it might not have left before
 pub record Renews (old new : State) : Type 0 where
   pub was_open : IsTrue old.is_open
@@ -31,7 +35,7 @@ pub record Renews (old new : State) : Type 0 where
   pub committed : new.committed ≡ new.now
   pub crash : (db : Trees) → new.may_leave db → old.may_leave db
 
--- the second connection stands in place of the first, which was let go; it says something only where the disk is clean
+-- The second connection stands in place of the first, which was let go or is the same. It says something only where the disk is clean.
 pub record IsRenewed {S : Type 0} (store : Ghosts S) (old new : Held S) : Type 0 where
   pub clean : doubt (state store old).is_clean ≤ doubt (state store new).is_clean
   pub shield : (state store old).IsShielded → (state store new).IsShielded

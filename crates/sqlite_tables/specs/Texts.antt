@@ -41,6 +41,10 @@ select_worths = codes "SELECT voucher, line, side, value, share FROM worths ORDE
 abbrev pub select_head : List ℕ
 select_head = codes "SELECT version, covered FROM head ORDER BY id"
 
+-- it shows the worths as they stand, before they are known
+abbrev pub scan_worths : List ℕ
+scan_worths = codes "SELECT voucher, line, side, value, share FROM worths"
+
 -- it shows the whole head, before it is known
 abbrev pub select_whole_head : List ℕ
 select_whole_head = codes "SELECT id, version, covered FROM head ORDER BY id"

@@ -4,7 +4,7 @@ ghost use Rattle.sqlite_value.specs.declared.value.Value.TheVariants.{Int};
 ghost use Rattle.sqlite_value.specs.Order.{column};
 ghost use Rattle.stock_nums.specs.Places.{side_rank};
 ghost use Rattle.stock_keeper.specs.Worths.{AreInOrder};
-ghost use Rattle.sqlite_tables.specs.Rows.{IsRecordOf, IsWorthOf, IsHeadOf, AreRecordsOf, AreWorthsOf};
+ghost use Rattle.sqlite_tables.specs.Rows.{IsRecordOf, IsWorthOf, IsHeadOf, AreRecordsOf, AreWorthsOf, AreSortedOf};
 
 use sqlite::{Error, ErrorCode, Row};
 use std::alloc::Global;
@@ -64,10 +64,38 @@ pub(crate) fn worths_of(alloc: Global, rows: &[Row]) -> Result<Lines<SpotWorth>,
     ensures all { IfOk result (AreWorthsOf rows.now) }
     ensures in_order { IfOk result AreInOrder }
 {
+    lines_in_order(all_worths_of(alloc, rows)?)
+}
+
+/// The worths of all these rows, which stand in any order.
+///
+/// # Errors
+///
+/// `DatabaseCorrupt` where two have one spot. All others are those of a number that its field can't have.
+pub(crate) fn sorted_worths_of(alloc: Global, rows: &[Row]) -> Result<Lines<SpotWorth>, Error>
+    ensures all { IfOk result (AreSortedOf rows.now) }
+    ensures in_order { IfOk result AreInOrder }
+{
+    let mut worths = all_worths_of(alloc, rows)?;
+    worths.sort_unstable_by_key(|worth| worth.spot);
+    lines_in_order(worths)
+}
+
+fn all_worths_of(alloc: Global, rows: &[Row]) -> Result<Vec<SpotWorth>, Error>
+    ensures { IfOk result (λ worths. AreWorthsOf rows.now worths.items) }
+{
     let mut worths = Vec::with_capacity(alloc, rows.len())?;
     for row in rows {
         worths.push(worth_of(row)?)?;
     }
+    Ok(worths)
+}
+
+// The same worths, where they are in order and none have one spot.
+fn lines_in_order(worths: Vec<SpotWorth>) -> Result<Lines<SpotWorth>, Error>
+    ensures same { IfOk result (λ lines. lines ≡ worths.items) }
+    ensures in_order { IfOk result AreInOrder }
+{
     if !are_in_order(worths.as_slice()) {
         return Err(Error::SqliteFailure(ErrorCode::DatabaseCorrupt));
     }

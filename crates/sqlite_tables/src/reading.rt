@@ -55,9 +55,10 @@ fn read<S: Alter>(alloc: Global, tx: &mut Transaction<'_, S>) -> Result<Tables, 
     })
 }
 
-// The rows of the records, by number.
-fn record_rows<S: Alter>(tx: &mut Transaction<'_, S>) -> Result<Vec<Row>, Error>
+/// The rows of the records, by number.
+pub(crate) fn record_rows<S: Alter>(tx: &mut Transaction<'_, S>) -> Result<Vec<Row>, Error>
     ensures same_reference { tx.new.conn.ghost_name ≡ tx.old.conn.ghost_name }
+    ensures turned { OnOk result (HasTurned S.Store (λ _. ⊤) (λ t. t) tx.old.conn.now tx.new.conn.now) }
     ensures shown { IfOk result (λ rows. HasShown S.Store (λ t. map record_row t.records) tx.old.conn.now tx.new.conn.now rows.items) }
     ensures stayed { OnOk result (HasStayed S.Store tx.old.conn.now tx.new.conn.now) }
     ensures kept { HasKept S.Store tx.old.conn.now tx.new.conn.now }

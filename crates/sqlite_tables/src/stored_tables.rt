@@ -5,7 +5,7 @@ ghost use Rattle.stock_keeper.specs.Keeping.{Within, Makes, MayMake};
 ghost use Rattle.stock_keeper.specs.Worths.{AreInOrder};
 ghost use Rattle.stock_keeper.specs.declared.tables.Tables.{Tables};
 ghost use Rattle.sqlite_tables.specs.Finding.{WasPrepared, WasRefused};
-ghost use Rattle.sqlite_tables.specs.Sorted.{LeavesNoMore};
+ghost use Rattle.sqlite_tables.specs.Sorted.{IsUnchanged, KnowsOrder, LeavesNoMore};
 ghost use Rattle.sqlite_tables.specs.Stored.{TellsTables, MayLeaveTables};
 
 use crate::{preparing, reading, renewing, writing};
@@ -22,10 +22,12 @@ use stock_nums::numbers::RecordNo;
 pub struct StoredTables<S: Alter> {
     conn: Connection<S>,
     ready: bool,
+    // What was read as the tables were found, until it is loaded or they change.
+    kept: Option<Tables>,
 }
 
 impl<S: Alter> Model for StoredTables<S> {
-    ghost use Rattle.sqlite_tables.specs.Stored.{Base, base_code, IsSettled};
+    ghost use Rattle.sqlite_tables.specs.Stored.{Base, base_code, IsStored};
 
     ghost Value = { Base S };
 
@@ -33,20 +35,17 @@ impl<S: Alter> Model for StoredTables<S> {
 
     ghost view = { λ s. record { conn = s.conn; ready = s.ready } };
 
-    ghost invariant = { λ s. IsSettled S.Store s.conn s.ready };
+    ghost invariant = { λ s. IsStored S.Store s.conn s.ready s.kept };
 }
 
 impl<S: Alter + Drop> StoredTables<S> {
-    /// The tables of a database, which are told from then on. The connection is made anew, with nothing changed. Where the database has
-    /// nothing in it, the tables of an empty ledger are made in one transaction. Where it has exactly the tables of a ledger, and they
-    /// can be read, those of version 1 become those of the version that is written now, in one transaction, and all else stays as it is.
+    /// The tables of a database, which are told from then on. The connection is made anew, with nothing changed, and then as
+    /// `prepared_in_order`.
     ///
     /// # Errors
     ///
-    /// `NotADatabase` where the database has something in it, and not exactly these tables. `DatabaseCorrupt` where its worths come out
-    /// of order, or two at one spot, or its head has not one row. `IntegralValueOutOfRange` where a number of a worth is none that its
-    /// field can have. All others are those of the database. It stays as it is, but a crash may leave all of the tables in one that had
-    /// nothing in it, and those of a ledger as they would be. The connection is given back, or its store where it could not be made anew.
+    /// Those of `prepared_in_order`, and those of a connection that can't be made anew. The connection is given back, or its store where
+    /// it could not be made anew.
     pub fn prepared(
         alloc: Global,
         conn: Connection<S>,
@@ -57,24 +56,61 @@ impl<S: Alter + Drop> StoredTables<S> {
         ensures refused { IfErr result (λ e. IfOk e.1 (WasRefused S.Store conn)) }
         ensures left { IfErr result (λ e. IfErr e.1 (LeavesNoMore S.Store conn)) }
     {
-        let mut conn = match renewing::renewed(alloc, conn) {
+        let conn = match renewing::renewed(alloc, conn) {
             Ok(conn) => conn,
             Err((error, store)) => return Err((error, Err(store))),
         };
-        match preparing::prepare(alloc, &mut conn) {
-            Ok(()) => Ok(StoredTables { conn, ready: true }),
-            Err(error) => Err((error, Ok(conn))),
+        match StoredTables::prepared_in_order(alloc, conn) {
+            Ok(tables) => Ok(tables),
+            Err((error, conn)) => Err((error, Ok(conn))),
         }
     }
 }
 
 impl<S: Alter> StoredTables<S> {
+    /// The tables of a database, which are told from then on, over a connection with nothing changed of which it is known that the rows
+    /// of its tables stand by rowid. Where the database has nothing in it, the tables of an empty ledger are made in one transaction.
+    /// Where it has exactly the tables of a ledger, and they can be read, those of version 1 become those of the version that is written
+    /// now, in one transaction, and all else stays as it is.
+    ///
+    /// # Errors
+    ///
+    /// `NotADatabase` where the database has something in it, and not exactly these tables. `DatabaseCorrupt` where its worths come out
+    /// of order, or two at one spot, or its head has not one row. `IntegralValueOutOfRange` where a number of a worth is none that its
+    /// field can have. All others are those of the database. It stays as it is, but a crash may leave all of the tables in one that had
+    /// nothing in it, and those of a ledger as they would be. The connection is given back.
+    pub fn prepared_in_order(
+        alloc: Global,
+        conn: Connection<S>,
+    ) -> Result<StoredTables<S>, (Error, Connection<S>)>
+        requires unchanged { IsUnchanged S.Store conn }
+        requires order { KnowsOrder S.Store conn }
+        ensures told { IfOk result (λ tables. WasPrepared S.Store conn tables) }
+        ensures durable { IfOk result (λ tables. Within (TellsTables S.Store tables) (MayLeaveTables S.Store tables)) }
+        ensures ended { IfErr result (λ e. e.1.in_transaction ≡ false) }
+        ensures refused { IfErr result (λ e. WasRefused S.Store conn e.1) }
+    {
+        let mut conn = conn;
+        match preparing::prepare(alloc, &mut conn) {
+            Ok(kept) => Ok(StoredTables {
+                conn,
+                ready: true,
+                kept,
+            }),
+            Err(error) => Err((error, conn)),
+        }
+    }
+
     /// What stands behind this connection. It tells nothing yet.
     pub fn over(conn: Connection<S>) -> StoredTables<S>
         requires { conn.in_transaction ≡ false }
         ensures { result ≡ record { conn = conn; ready = false } }
     {
-        StoredTables { conn, ready: false }
+        StoredTables {
+            conn,
+            ready: false,
+            kept: None,
+        }
     }
 
     /// The connection, for good.
@@ -98,6 +134,7 @@ impl<S: Alter> StoredTables<S> {
         ensures crash { OnErr result (MayMake (appended number body.now) (TellsTables S.Store self.old) (MayLeaveTables S.Store self.old)
             (MayLeaveTables S.Store self.new)) }
     {
+        self.kept = None;
         writing::append(&mut self.conn, number, body)
     }
 
@@ -113,6 +150,7 @@ impl<S: Alter> StoredTables<S> {
         ensures crash { OnErr result (MayMake (published covered changes.now) (TellsTables S.Store self.old) (MayLeaveTables S.Store self.old)
             (MayLeaveTables S.Store self.new)) }
     {
+        self.kept = None;
         writing::publish(&mut self.conn, covered, changes)
     }
 
@@ -131,6 +169,9 @@ impl<S: Alter> StoredTables<S> {
         ensures tables_kept { Within (TellsTables S.Store self.old) (TellsTables S.Store self.new) }
         ensures crash { Within (MayLeaveTables S.Store self.old) (MayLeaveTables S.Store self.new) }
     {
-        reading::load(alloc, &mut self.conn)
+        match self.kept.take() {
+            Some(copy) => Ok(copy),
+            None => reading::load(alloc, &mut self.conn),
+        }
     }
 }

@@ -1,5 +1,5 @@
 use Rattle.sqlite_tables.specs.Texts as texts
-use Rattle.sqlite_tables.proofs.ReadLaw.{all_kept, all_turned}
+use Rattle.sqlite_tables.proofs.ReadLaw.{all_kept, all_looked, all_turned}
 use Rattle.sqlite_tables.proofs.TextLaws.{whole_head_plain}
 use Rattle.sqlite_tables.proofs.finding.head_rows.Goals as goal
 
@@ -10,3 +10,7 @@ returns-clause-turned g c =
 pub returns-clause-kept : goal.returns-clause-kept
 returns-clause-kept g c =
     all_kept g.S.Store _ texts.select_whole_head c.args.tx.now.conn.now c.query_all.new.self.conn.now c.query_all.result c.query_all.ensures.ok c.query_all.ensures.err
+
+pub returns-clause-looked : goal.returns-clause-looked
+returns-clause-looked g c =
+    all_looked g.S.Store _ texts.select_whole_head c.args.tx.now.conn.now c.query_all.new.self.conn.now whole_head_plain.0 c.query_all.result c.query_all.ensures.ok

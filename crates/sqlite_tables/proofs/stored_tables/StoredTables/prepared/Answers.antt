@@ -1,23 +1,26 @@
--- What was made, or found, is told.
-use Rattle.std.proofs.Common.{refl}
-use Rattle.sqlite_tables.proofs.StoredLaw.{prepared_telling, prepared_settled, prepared_told, prepared_durable}
+-- What was made anew stands in place of what was given, and so does what stands in its place.
+use Rattle.sqlite_tables.proofs.RenewLaw.{renewed_twice}
 use Rattle.sqlite_tables.proofs.stored_tables.StoredTables.prepared.Goals as goal
 
-pub invariant_of-result : goal.invariant_of-result
-invariant_of-result g c =
-    prepared_settled g.S.Store c.in-Ok.conn c.prepare.new.conn c.in-Ok.ensures.order _ c.prepare.ensures.crash c.in-Ok-prepare.ensures.prepared c.prepare.ensures.ended
+pub returns-in-Ok-prepared_in_order-clause-told : goal.returns-in-Ok-prepared_in_order-clause-told
+returns-in-Ok-prepared_in_order-clause-told g c =
+    let told = c.in-Ok-prepared_in_order.ensures.told in
+    record {
+      renewed = told.renewed;
+      is_renewed = renewed_twice g.S.Store c.args.conn c.in-Ok.conn told.renewed c.in-Ok.ensures.renewed told.is_renewed;
+      order = told.order;
+      is_ready = told.is_ready;
+      telling = told.telling;
+      told = told.told;
+      crash = told.crash;
+    }
 
-pub returns-in-Ok-prepare-clause-told : goal.returns-in-Ok-prepare-clause-told
-returns-in-Ok-prepare-clause-told g c = record {
-  renewed = c.in-Ok.conn;
-  is_renewed = c.in-Ok.ensures.renewed;
-  order = c.in-Ok.ensures.order;
-  is_ready = refl;
-  telling = prepared_telling g.S.Store c.in-Ok.conn c.prepare.new.conn c.in-Ok.ensures.order _ c.prepare.ensures.crash c.in-Ok-prepare.ensures.prepared;
-  told = prepared_told g.S.Store c.in-Ok.conn c.prepare.new.conn c.in-Ok.ensures.order _ c.prepare.ensures.crash c.in-Ok-prepare.ensures.prepared;
-  crash = c.prepare.ensures.crash;
-}
-
-pub returns-in-Ok-prepare-clause-durable : goal.returns-in-Ok-prepare-clause-durable
-returns-in-Ok-prepare-clause-durable g c =
-    prepared_durable g.S.Store c.in-Ok.conn c.prepare.new.conn c.in-Ok.ensures.order _ c.prepare.ensures.crash c.in-Ok-prepare.ensures.prepared g.met.S.Store.settled
+pub returns-in-Err-prepared_in_order-clause-refused : goal.returns-in-Err-prepared_in_order-clause-refused
+returns-in-Err-prepared_in_order-clause-refused g c =
+    let refused = c.in-Err-prepared_in_order.ensures.refused in
+    record {
+      renewed = refused.renewed;
+      is_renewed = renewed_twice g.S.Store c.args.conn c.in-Ok.conn refused.renewed c.in-Ok.ensures.renewed refused.is_renewed;
+      undone = refused.undone;
+      crash = refused.crash;
+    }
