@@ -75,10 +75,10 @@ impl<S: Alter> StoredTables<S> {
     ///
     /// # Errors
     ///
-    /// `NotADatabase` where the database has something in it, and not exactly these tables. `DatabaseCorrupt` where its worths come out
-    /// of order, or two at one spot, or its head has not one row. `IntegralValueOutOfRange` where a number of a worth is none that its
-    /// field can have. All others are those of the database. It stays as it is, but a crash may leave all of the tables in one that had
-    /// nothing in it, and those of a ledger as they would be. The connection is given back.
+    /// `NotADatabase` where the database has something in it, and not exactly these tables. `DatabaseCorrupt` where two of its worths have
+    /// one spot, or its head has not one row. `IntegralValueOutOfRange` where a number of a worth is none that its field can have. All
+    /// others are those of the database. It stays as it is, but a crash may leave all of the tables in one that had nothing in it, and
+    /// those of a ledger as they would be. The connection is given back.
     pub fn prepared_in_order(
         alloc: Global,
         conn: Connection<S>,
