@@ -3,6 +3,7 @@ ghost use Rattle.std.specs.Prelude.{◌≡◌, map, IfOk};
 ghost use Rattle.repost_fetch.specs.Changes.{spot_of_entry};
 
 use crate::records::{ITEM, RECEIPT, SALE, STORE, record};
+use crate::row_lists::{in_a_block, to_lines};
 use generation_book::book::Book;
 use shared_list::list::SharedList;
 use std::alloc::Global;
@@ -45,10 +46,11 @@ fn publish_all(alloc: Global, book: &mut Book<Nowhere>) -> Result<RecordNo, Keep
         return Ok(accepted);
     }
     let replayed = book.replayed(alloc)?;
-    let rows = SharedList::of(alloc, replayed)?;
+    let block = SharedList::of(alloc, replayed)?;
+    let rows = in_a_block(alloc, &block)?;
     let fetched = book.fetch(alloc, covered)?;
     let gone = spots(alloc, fetched.gone.as_slice())?;
-    let changed = rows.as_slice();
+    let changed = block.as_slice();
     book.publish(alloc, accepted, &rows, changed, gone.as_slice())?;
     Ok(accepted)
 }
@@ -155,7 +157,11 @@ fn waits<K: Keeper>(alloc: Global, book: &Book<K>) -> bool {
 type Sizes = (RecordNo, usize, usize);
 
 fn sizes(chosen: &Selected) -> Sizes {
-    (chosen.covered, chosen.rows.len(), chosen.heads.len())
+    (
+        chosen.covered,
+        chosen.rows.items().count(),
+        chosen.heads.len(),
+    )
 }
 
 // The record of each movement, and its value.
@@ -179,7 +185,8 @@ fn report_twice(
 ) -> Option<(Sizes, Sizes, Option<[(u32, i64); 3]>)> {
     let before = selected(alloc, book, 4)?;
     let after = published_and_selected(alloc, book)?;
-    Some((sizes(&before), sizes(&after), told(after.rows.as_slice())))
+    let rows = to_lines(alloc, &after.rows).ok()?;
+    Some((sizes(&before), sizes(&after), told(rows.as_slice())))
 }
 
 // Whether the receipt of the day before is in the next report.
@@ -206,7 +213,8 @@ fn report_without_sale<K: Keeper>(
     book: &Book<K>,
 ) -> Option<(Sizes, Option<[(u32, i64); 2]>)> {
     let chosen = selected(alloc, book, 6)?;
-    Some((sizes(&chosen), told_without_sale(chosen.rows.as_slice())))
+    let rows = to_lines(alloc, &chosen.rows).ok()?;
+    Some((sizes(&chosen), told_without_sale(rows.as_slice())))
 }
 
 // Whether the sale is taken back, but not once more, and the next report is made without it.

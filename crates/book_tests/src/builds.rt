@@ -2,6 +2,7 @@
 //! their turns.
 
 use crate::records::record;
+use crate::row_lists::to_lines;
 use generation_book::book::Book;
 use repost_worker::revalued_book::RevaluedBook;
 use std::alloc::Global;
@@ -194,9 +195,9 @@ fn is_replay<K: Keeper>(alloc: Global, book: &Book<K>) -> bool {
 
 /// Whether the generation of the one book is the plain replay of the other one.
 fn are_rows_of<K: Keeper, P: Keeper>(alloc: Global, book: &Book<K>, plain: &Book<P>) -> bool {
-    match plain.replayed(alloc) {
-        Ok(replay) => book.rows() == replay.as_slice(),
-        Err(_) => false,
+    match (plain.replayed(alloc), to_lines(alloc, book.rows())) {
+        (Ok(replay), Ok(rows)) => rows.as_slice() == replay.as_slice(),
+        _ => false,
     }
 }
 

@@ -15,4 +15,4 @@ mod opened_tables;
 #[cfg(test)]
 mod records;
 #[cfg(test)]
-mod workers;
+mod row_lists;

@@ -4,6 +4,7 @@ ghost use Rattle.std.specs.Prelude.{◌≡◌};
 ghost use Rattle.stock_nums.specs.declared.place.Side.TheVariants.{Enters};
 ghost use Rattle.stock_keeper.specs.Worths.{AreInOrder, IsBefore};
 
+use crate::row_lists::to_block;
 use kept_tables::checking::{check_worths, covered_of, next_record};
 use kept_tables::differing::{Difference, first_difference};
 use kept_tables::open_fault::OpenFault;
@@ -171,7 +172,7 @@ fn difference(
 ) -> Result<Option<Difference>, NoMemory>
     requires { AreInOrder stored }
 {
-    first_difference(alloc, &stored, rows)
+    first_difference(alloc, &stored, &to_block(alloc, rows)?)
 }
 
 // A spot of record 3 at which 311 are stored, and this is replayed.
@@ -274,7 +275,10 @@ fn bad_records_are_told(rt: HostRuntime) {
 fn worths_fault(alloc: Global, stored: [SpotWorth; 3]) -> Result<(), OpenFault>
     requires { AreInOrder stored }
 {
-    check_worths(alloc, &stored, &rows())
+    match to_block(alloc, &rows()) {
+        Ok(rows) => check_worths(alloc, &stored, &rows),
+        Err(NoMemory) => Err(OpenFault::NoMemory),
+    }
 }
 
 #[test]

@@ -1,7 +1,6 @@
 -- A desk's body never asks for work nor for a settlement.
 use Rattle.std.proofs.Common.{◌≡◌, ℕ, Bool, true, false, if◌then◌else◌, Option, Some, None, List, [], ◌∷◌, refl, sym, subst, Result, Ok, Err}
-use Rattle.std.specs.Prelude.{option_and_then, bytes_eq, IfOk, ⊤}
-use Rattle.std.specs.Result.{ForOk}
+use Rattle.std.specs.Prelude.{option_and_then, bytes_eq, ⊤}
 use Rattle.serde_json.specs.Data.{Data}
 use Rattle.serde_json.specs.Find.{as_str, get}
 use Rattle.stock_model.specs.declared.read_faults.FieldName.TheVariants as field
@@ -76,8 +75,3 @@ read-of_desk text request walked =
     let object = then-ok _ _ request value.2 in
     let kind = then-ok _ _ request object.2 in
     of_kind kind.0 value.0 request (field-kind (get (field_text field.Do) value.0) kind.0 kind.1) kind.2
-
-pub all-of_desk : (text : List ℕ) (read : Result Request ReadFault) → IfOk read (λ request. IsReadAs true text (Ok request))
-    → ForOk read IsOfDesk
-all-of_desk text read ok request is =
-    read-of_desk text request (subst (λ (r : Result Request ReadFault). IfOk r (λ request. IsReadAs true text (Ok request))) is ok)

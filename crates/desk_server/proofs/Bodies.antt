@@ -1,34 +1,23 @@
--- What is read as a body is answered in one exchange.
-use Rattle.std.proofs.Common.{◌≡◌, ℕ, ◌⊎◌, ⊎_elim, inl, inr, true, Option, None, List, [], ◌∷◌, length, refl, sym, ap, subst, arith, length-append, Result, Ok, Err}
-use Rattle.std.specs.Prelude.{Bool, IfOk, IfErr}
+-- What was read of a body is answered in one exchange.
+use Rattle.std.proofs.Common.{◌≡◌, ℕ, ⊎_elim, inl, inr, None, List, [], ◌∷◌, length, refl, sym, ap, subst, arith, length-append, Result, Ok, Err}
+use Rattle.std.specs.Prelude.{Bool}
 use Rattle.stock_model.specs.declared.deeds.Deed.{Deed}
 use Rattle.stock_model.specs.declared.read_faults.ReadFault.{ReadFault}
 use Rattle.stock_model.specs.declared.read_faults.ReadFault.TheVariants.{BadJson, BadField, Limit, NoMemory}
 use Rattle.stock_model.specs.declared.requests.Request.{Request}
 use Rattle.turn_lock.specs.declared.view.View.{View}
 use Rattle.session_laws.specs.Answers.{fault_answer}
-use Rattle.session_laws.specs.Sessions.{IsAsked, HasSession}
-use Rattle.session_laws.proofs.Bodies.{HasSession-more}
+use Rattle.session_laws.specs.Sessions.{IsAsked}
 use Rattle.session_laws.proofs.OneTurn.{Session-turn, Session-quiet}
-use Rattle.voucher_json.specs.Requests.{IsReadAs}
 use Rattle.mirrored_sessions.specs.Steps.{printed_in}
-use Rattle.desk_server.specs.Exchanging.{RespondsInTurn, Responds, RespondsWithin, IsAskedAs, TellsFault}
+use Rattle.desk_server.specs.Exchanging.{RespondsInTurn, RespondsWithin, IsAskedAs, TellsFault}
 use Rattle.desk_server.specs.Responses.{response_to}
-use Rattle.desk_server.specs.Writing.{AnswersNext}
-use Rattle.desk_server.specs.declared.session.End.{End}
-use Rattle.desk_server.proofs.Steps.{AnswersOne}
 
 printed-fault_answer : (f : ReadFault) → printed_in (fault_answer f) ≡ 0
 printed-fault_answer BadJson = refl
 printed-fault_answer (BadField name line) = refl
 printed-fault_answer (Limit name line) = refl
 printed-fault_answer NoMemory = refl
-
--- how a body is read, unless memory was wanting
-pub read-asked : (reads : List ℕ → Result Request ReadFault → Type 0) (body : List ℕ) (read : Result Request ReadFault)
-    → IfOk read (λ request. reads body (Ok request)) → IfErr read (λ f. (f ≡ NoMemory) ⊎ reads body (Err f)) → IsAsked reads body read
-read-asked reads body (Ok request) ok err = ok
-read-asked reads body (Err f) ok err = err
 
 -- what was asked in place of what was read of a body is how the body is read
 pub asked-read : (reads : List ℕ → Result Request ReadFault → Type 0) (body : List ℕ) (read asked : Result Request ReadFault)
@@ -40,42 +29,7 @@ asked-read reads body (Err f) asked reads_so same =
     (λ (none : asked ≡ Err NoMemory). subst (IsAsked reads body) (sym none) (inl refl))
     same
 
--- a body was answered at a desk, its response was written, and so every session of the desk goes on
-pub one-answered : (desk : ℕ) {P : Type 0} (written : P → Option (List ℕ)) (faults : P → ℕ) (now new : View Deed) (body : List ℕ)
-    (close : Bool) (link link' : P) (end : Option End)
-    → AnswersNext written faults (Responds desk now new (IsAsked (IsReadAs true) body) close) close link link' end
-    → AnswersNext written faults (AnswersOne (λ v. v) (HasSession (IsReadAs true) desk) now new body close) close link link' end
-one-answered desk written faults now new body close link link' end next =
-    let it = next.answered in
-    record {
-      response = next.response;
-      answered = record {
-        answer = it.exchange.answer;
-        goes_on = λ old bodies answers has.
-            HasSession-more (IsReadAs true) desk old now new bodies answers body it.exchange has it.asked it.session;
-        one_turn = it.one_turn;
-        response_is = it.response_is;
-      };
-      wrote = next.wrote;
-    }
-
 module _ (desk : ℕ) (close : Bool) (response : List ℕ) (covered : ℕ) where
-  -- what was read of a body was answered, and so the body was
-  pub responds-read : (reads : List ℕ → Result Request ReadFault → Type 0) (body : List ℕ) (read : Result Request ReadFault)
-      (old new : View Deed) → IsAsked reads body read
-      → RespondsWithin desk old new (IsAskedAs read) close response covered
-      → RespondsWithin desk old new (IsAsked reads body) close response covered
-  responds-read reads body read old new reads_so within = record {
-    responds = record {
-      exchange = within.responds.exchange;
-      asked = asked-read reads body read within.responds.exchange.asked reads_so within.responds.asked;
-      session = within.responds.session;
-      one_turn = within.responds.one_turn;
-      response_is = within.responds.response_is;
-    };
-    covers = within.covers;
-  }
-
   -- a request was answered in a turn
   pub responds-turn : (old new : View Deed) (request : Request) → RespondsInTurn desk old new request close response covered
       → RespondsWithin desk old new (IsAskedAs (Ok request)) close response covered

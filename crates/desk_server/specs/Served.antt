@@ -9,10 +9,6 @@ use Rattle.desk_wire.specs.Framings.{Parts}
 use Rattle.desk_wire.specs.Rules.{Answers}
 use Rattle.desk_wire.specs.Streams.{size}
 use Rattle.stock_model.specs.declared.answers.Answer.{Answer}
-use Rattle.stock_model.specs.declared.deeds.Deed.{Deed}
-use Rattle.turn_lock.specs.declared.view.View.{View}
-use Rattle.session_laws.specs.Sessions.{HasSession}
-use Rattle.voucher_json.specs.Requests.{IsReadAs}
 use Rattle.desk_server.specs.Responses.{responses, last_response}
 use Rattle.desk_server.specs.declared.session.End.{End}
 use Rattle.desk_server.specs.declared.session.End.TheVariants.{Closed, Cut, Refused, ReadFault, WriteFault, TooMuch, NoMemory}
@@ -90,11 +86,6 @@ pub record ServesIn {P : Type 0} (left : P → Option (List ℕ)) (taken : P →
   pub refused : Option ℕ
   pub wrote : IsWritten end (written link) (written link') (responses bytes.requests answers ++ last_response refused)
   pub cause : HasCause (left link) bytes refused (faults link) (faults link') end
-
--- the peer was served in a session of this desk at the lock
-abbrev pub Serves : {P : Type 0} → (P → Option (List ℕ)) → (P → ℕ) → (P → Option (List ℕ)) → (P → ℕ) → ℕ → View Deed → View Deed
-    → P → P → End → Type 0
-Serves left taken written faults desk old new = ServesIn left taken written faults (HasSession (IsReadAs true) desk old new)
 
 -- the session that serves the peer was over while the link was as open as it was at first
 pub record IsServedOpen {P : Type 0} (ended : P → Bool) (serves : P → P → End → Type 0) (link : P) (end : End) : Type 0 where

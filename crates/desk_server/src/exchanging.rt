@@ -1,9 +1,8 @@
-//! One exchange: a body is read, and answered through the lock.
-ghost use Rattle.std.specs.Prelude.{◌≡◌, ◌^◌, ◌<◌, ◌≤◌, true, length};
+//! One exchange: what was read of a body is answered through the lock.
+ghost use Rattle.std.specs.Prelude.{◌≡◌, ◌^◌, ◌<◌, ◌≤◌, length};
 ghost use Rattle.std.specs.Result.{ForOk};
 ghost use Rattle.stock_nums.specs.declared.limits.TheConstants.{MAX_DESK};
-ghost use Rattle.voucher_json.specs.Requests.{IsReadAs, IsWithinLimits};
-ghost use Rattle.session_laws.specs.Sessions.{IsAsked};
+ghost use Rattle.voucher_json.specs.Requests.{IsWithinLimits};
 ghost use Rattle.desk_server.specs.Answering.{IsOfDesk};
 ghost use Rattle.desk_server.specs.Exchanging.{LeavesRest, RespondsInTurn, RespondsWithin, IsAskedAs, TellsFault};
 ghost use Rattle.desk_server.specs.Responding.{bytes_of};
@@ -22,7 +21,6 @@ use stock_nums::numbers::{DeskNo, RecordNo};
 use turn_lock::lock::TurnLock;
 use turn_lock::logged::Logged;
 use turn_lock::pass::Pass;
-use voucher_json::reading::read_request;
 
 /// What an exchange leaves: the pass, the response that is to be written, and how many records at most its answer says to be covered.
 #[derive(Drop)]
@@ -30,29 +28,6 @@ pub struct Exchanged<K: Keeper> {
     pub pass: Pass<Book<K>>,
     pub response: Response,
     pub covered: RecordNo,
-}
-
-/// Answers a body that asks to close the connection or not. It takes a turn of the pass if the body is a request.
-pub fn exchange<K: Keeper, R: Wait>(
-    rt: &R,
-    alloc: Global,
-    lock: &TurnLock<Book<K>>,
-    pass: Pass<Book<K>>,
-    desk: DeskNo,
-    body: &[u8],
-    close: bool,
-) -> Exchanged<K>
-    requires same_lock { pass.lock ≡ lock.now.lock }
-    requires number { desk.0 ≡ pass.view.number }
-    requires desk { desk.0 ≤ MAX_DESK }
-    requires few_turns { length pass.view.stops < 2 ^ 57 }
-    ensures same_lock { result.pass.lock ≡ pass.lock }
-    ensures rest { LeavesRest pass.view result.pass.view }
-    ensures responds { RespondsWithin desk.0 pass.view result.pass.view (IsAsked (IsReadAs true) body.now) close
-        (bytes_of result.response) result.covered.0 }
-{
-    let read = read_request(alloc, body, true);
-    answer_read(rt, alloc, lock, pass, desk, read, close)
 }
 
 /// Answers what was read as a body: the request that it is, in a turn of the pass, or why it is none.

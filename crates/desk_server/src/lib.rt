@@ -5,7 +5,6 @@ pub mod answering;
 pub mod exchanging;
 pub mod refusing;
 pub mod responding;
-mod serving;
 pub mod session;
 pub mod statuses;
 pub mod writing;

@@ -1,14 +1,20 @@
 //! A worker whose gate waits, where movements are left to value, for what a desk posts meanwhile.
 ghost use Rattle.std.specs.Prelude.{◌≡◌, ◌<◌, ◌≤◌, [], Option, None};
 ghost use Rattle.stock_nums.specs.declared.limits.TheConstants.{MAX_DESK};
+ghost use Rattle.stock_model.specs.History.{covered_records};
+ghost use Rattle.turn_lock.specs.Histories.{BeginsWith};
 ghost use Rattle.session_laws.specs.Makers.{without_makers};
 ghost use Rattle.repost_worker.specs.Turns.{IsWorkOf};
 
+use crate::attending::attended;
+use crate::mirrors::{EndingWriter, Mirrors, mirror_of};
 use crate::signals::{MOST_TURNS, Signal};
-use desk_server::session::{End, Left, serve_desk};
+use desk_server::session::End;
 use generation_book::book::Book;
 use locked_worker::gate::{Gate, Go};
-use locked_worker::run_worker::run_worker;
+use mirrored_desk::session::Left;
+use mirrored_worker::run_mirrored::{Mirroring, run_mirrored};
+use report_mirror::reader::MirrorReader;
 use repost_build::build::Build;
 use repost_worker::revalued_book::RevaluedBook;
 use repost_worker::turn::Turned;
@@ -19,10 +25,8 @@ use std::sync::ledger::{Blank, Ledger};
 use std::test::Fail;
 use std::thread;
 use std::thread::Threads;
-use stock_io::link::Link;
 use stock_io::memory_link::MemLink;
 use stock_keeper::fault::KeepFault;
-use stock_keeper::keeper::Keeper;
 use stock_keeper::nowhere::Nowhere;
 use stock_nums::lines::Lines;
 use stock_nums::memory::NoMemory;
@@ -112,11 +116,12 @@ impl<'a, R: Wait> Gate for UntilServed<'a, R> {
     }
 }
 
-// Pass 0, and the build that works with it.
+// Pass 0, the build that works with it, and who shows what is published.
 #[derive(Drop)]
-struct Worker {
+struct Worker<'a, R: Wait> {
     pass: Pass<Books>,
     build: Build,
+    mirror: EndingWriter<'a, R>,
 }
 
 // What the gate saw.
@@ -126,10 +131,11 @@ struct Gated {
     gave_up: bool,
 }
 
-// A desk's pass, and its peer.
+// A desk's pass, its reader, and its peer.
 #[derive(Drop)]
 struct Desk {
     pass: Pass<Books>,
+    reader: MirrorReader,
     link: MemLink,
 }
 
@@ -141,18 +147,19 @@ struct Served {
     gave_up: bool,
 }
 
-// Works until the gate says to stop.
-fn work<L: Ledger, R: Wait>(
+// Works until the gate says to stop. The desk's peer only posts, so that nobody waits for the mirror that ends then.
+fn work<'a, L: Ledger, R: Wait>(
     rt: &R,
     alloc: Global,
     lock: &TurnLock<Books>,
     notices: &Notices,
-    worker: Worker,
+    worker: Worker<'a, R>,
     blank: Blank,
 ) -> (Pass<Books>, Gated)
     requires same_lock { worker.pass.lock ≡ lock.now.lock }
     requires zero { worker.pass.view.number ≡ 0 }
     requires work { IsWorkOf (without_makers worker.pass.view.seen) worker.build }
+    requires shown { BeginsWith (covered_records (without_makers worker.pass.view.seen)) worker.mirror.writer }
     requires name { blank.name ≡ L.name }
     requires parts { blank.parts ≡ L.parts }
     requires some_parts { 0 < L.parts }
@@ -161,7 +168,11 @@ fn work<L: Ledger, R: Wait>(
     ensures split { result.0.view.split ≡ worker.pass.view.split }
     ensures joined { result.0.view.joined ≡ worker.pass.view.joined }
 {
-    let Worker { pass, mut build } = worker;
+    let Worker {
+        pass,
+        mut build,
+        mirror,
+    } = worker;
     let mut steps = Steps::<L>::new(blank);
     let mut gate = UntilServed {
         rt,
@@ -170,30 +181,22 @@ fn work<L: Ledger, R: Wait>(
         has_waited: false,
         gave_up: false,
     };
-    let pass = run_worker(rt, alloc, lock, pass, &mut build, &mut gate, &mut steps);
+    let Mirroring { pass, writer } = run_mirrored(
+        rt,
+        alloc,
+        lock,
+        pass,
+        &mut build,
+        &mut gate,
+        mirror.into_writer(),
+        &mut steps,
+    );
+    writer.end(rt);
     let gated = Gated {
         has_waited: gate.has_waited,
         gave_up: gate.gave_up,
     };
     (pass, gated)
-}
-
-// Serves the peer of the link. It stands for any book and link, so that no caller carries the clauses of a session at those in memory.
-fn attended<K: Keeper, P: Link, R: Wait>(
-    rt: &R,
-    alloc: Global,
-    lock: &TurnLock<Book<K>>,
-    number: DeskNo,
-    pass: Pass<Book<K>>,
-    link: &mut P,
-) -> Left<K>
-    requires same_lock { pass.lock ≡ lock.now.lock }
-    requires number { number.0 ≡ pass.view.number }
-    requires desk { number.0 ≤ MAX_DESK }
-    requires fresh { pass.view.stops ≡ [] }
-    ensures same_lock { result.pass.lock ≡ pass.lock }
-{
-    serve_desk(rt, alloc, lock, pass, number, link)
 }
 
 // Serves the desk's peer, once the worker has valued a movement.
@@ -211,20 +214,28 @@ fn serve<R: Wait>(
     requires fresh { desk.pass.view.stops ≡ [] }
     ensures same_lock { result.0.lock ≡ desk.pass.lock }
 {
-    let Desk { pass, mut link } = desk;
+    let Desk {
+        pass,
+        reader,
+        mut link,
+    } = desk;
     let gave_up = !notices.valuing.is_set_in_time(rt);
-    let Left { pass, end } = attended(rt, alloc, lock, number, pass, &mut link);
+    let Left {
+        pass,
+        reader: _,
+        end,
+    } = attended(rt, alloc, lock, number, pass, reader, &mut link);
     notices.served.set();
     (pass, Served { link, end, gave_up })
 }
 
 // The worker and the desk, each in a thread.
-fn in_threads<L: Ledger + Send, R: Threads + Wait + Sync>(
+fn in_threads<'a, L: Ledger + Send, R: Threads + Wait + Sync>(
     rt: &R,
     alloc: Global,
     lock: &TurnLock<Books>,
     notices: &Notices,
-    worker: Worker,
+    worker: Worker<'a, R>,
     desk: Desk,
     blank: Blank,
 ) -> ((Pass<Books>, Gated), (Pass<Books>, Served))
@@ -233,6 +244,7 @@ fn in_threads<L: Ledger + Send, R: Threads + Wait + Sync>(
     requires two { desk.pass.view.number ≡ 2 }
     requires fresh { desk.pass.view.stops ≡ [] }
     requires work { IsWorkOf (without_makers worker.pass.view.seen) worker.build }
+    requires shown { BeginsWith (covered_records (without_makers worker.pass.view.seen)) worker.mirror.writer }
     requires name { blank.name ≡ L.name }
     requires parts { blank.parts ≡ L.parts }
     requires some_parts { 0 < L.parts }
@@ -320,6 +332,10 @@ fn worked_beside<L: Ledger + Send, R: Threads + Wait + Sync>(
     requires some_parts { 0 < L.parts }
 {
     let (book, build) = RevaluedBook::<Nowhere>::start(alloc).into_parts();
+    let Some(Mirrors { writer, reader }) = mirror_of(rt, alloc, &book) else {
+        return None;
+    };
+    let mirror = EndingWriter::new(rt, writer);
     let Ok((lock, pass)) = TurnLock::new(alloc, book, 3) else {
         return None;
     };
@@ -329,11 +345,16 @@ fn worked_beside<L: Ledger + Send, R: Threads + Wait + Sync>(
     let Ok((pass, two)) = lock.split(pass) else {
         unreachable!()
     };
-    let before = attended(rt, alloc, &lock, DeskNo(1), one, &mut first);
+    let before = attended(rt, alloc, &lock, DeskNo(1), one, reader, &mut first);
     let notices = Notices::new();
-    let worker = Worker { pass, build };
+    let worker = Worker {
+        pass,
+        build,
+        mirror,
+    };
     let desk = Desk {
         pass: two,
+        reader: before.reader,
         link: second,
     };
     let ((pass, gated), (two, served)) = in_threads::<L, R>(

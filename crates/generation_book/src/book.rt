@@ -30,6 +30,7 @@ use quantity_check::running::Running;
 use record_effects::effect::Effect;
 use report_selection::until::rows_until;
 use repost_fetch::fetch::{Fetched, fetch};
+use shared_list::blocks::SharedBlocks;
 use shared_list::list::SharedList;
 use std::alloc::Global;
 use std::marker::Model;
@@ -71,7 +72,7 @@ pub struct Book<K: Keeper> {
     covered: RecordNo,
     /// The valued movements of the covered records, and their items and warehouses. Reports hold them too, for as long as they
     /// last.
-    rows: SharedList<Row>,
+    rows: SharedBlocks<Row>,
     heads: SharedList<Head>,
 }
 
@@ -112,7 +113,7 @@ impl Book<Nowhere> {
             events: Vec::new(alloc),
             movements: Running::new(alloc),
             covered: RecordNo(0),
-            rows: SharedList::new(),
+            rows: SharedBlocks::new(),
             heads: SharedList::new(),
         }
     }
@@ -261,10 +262,10 @@ impl<K: Keeper> Book<K> {
     }
 
     /// The movements of the covered records with what each is worth, in posting order.
-    pub fn rows(&self) -> &[Row]
+    pub fn rows(&self) -> &SharedBlocks<Row>
         ensures { result.now ≡ replay (history.covered_records self.now.history) }
     {
-        self.rows.as_slice()
+        &self.rows
     }
 
     /// What the records after the first `after` ones bring to a revaluation and take back: the movements that come and that go, in
@@ -292,10 +293,10 @@ impl<K: Keeper> Book<K> {
         &mut self,
         alloc: Global,
         n: RecordNo,
-        rows: &SharedList<Row>,
+        rows: &SharedBlocks<Row>,
         changed: &[Row],
         gone: &[Spot],
-    ) -> Result<SharedList<Row>, KeepFault>
+    ) -> Result<SharedBlocks<Row>, KeepFault>
         requires later { history.covered self.old.history < n.0 }
         requires within { n.0 ≤ history.accepted self.old.history }
         requires rows { rows.now ≡ replay (take n.0 (history.records self.old.history)) }
@@ -314,8 +315,8 @@ impl<K: Keeper> Book<K> {
         ensures asked { IfErr result (λ f. HasAsked f self.old.calls self.new.calls) }
         ensures legal { OnOk result (history.IsLegal self.new.history) }
     {
-        let before = shared(&self.rows)?;
-        let generation = shared(rows)?;
+        let before = self.rows.share()?;
+        let generation = rows.share()?;
         let records = &self.journal.records()[..n.0 as usize];
         let heads = covered_heads(alloc, &self.heads, records, self.covered)?;
         let changes = handed_changes(alloc, &self.keeper, changed, gone)?;
@@ -383,7 +384,7 @@ impl<K: Keeper> Book<K> {
         Ok(Selected {
             covered: self.covered,
             rows: rows_until(&self.rows, until)?,
-            heads: self.heads.front(self.heads.len())?,
+            heads: self.heads.share()?,
         })
     }
 
@@ -454,13 +455,6 @@ impl<K: Keeper> Book<K> {
         } = self;
         keeper
     }
-}
-
-// The same list once more, of which nothing is copied. The only error is that 2^63 hold it already.
-fn shared<T: Drop>(list: &SharedList<T>) -> Result<SharedList<T>, NoMemory>
-    ensures { IfOk result (λ same. same ≡ list.now) }
-{
-    list.front(list.len())
 }
 
 // What a keeper is handed of a record: its stored text, or nothing where nothing is kept. The only error is want of memory.

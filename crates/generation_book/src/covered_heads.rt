@@ -26,7 +26,7 @@ pub(crate) fn covered_heads(
 {
     let made = heads_after(alloc, records, covered.0 as usize)?;
     if made.is_empty() {
-        return known.front(known.len());
+        return known.share();
     }
     let mut all = Lines::new(alloc);
     push_copies(alloc, &mut all, known.as_slice())?;

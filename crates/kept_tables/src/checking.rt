@@ -13,6 +13,7 @@ ghost use Rattle.kept_tables.specs.declared.differing.Difference.{Difference};
 
 use crate::differing::first_difference;
 use crate::open_fault::OpenFault;
+use shared_list::blocks::SharedBlocks;
 use std::alloc::Global;
 use stock_keeper::changes::SpotWorth;
 use stock_keeper::tables::{StoredRecord, Tables, VERSION};
@@ -139,7 +140,11 @@ fn unread(fault: ReadFault, number: RecordNo) -> OpenFault
 }
 
 /// Checks that the stored worths are those of the rows. The errors are want of memory, and the first difference.
-pub fn check_worths(alloc: Global, kept: &[SpotWorth], rows: &[Row]) -> Result<(), OpenFault>
+pub fn check_worths(
+    alloc: Global,
+    kept: &[SpotWorth],
+    rows: &SharedBlocks<Row>,
+) -> Result<(), OpenFault>
     requires { AreInOrder kept.now }
     ensures same { OnOk result (kept.now ≡ worths_of rows.now) }
     ensures fault { IfErr result (λ f. (f ≡ OpenFault.NoMemory) ⊎ ((d : Difference) × (f ≡ OpenFault.StoredDiffers d)

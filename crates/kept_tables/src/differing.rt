@@ -5,6 +5,7 @@ ghost use Rattle.kept_tables.specs.Differences.{worth_at, entry_worth, IsFirstDi
 ghost use Rattle.kept_tables.specs.TablesOf.{worths_of};
 
 use crate::publishing::spot_worth;
+use shared_list::blocks::SharedBlocks;
 use std::alloc::Global;
 use std::collections::BTreeMap;
 use stock_keeper::changes::SpotWorth;
@@ -27,7 +28,7 @@ pub struct Difference {
 pub fn first_difference(
     alloc: Global,
     stored: &[SpotWorth],
-    rows: &[Row],
+    rows: &SharedBlocks<Row>,
 ) -> Result<Option<Difference>, NoMemory>
     requires { AreInOrder stored.now }
     ensures first { IfOk result (λ found. IfSome found (λ d. IsFirstDifference stored.now (worths_of rows.now) d.spot)) }
@@ -40,7 +41,7 @@ pub fn first_difference(
 }
 
 // What the movements are worth, by record, line and side.
-fn worths_of(alloc: Global, rows: &[Row]) -> Result<Vec<SpotWorth>, NoMemory>
+fn worths_of(alloc: Global, rows: &SharedBlocks<Row>) -> Result<Vec<SpotWorth>, NoMemory>
     ensures { IfOk result (λ worths. worths.items ≡ worths_of rows.now) }
 {
     let by_spot = worths_by_spot(alloc, rows)?;
@@ -53,11 +54,14 @@ fn worths_of(alloc: Global, rows: &[Row]) -> Result<Vec<SpotWorth>, NoMemory>
 
 // The same in a map, so that a row of an early record among later ones takes little time. Of two rows at one spot the later
 // counts.
-fn worths_by_spot(alloc: Global, rows: &[Row]) -> Result<BTreeMap<Spot, Worth>, NoMemory>
+fn worths_by_spot(
+    alloc: Global,
+    rows: &SharedBlocks<Row>,
+) -> Result<BTreeMap<Spot, Worth>, NoMemory>
     ensures { IfOk result (λ by_spot. map entry_worth by_spot.entries ≡ worths_of rows.now) }
 {
     let mut by_spot = BTreeMap::new(alloc);
-    for row in rows {
+    for row in rows.items() {
         let own = spot_worth(row);
         by_spot.insert(own.spot, own.worth)?;
     }

@@ -1,5 +1,6 @@
 //! Lists grow and are held by several, numbers are added up by line, and want of memory is shown.
 
+use shared_list::blocks::SharedBlocks;
 use shared_list::list::SharedList;
 use std::alloc::Global;
 use std::test::Fail;
@@ -76,6 +77,44 @@ fn are_held_by_several(rt: HostRuntime) -> Result<(), Fail> {
     let one = first(&two, 1)?;
     drop(two);
     assert_eq!(rt; one.as_slice(), [3].as_slice());
+    Ok(())
+}
+
+// Two blocks, the numbers from 3 to 5 in each.
+fn three_to_five_twice(alloc: Global) -> Result<SharedBlocks<u32>, NoMemory> {
+    let block = three_to_five(alloc)?;
+    let mut blocks = Lines::new(alloc);
+    blocks.push(block.share()?)?;
+    blocks.push(block)?;
+    SharedBlocks::of(alloc, blocks)
+}
+
+// The items, one after another as digits.
+fn digits(list: &SharedBlocks<u32>) -> u32 {
+    let mut number: u32 = 0;
+    for item in list.items() {
+        number = number.wrapping_mul(10).wrapping_add(*item);
+    }
+    number
+}
+
+// The first four items as digits, or none where there are fewer.
+fn first_four(list: &SharedBlocks<u32>) -> Result<u32, NoMemory> {
+    if list.items().count() < 4 {
+        return Ok(0);
+    }
+    Ok(digits(&list.front(4)?))
+}
+
+#[test]
+fn are_walked_over_in_blocks(rt: HostRuntime) -> Result<(), Fail> {
+    let all = three_to_five_twice(rt.alloc())?;
+    let same = all.share()?;
+    assert_eq!(rt; (digits(&all), first_four(&same)?), (345_345, 3_453));
+    drop(all);
+    assert_eq!(rt; same.blocks().len(), 2);
+    let none: SharedBlocks<u32> = SharedBlocks::new();
+    assert_eq!(rt; (digits(&none), none.blocks().len()), (0, 0));
     Ok(())
 }
 

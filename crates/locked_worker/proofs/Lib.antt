@@ -3,5 +3,5 @@ pub mod GatedRuns
 pub mod LockedHistories
 pub mod LockedTurns
 pub mod AfterStops
+pub mod AfterTurns
 pub mod Stops
-pub mod UnderWay

@@ -1,5 +1,5 @@
 -- A worker's run over a book that threads share: one turn after another, as long as a gate lets it go on.
-use Rattle.std.specs.Prelude.{ℕ, ◌≡◌, ◌⊎◌, ◌+◌, ◌^◌, ◌<◌, ◌≤◌, List, [], ◌∷◌, ◌++◌, length, map, sum_by, Option, Result, Ok, Err}
+use Rattle.std.specs.Prelude.{ℕ, ◌≡◌, ◌^◌, ◌<◌, List, [], ◌∷◌, ◌++◌, length, map, Option, Result, Ok, Err}
 use Rattle.std.specs.Option.{option_map}
 use Rattle.stock_model.specs.PostingOrder.{posting_line}
 use Rattle.stock_model.specs.declared.deeds.Deed.{Deed}
@@ -12,7 +12,7 @@ use Rattle.repost_build.specs.declared.build.Build.{Build}
 use Rattle.locked_worker.specs.LockedTurns.{IsLockedTurn, IsRefusedTurn}
 use Rattle.repost_worker.specs.Turns.{records_of, ahead_in, valuations}
 use Rattle.locked_worker.specs.declared.gate.Go.{Go}
-use Rattle.locked_worker.specs.declared.gate.Go.TheVariants.{Work, Stop}
+use Rattle.locked_worker.specs.declared.gate.Go.TheVariants.{Work}
 use Rattle.repost_worker.specs.declared.turn.Turned.{Turned}
 use Rattle.repost_worker.specs.declared.turn.Turned.TheVariants.{Valued, Fetched, Published, Idle}
 
@@ -75,16 +75,3 @@ goes_on results = map (λ result. (result, Work)) results
 -- these answers came, where the gate tells them
 abbrev pub Answered : Answers → Option Answers → Option Answers → Type 0
 Answered more old new = new ≡ option_map (λ answers. answers ++ more) old
-
--- Turns were made until the gate said to stop or the pass had taken all turns that it may. Before each the gate was asked, and was
--- given the result of the turn before: at first that there was nothing to do.
-pub record IsGatedRun (old : View Deed) (build : Build) (steps : ℕ) (told : Option Answers) (new : View Deed) (build' : Build) (steps' : ℕ)
-    (told' : Option Answers) : Type 0 where
-  pub results : List (Result Turned KeepFault)
-  pub turns : AreTurnsWith results old build new build'
-  pub valued : steps' ≡ steps + sum_by valuations_with results
-  pub before : List (Result Turned KeepFault)
-  pub last : Result Turned KeepFault
-  pub given : Ok Idle ∷ results ≡ before ++ last ∷ []
-  pub ended : (Answered (goes_on before ++ (last, Stop) ∷ []) told told' × (length new.stops < 2 ^ 57))
-      ⊎ (Answered (goes_on before) told told' × (2 ^ 57 ≤ length new.stops))

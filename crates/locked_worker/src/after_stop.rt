@@ -10,6 +10,7 @@ ghost use Rattle.repost_worker.specs.Turns.{records_of, IsWorkOf, CanFetch, IsFe
 ghost use Rattle.locked_worker.specs.LockedTurns.{IsTurnAtStop, IsRefusedTurn};
 ghost use Rattle.locked_worker.specs.Stopped.{IsStoppedAt};
 
+use crate::ahead::Ahead;
 use crate::locked_turn::Worked;
 use crate::stop::Stopped;
 use generation_book::book::Book;
@@ -22,13 +23,14 @@ use stock_keeper::keeper::Keeper;
 use stock_nums::memory::NoMemory;
 use turn_lock::pass::Pass;
 
-/// Ends a turn after its stop, which left the pass: the build takes in what was copied out, or counts anew from what was published,
-/// and the rows that reports were made from before are freed, where no report holds them.
+/// Ends a turn after its stop, which left the pass: the build takes in what was copied out, or counts anew from what was published, which
+/// are the rows that were made ahead; and the rows that reports were made from before are freed, where no report holds them.
 pub(crate) fn after_stop<K: Keeper>(
     alloc: Global,
     pass: Pass<Book<K>>,
     build: &mut Build,
     stopped: Stopped,
+    ahead: Ahead,
 ) -> Worked<K>
     ghost history: { List Deed }
     requires seen { without_makers pass.view.seen ≡ history }
@@ -54,7 +56,7 @@ pub(crate) fn after_stop<K: Keeper>(
             },
         },
         Stopped::Published(published, _) => {
-            build.published();
+            build.published(ahead.into_rows());
             Worked {
                 pass,
                 result: Ok(Turned::Published(published)),

@@ -9,7 +9,9 @@ ghost use Rattle.locked_worker.specs.Stopped.{IsAheadOf};
 
 use repost_build::build::Build;
 use repost_worker::publication::Publication;
+use shared_list::blocks::SharedBlocks;
 use std::alloc::Global;
+use stock_nums::entry::Row;
 
 /// What a stop publishes where nothing is to be fetched there. It is made from the build alone, while others have the book.
 #[derive(Drop)]
@@ -36,6 +38,14 @@ impl Ahead {
         match Publication::of(alloc, build) {
             Ok(ready) => Ahead::Ready(ready),
             Err(_) => Ahead::Wanting,
+        }
+    }
+
+    /// The rows that were made, or no rows where none were.
+    pub(crate) fn into_rows(self) -> SharedBlocks<Row> {
+        match self {
+            Ahead::Ready(ready) => ready.rows,
+            Ahead::Nothing | Ahead::Wanting => SharedBlocks::new(),
         }
     }
 }

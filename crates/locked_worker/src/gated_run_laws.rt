@@ -1,28 +1,17 @@
-//! What holds of a worker's run over a book that threads share. None of it runs: these are facts about what a pass knows, with their
+//! What holds of a worker's turns over a book that threads share. None of it runs: these are facts about what a pass knows, with their
 //! proofs.
-ghost use Rattle.std.specs.Prelude.{ℕ, ◌≡◌, ◌+◌, ◌*◌, ◌≤◌, List, [], ◌∷◌, ◌++◌, All, sum_by, Option, Result, Ok};
-ghost use Rattle.stock_model.specs.Run.{ArePublications};
+ghost use Rattle.std.specs.Prelude.{◌≡◌, ◌+◌, ◌*◌, ◌≤◌, List, [], ◌∷◌, ◌++◌, All, sum_by, Result, Ok};
 ghost use Rattle.stock_model.specs.declared.deeds.Deed.{Deed};
-ghost use Rattle.turn_lock.specs.Histories.{BeginsWith};
 ghost use Rattle.turn_lock.specs.declared.view.View.{View};
-ghost use Rattle.session_laws.specs.Makers.{with_makers, without_makers};
+ghost use Rattle.session_laws.specs.Makers.{without_makers};
 ghost use Rattle.stock_keeper.specs.declared.fault.KeepFault.{KeepFault};
 ghost use Rattle.stock_nums.specs.declared.numbers.RecordNo.{RecordNo};
 ghost use Rattle.repost_build.specs.Readings.{fetches_of};
 ghost use Rattle.repost_build.specs.declared.build.Build.{Build};
-ghost use Rattle.locked_worker.specs.GatedRuns.{Answers, IsGatedRun, AreTurnsWith, turns_with, valuations_with, PublishesNothing, StaysWithBuild, movements_in, movements_ahead};
+ghost use Rattle.locked_worker.specs.GatedRuns.{AreTurnsWith, turns_with, valuations_with, PublishesNothing, StaysWithBuild, movements_in, movements_ahead};
 ghost use Rattle.repost_worker.specs.Turns.{IsWorkOf};
 ghost use Rattle.repost_worker.specs.declared.turn.Turned.{Turned};
 ghost use Rattle.repost_worker.specs.declared.turn.Turned.TheVariants.{Fetched, Published};
-
-/// What the pass of a worker has seen before a run is the beginning of what it has seen then, and it made publications alone.
-pub fn a_gated_run_publishes_alone()
-    ensures grows { (old new : View Deed) (build build' : Build) (steps steps' : ℕ) (told told' : Option Answers)
-        → IsGatedRun old build steps told new build' steps' told' → BeginsWith new.seen old.seen }
-    ensures made { (old new : View Deed) (build build' : Build) (steps steps' : ℕ) (told told' : Option Answers)
-        → IsGatedRun old build steps told new build' steps' told'
-        → (more : List Deed) × ArePublications more × (new.made ≡ old.made ++ with_makers more) }
-{}
 
 /// From the first fetch of a build on there are at most four turns for each movement that the records ever made that it is of, and
 /// four more, as long as it publishes nothing: whatever is posted meanwhile, and however often a turn is refused.

@@ -1,4 +1,4 @@
-//! A worker beside desks: turns of the policy over a book that threads share, and runs of them that a gate lets go on.
+//! A worker beside desks: turns of the policy over a book that threads share, and the gate that lets a worker go on from one to the next.
 #![tactic(auto)]
 
 mod after_stop;
@@ -6,6 +6,5 @@ mod ahead;
 pub mod gate;
 pub mod gated_run_laws;
 pub mod locked_turn;
-pub mod run_worker;
 mod sending;
 mod stop;

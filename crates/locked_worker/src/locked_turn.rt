@@ -120,7 +120,7 @@ fn work_at_stop<K: Keeper, R: Wait>(
     let halt = stop(rt, alloc, lock, pass, build, &ahead);
     let Halt { pass, result } = halt;
     match result {
-        Ok(stopped) => after_stop(alloc, pass, build, stopped),
+        Ok(stopped) => after_stop(alloc, pass, build, stopped, ahead),
         Err(fault) => Worked {
             pass,
             result: Err(fault),

@@ -15,7 +15,7 @@ use repost_build::build::Build;
 use repost_fetch::fetch::Fetched;
 use repost_worker::publication::Publication;
 use repost_worker::turn::can_fetch;
-use shared_list::list::SharedList;
+use shared_list::blocks::SharedBlocks;
 use std::alloc::Global;
 use std::sync::Wait;
 use stock_keeper::fault::KeepFault;
@@ -32,7 +32,7 @@ pub(crate) enum Stopped {
     /// So many records were accepted, and what the build has not taken in was copied out.
     Fetched(RecordNo, Fetched),
     /// So many records were published, and these are the rows that reports were made from before.
-    Published(RecordNo, SharedList<Row>),
+    Published(RecordNo, SharedBlocks<Row>),
     /// There was nothing to do.
     Idle,
 }

@@ -23,7 +23,7 @@ use Rattle.locked_worker.specs.GatedRuns.{IsTurnWith, PublishesNothing}
 use Rattle.repost_worker.specs.Turns.{IsWorkOf}
 use Rattle.locked_worker.proofs.LockedTurns.{work-handed}
 use Rattle.locked_worker.proofs.Stops.{AddsOwn, IsHanded, IsGiven, handed, stop-given}
-use Rattle.locked_worker.proofs.UnderWay.{after_turns, turn-with, turn-rest, rest-through}
+use Rattle.locked_worker.proofs.AfterTurns.{after_turns, turn-with, turn-rest, rest-through}
 use Rattle.mirrored_worker.specs.Looks.{IsLook}
 use Rattle.mirrored_worker.specs.MirroredRuns.{IsShowing, StaysShown, IsShownAfter, IsTurnShown}
 use Rattle.mirrored_worker.proofs.Covering.{covered-taken, seen-stop, covers-stop, covered-none}

@@ -26,8 +26,11 @@ pub struct Mirroring<K: Keeper> {
     pub writer: MirrorWriter,
 }
 
-/// Does what `run_worker` does, and after each turn that published it takes the lock once more and shows what is published. Looks count as
-/// turns of the pass. For want of memory the mirror shows what it did.
+/// Makes turns with pass 0 of the lock until the gate says to stop, or the pass had 2^57 turns. After each turn that published it takes
+/// the lock once more and shows what is published. Looks count as turns of the pass. For want of memory the mirror shows what it did.
+///
+/// The gate is asked before each turn, with nothing held, and is given the result of the turn before: at first `Ok(Idle)`. It is not told
+/// of looks. A turn that is refused is made anew where the gate lets the worker go on.
 pub fn run_mirrored<K: Keeper, G: Gate, L: Ledger, R: Wait>(
     rt: &R,
     alloc: Global,

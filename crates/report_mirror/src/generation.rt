@@ -6,6 +6,7 @@ ghost use Rattle.report_mirror.specs.Generations.{IsGeneration};
 
 use crate::record_blocks::RecordBlocks;
 use report_selection::until::rows_until;
+use shared_list::blocks::SharedBlocks;
 use shared_list::list::SharedList;
 use std::marker::Model;
 use stock_model::queries::{Query, Selected};
@@ -20,7 +21,7 @@ use stock_nums::numbers::RecordNo;
 pub struct Generation {
     covered: RecordNo,
     records: RecordBlocks,
-    rows: SharedList<Row>,
+    rows: SharedBlocks<Row>,
     heads: SharedList<Head>,
 }
 
@@ -41,7 +42,7 @@ impl Generation {
     pub fn new(
         covered: RecordNo,
         records: RecordBlocks,
-        rows: SharedList<Row>,
+        rows: SharedBlocks<Row>,
         heads: SharedList<Head>,
     ) -> Generation
         requires { IsGeneration covered.0 records rows heads }
@@ -81,7 +82,7 @@ impl Generation {
         Ok(Selected {
             covered: self.covered,
             rows: rows_until(&self.rows, query.until)?,
-            heads: self.heads.front(self.heads.len())?,
+            heads: self.heads.share()?,
         })
     }
 }

@@ -83,7 +83,7 @@ fn shares_of(
 {
     let mut shares = Lines::new(alloc);
     for block in blocks {
-        shares.push(block.front(block.len())?)?;
+        shares.push(block.share()?)?;
     }
     Ok(shares)
 }

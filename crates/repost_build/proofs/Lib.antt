@@ -9,4 +9,6 @@ pub mod Extended
 pub mod Extending
 pub mod Givens
 pub mod Rows
+pub mod BlockRows
+pub mod SameRows
 pub mod Turned

@@ -55,7 +55,7 @@ valued-rows slots in_order =
     sym (valued-part slots slots found) ∙ ap (filter (is_valued (revalued_of slots))) (rows-part slots slots found)
 
 -- the first ones with one more
-front-next : (slots : List Slot) (i : ℕ) (s : Slot) → i < length slots → s ≡ get_or slots i s → take (i + 1) slots ≡ take i slots ++ s ∷ []
+pub front-next : (slots : List Slot) (i : ℕ) (s : Slot) → i < length slots → s ≡ get_or slots i s → take (i + 1) slots ≡ take i slots ++ s ∷ []
 front-next slots i s within is =
     let next : i + 1 ≡ suc i = omega arith in
     ap (λ (k : ℕ). take k slots) next ∙ take-suc slots i s within ∙ ap (λ (t : Slot). take i slots ++ t ∷ []) (sym is)
@@ -100,11 +100,11 @@ valued-next slots i s before old new within is so_far now =
     by_cases false = refl
 
 -- the first ones and some that follow
-take-both : (n m : ℕ) (slots : List Slot) → take (n + m) slots ≡ take n slots ++ take m (drop n slots)
-take-both n m slots =
+pub take-both : {X : Type 0} (n m : ℕ) (slots : List X) → take (n + m) slots ≡ take n slots ++ take m (drop n slots)
+take-both {X = X} n m slots =
     sym (take-append-drop n (take (n + m) slots))
-    ∙ ap (λ (ss : List Slot). ss ++ drop n (take (n + m) slots)) (take-take n (n + m) slots (omega arith))
-    ∙ ap (λ (ss : List Slot). take n slots ++ ss) (drop-take n m slots)
+    ∙ ap (λ (ss : List X). ss ++ drop n (take (n + m) slots)) (take-take n (n + m) slots (omega arith))
+    ∙ ap (λ (ss : List X). take n slots ++ ss) (drop-take n m slots)
 
 -- the rows of those side by side come after those of the first ones
 pub valued-run : (slots run : List Slot) (i : ℕ) (old new : List Row) → run ≡ take (length run) (drop i slots)

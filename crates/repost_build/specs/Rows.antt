@@ -1,5 +1,5 @@
 -- What is found of movements, as rows.
-use Rattle.std.specs.Prelude.{List, map, filter}
+use Rattle.std.specs.Prelude.{ℕ, ◌≡◌, ◌+◌, ◌-◌, ◌≤◌, List, length, map, filter, take, drop}
 use Rattle.std.specs.Option.{option_map_or}
 use Rattle.stock_nums.specs.declared.entry.Row.{Row}
 use Rattle.repost_frontier.specs.Readings.{slot_found}
@@ -14,3 +14,9 @@ slot_row s = record { entry = s.entry; worth = option_map_or worth_of (slot_foun
 -- the rows of those that were valued since the last publication
 abbrev pub valued_rows : List Slot → List Row
 valued_rows slots = map slot_row (filter is_revalued slots)
+
+-- these are the rows of movements up to so many, and all of them stand behind the first `made` ones
+pub record IsRunUntil (slots : List Slot) (made end : ℕ) (rows : List Row) : Type 0 where
+  pub later : made + length rows ≤ end
+  pub within : end ≤ length slots
+  pub same : rows ≡ map slot_row (take (length rows) (drop (end - length rows) slots))

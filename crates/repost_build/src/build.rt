@@ -14,19 +14,20 @@ ghost use Rattle.repost_laws.specs.Changes.{goes_with, both_lines, is_recharged}
 ghost use Rattle.repost_laws.specs.Touched.{is_old, is_touched_by};
 ghost use Rattle.repost_laws.specs.WholeBuilds.{made};
 ghost use Rattle.repost_build.specs.Builds.{IsOf, IsTurned};
-ghost use Rattle.repost_build.specs.Rows.{slot_row, valued_rows};
 ghost use Rattle.repost_build.specs.Readings.{found_in, suspects_in, valued_in, base_of, target_of, fetches_of, turns_of, gone_of, IsUnchanged};
 
+use crate::row_blocks::rows_beside;
+use crate::slot_rows::push_valued;
 use cost_links::values::value_entry;
 use repost_fetch::fetch::Fetched;
-use repost_frontier::slot::Slot;
 use repost_spread::movements::Movements;
+use shared_list::blocks::SharedBlocks;
 use std::alloc::Global;
 use std::sync::ledger::Ledger;
-use stock_nums::entry::{Entry, Row, Worth};
+use stock_nums::entry::{Entry, Row};
 use stock_nums::lines::Lines;
 use stock_nums::memory::NoMemory;
-use stock_nums::numbers::{Minor, RecordNo};
+use stock_nums::numbers::RecordNo;
 use stock_nums::place::{Place, Spot};
 use stock_nums::steps::Steps;
 
@@ -41,6 +42,8 @@ pub struct Build {
     target: RecordNo,
     /// The spots of the movements that were published last and are there no more.
     gone: Vec<Spot>,
+    /// The rows that were published last, whose blocks the next ones share.
+    published: SharedBlocks<Row>,
     /// How many fetches it made since the last publication.
     fetches: u32,
     /// How many fetches and valuations.
@@ -57,6 +60,7 @@ impl Build {
             base: RecordNo(0),
             target: RecordNo(0),
             gone: Vec::new(alloc),
+            published: SharedBlocks::new(),
             fetches: 0,
             turns: 0,
         }
@@ -167,26 +171,18 @@ impl Build {
     }
 
     /// All movements, each with what it is worth, in posting order: the rows of the replay of the build's records. It goes over the
-    /// movements once, and looks at no record.
+    /// movements once, and looks at no record. Blocks in which nothing changed are those of the rows that were published last.
     ///
     /// # Errors
     ///
     /// `NoMemory`: memory was wanting.
-    pub fn rows(&self, alloc: Global) -> Result<Lines<Row>, NoMemory>
+    pub fn rows(&self, alloc: Global) -> Result<SharedBlocks<Row>, NoMemory>
         ghost journal: { List Record }
         requires of { IsOf journal self.now }
         requires clean { IsClean (posting_line journal) (suspects_in self.now) }
         ensures { IfOk result (λ rows. rows ≡ replay journal) }
     {
-        let count = self.movements.len();
-        let mut rows = Lines::from_vec(Vec::with_capacity(alloc, count)?);
-        let mut index = 0;
-        while index < count {
-            let run = self.movements.run_from(index);
-            push_rows(&mut rows, run)?;
-            index += run.len();
-        }
-        Ok(rows)
+        rows_beside(alloc, &self.movements, self.published.blocks())
     }
 
     /// The movements that were valued since the last publication, each with what it is worth, in posting order: these rows of
@@ -220,8 +216,9 @@ impl Build {
         &self.gone
     }
 
-    /// Counts anew from here, where all is published: base becomes target. It takes no memory.
-    pub fn published(&mut self)
+    /// Counts anew from here, where all is published: base becomes target. The next rows share blocks with these, which were published.
+    /// It takes no memory.
+    pub fn published(&mut self, rows: SharedBlocks<Row>)
         ghost journal: { List Record }
         requires of { IsOf journal self.old }
         requires clean { IsClean (posting_line journal) (suspects_in self.old) }
@@ -235,6 +232,7 @@ impl Build {
     {
         self.movements.forget_revalued();
         self.gone.clear();
+        self.published = rows;
         self.base = self.target;
         self.fetches = 0;
         self.turns = 0;
@@ -270,44 +268,3 @@ fn spot_of(entry: &Entry) -> Spot
         side: entry.place.side,
     }
 }
-
-// Adds the rows of these movements at the end.
-fn push_rows(rows: &mut Lines<Row>, slots: &[Slot]) -> Result<(), NoMemory>
-    ensures { OnOk result (rows.new ≡ rows.old ++ map slot_row slots.now) }
-{
-    for slot in slots {
-        rows.push(row_of(slot))?;
-    }
-    Ok(())
-}
-
-// Adds the rows of those that were valued since the last publication at the end.
-fn push_valued(rows: &mut Lines<Row>, slots: &[Slot]) -> Result<(), NoMemory>
-    ensures { OnOk result (rows.new ≡ rows.old ++ valued_rows slots.now) }
-{
-    for slot in slots {
-        if slot.is_revalued {
-            rows.push(row_of(slot))?;
-        }
-    }
-    Ok(())
-}
-
-// What is found of a movement as a row: worth nothing where nothing was found.
-fn row_of(slot: &Slot) -> Row
-    ensures { result ≡ slot_row slot.now }
-{
-    Row {
-        entry: slot.entry,
-        worth: match slot.found {
-            Some(valued) => valued.worth,
-            None => NOTHING,
-        },
-    }
-}
-
-// What a movement is worth that was never valued.
-const NOTHING: Worth = Worth {
-    value: Minor(0),
-    share: Minor(0),
-};

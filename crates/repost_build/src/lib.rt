@@ -2,4 +2,7 @@
 #![tactic(auto)]
 
 pub mod build;
+mod row_blocks;
+mod row_equality;
 mod sending;
+mod slot_rows;

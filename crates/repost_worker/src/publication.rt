@@ -8,7 +8,7 @@ ghost use Rattle.repost_build.specs.Readings.{suspects_in};
 ghost use Rattle.repost_worker.specs.Publications.{IsPublicationOf};
 
 use repost_build::build::Build;
-use shared_list::list::SharedList;
+use shared_list::blocks::SharedBlocks;
 use std::alloc::Global;
 use stock_nums::entry::Row;
 use stock_nums::lines::Lines;
@@ -18,7 +18,7 @@ use stock_nums::memory::NoMemory;
 #[derive(Drop)]
 pub struct Publication {
     /// All of them, in posting order: what reports are made from.
-    pub rows: SharedList<Row>,
+    pub rows: SharedBlocks<Row>,
     /// Those that were valued since the last publication: what a keeper is handed.
     pub changed: Lines<Row>,
 }
@@ -31,11 +31,9 @@ impl Publication {
         requires clean { IsClean (posting_line journal) (suspects_in build.now) }
         ensures { IfOk result (IsPublicationOf journal build.now) }
     {
-        let changed = build.changed(alloc)?;
-        let rows = build.rows(alloc)?;
         Ok(Publication {
-            rows: SharedList::of(alloc, rows)?,
-            changed,
+            rows: build.rows(alloc)?,
+            changed: build.changed(alloc)?,
         })
     }
 }

@@ -158,6 +158,6 @@ fn publish_all<K: Keeper>(
     let ready = Publication::of(alloc, build)?;
     let changed = ready.changed.as_slice();
     book.publish(alloc, target, &ready.rows, changed, build.gone())?;
-    build.published();
+    build.published(ready.rows);
     Ok(target)
 }

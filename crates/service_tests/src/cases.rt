@@ -58,6 +58,21 @@ const IS_ACCEPTED_AND_CLOSED: &[u8] =
     b"HTTP/1.1 200 OK\r\nContent-Type: application/json\r\nContent-Length: 32\r\nConnection: close\r\n\r\n\
     {\"record\":1,\"status\":\"accepted\"}";
 
+const ASKS: &[u8] =
+    b"POST /desk HTTP/1.1\r\nHost: x\r\nContent-Length: 30\r\n\r\n{\"do\":\"report\",\"of\":\"balance\"}";
+
+const COVERS_NONE: &[u8] =
+    b"HTTP/1.1 200 OK\r\nContent-Type: application/json\r\nContent-Length: 56\r\n\r\n\
+    {\"covered\":0,\"report\":\"balance\",\"rows\":[],\"status\":\"ok\"}";
+
+const REFUSED_WITHOUT_LENGTH: &[u8] =
+    b"HTTP/1.1 411 Length Required\r\nContent-Type: application/json\r\nContent-Length: 31\r\n\
+    Connection: close\r\n\r\n{\"fault\":\"http\",\"status\":\"bad\"}";
+
+const REFUSED_BY_CODING: &[u8] =
+    b"HTTP/1.1 501 Not Implemented\r\nContent-Type: application/json\r\nContent-Length: 31\r\n\
+    Connection: close\r\n\r\n{\"fault\":\"http\",\"status\":\"bad\"}";
+
 const REFUSED_BY_METHOD: &[u8] =
     b"HTTP/1.1 405 Method Not Allowed\r\nContent-Type: application/json\r\nContent-Length: 31\r\nAllow: POST\r\n\
     Connection: close\r\n\r\n{\"fault\":\"http\",\"status\":\"bad\"}";
@@ -120,6 +135,33 @@ pub const CASES: &[Case] = &[
         flaws: SOUND,
         end: End::Refused { status: 413 },
         written: REFUSED_BY_LENGTH,
+        accepted: 0,
+    },
+    Case {
+        name: "a body of no length",
+        sends: b"POST /desk HTTP/1.1\r\nHost: x\r\n\r\n",
+        piece: 1_000,
+        flaws: SOUND,
+        end: End::Refused { status: 411 },
+        written: REFUSED_WITHOUT_LENGTH,
+        accepted: 0,
+    },
+    Case {
+        name: "a body in chunks",
+        sends: b"POST /desk HTTP/1.1\r\nHost: x\r\nTransfer-Encoding: chunked\r\n\r\n0\r\n\r\n",
+        piece: 1_000,
+        flaws: SOUND,
+        end: End::Refused { status: 501 },
+        written: REFUSED_BY_CODING,
+        accepted: 0,
+    },
+    Case {
+        name: "a report, which the mirror has",
+        sends: ASKS,
+        piece: 1_000,
+        flaws: SOUND,
+        end: End::Closed,
+        written: COVERS_NONE,
         accepted: 0,
     },
     Case {

@@ -2,12 +2,17 @@
 ghost use Rattle.std.specs.Prelude.{◌<◌};
 
 use crate::cases::{CASES, Case};
-use desk_server::session::{End, Left, serve_desk};
+use desk_server::session::End;
 use generation_book::book::Book;
+use mirrored_desk::session::{Left, serve_desk_mirrored};
+use mirrored_worker::next_generation::first_generation;
+use report_mirror::mirror::{Mirror, MirrorWriter, show_to};
+use report_mirror::reader::MirrorReader;
 use std::alloc::Global;
 use std::sync::Wait;
 use std::test::Fail;
 use stock_io::memory_link::MemLink;
+use stock_keeper::nowhere::Nowhere;
 use stock_nums::lines::Lines;
 use stock_nums::memory::NoMemory;
 use stock_nums::numbers::{DeskNo, RecordNo};
@@ -42,15 +47,53 @@ fn peer_of(alloc: Global, case: &Case) -> Result<MemLink, NoMemory>
     )
 }
 
-// Serves the peer over a new book; none where memory is wanting.
+// Who shows what a book covers, and who reads it.
+struct Mirrors {
+    writer: MirrorWriter,
+    reader: MirrorReader,
+}
+
+fn mirror_of<R: Wait>(rt: &R, alloc: Global, book: &Book<Nowhere>) -> Option<Mirrors> {
+    let Ok(first) = first_generation(alloc, book) else {
+        return None;
+    };
+    let Ok(
+        Mirror {
+            writer,
+            mut readers,
+        },
+    ) = show_to(rt, alloc, first, 1)
+    else {
+        return None;
+    };
+    match readers.pop() {
+        Some(reader) => Some(Mirrors { writer, reader }),
+        None => {
+            writer.end(rt);
+            None
+        }
+    }
+}
+
+// Serves the peer over a new book and its mirror; none where memory is wanting.
 fn served<R: Wait>(rt: &R, alloc: Global, mut link: MemLink) -> Option<Session> {
-    let Ok((lock, pass)) = TurnLock::new(alloc, Book::start(alloc), 2) else {
+    let book = Book::start(alloc);
+    let Some(Mirrors { writer, reader }) = mirror_of(rt, alloc, &book) else {
+        return None;
+    };
+    let Ok((lock, pass)) = TurnLock::new(alloc, book, 2) else {
+        writer.end(rt);
         return None;
     };
     let Ok((pass, desk)) = lock.split(pass) else {
         unreachable!()
     };
-    let Left { pass: desk, end } = serve_desk(rt, alloc, &lock, desk, DeskNo(1), &mut link);
+    let Left {
+        pass: desk,
+        reader: _,
+        end,
+    } = serve_desk_mirrored(rt, alloc, &lock, desk, reader, DeskNo(1), &mut link);
+    writer.end(rt);
     let pass = lock.join(pass, desk);
     let book = lock.close(pass);
     Some(Session {

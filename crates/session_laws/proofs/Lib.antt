@@ -4,7 +4,6 @@ pub mod Longer
 pub mod Going
 pub mod OneTurn
 pub mod Serving
-pub mod Bodies
 pub mod AnswerCases
 pub mod FromLock
 pub mod Sentences

@@ -1,9 +1,7 @@
 -- Sessions: the exchanges of one desk, and what they have to do with the history that all desks share.
-use Rattle.std.specs.Prelude.{ℕ, ◌≡◌, ◌+◌, ◌-◌, ◌^◌, ◌<◌, ◌≤◌, ◌⊎◌, List, ◌++◌, length, map, All, Result, Ok, Err}
-use Rattle.std.specs.List.{AllZip}
+use Rattle.std.specs.Prelude.{ℕ, ◌≡◌, ◌+◌, ◌-◌, ◌^◌, ◌<◌, ◌≤◌, ◌⊎◌, List, ◌++◌, length, All, Result, Ok, Err}
 use Rattle.turn_lock.specs.Histories.{BeginsWith, past}
 use Rattle.turn_lock.specs.declared.view.View.{View}
-use Rattle.stock_model.specs.declared.answers.Answer.{Answer}
 use Rattle.stock_model.specs.declared.deeds.Deed.{Deed}
 use Rattle.stock_model.specs.declared.read_faults.ReadFault.{ReadFault}
 use Rattle.stock_model.specs.declared.read_faults.ReadFault.TheVariants.{NoMemory}
@@ -35,15 +33,3 @@ pub record Served (desk : ℕ) (first final : List Deed) (exchanges : List Excha
 abbrev pub IsAsked : (List ℕ → Result Request ReadFault → Type 0) → List ℕ → Result Request ReadFault → Type 0
 IsAsked reads body (Ok request) = reads body (Ok request)
 IsAsked reads body (Err f) = (f ≡ NoMemory) ⊎ reads body (Err f)
-
--- the exchanges are of these bodies and these answers
-pub record AreExchanged (reads : List ℕ → Result Request ReadFault → Type 0) (bodies : List (List ℕ)) (answers : List Answer)
-    (exchanges : List Exchange) : Type 0 where
-  pub asked : AllZip (λ body exchange. IsAsked reads body exchange.asked) bodies exchanges
-  pub answers_are : answers ≡ map (λ exchange. exchange.answer) exchanges
-
--- the desk answered these bodies so, each in an exchange of a session
-abbrev pub HasSession : (List ℕ → Result Request ReadFault → Type 0) → ℕ → View Deed → View Deed → List (List ℕ) → List Answer
-    → Type 0
-HasSession reads desk old new bodies answers =
-    (exchanges : List Exchange) × Session desk old new exchanges × AreExchanged reads bodies answers exchanges

@@ -65,6 +65,17 @@ impl<T: Drop> SharedList<T> {
         Ok(SharedList { whole, len })
     }
 
+    /// The same list once more, of which nothing is copied.
+    ///
+    /// # Errors
+    ///
+    /// `NoMemory`: 2^63 hold the list already.
+    pub fn share(&self) -> Result<SharedList<T>, NoMemory>
+        ensures { IfOk result (λ same. same ≡ self.now) }
+    {
+        self.front(self.len)
+    }
+
     /// The items in order.
     pub fn as_slice(&self) -> &[T]
         ensures { result.now ≡ self.now }

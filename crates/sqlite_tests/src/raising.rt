@@ -1,10 +1,12 @@
 //! A ledger of version 1 is opened over disks in memory that stop after so many calls, for each number of calls. What is left then
-//! has version 1 or version 2, and opens with all of its records: once where all that was written is there, and once where all that
-//! was not synced is lost.
+//! has version 1 or version 2, and opens with all of its records, and a book begins with them: once where all that was written is
+//! there, and once where all that was not synced is lost.
 ghost use Rattle.std.specs.Prelude.{IsTrue};
 
 use crate::sqlite_keepers::after;
-use crate::stops::{MANY, are_all, copied_files, files_left, files_of, kept_whole, loaded};
+use crate::stops::{
+    MANY, are_all, copied_files, files_left, files_of, is_begun, kept_whole, loaded,
+};
 use keeper_sqlite::sqlite_keeper::SqliteKeeper;
 use sqlite::{Connection, FileStore, Files, Options};
 use sqlite_disk::{Crash, Disk, Fuse, Memory};
@@ -71,13 +73,13 @@ fn opened<D: Disk + Drop>(alloc: Global, files: Files<D>) -> (bool, Files<D>)
     }
 }
 
-// The version in these files, if the ledger opens with all of its records.
+// The version in these files, if the ledger opens with all of its records, and a book begins with them.
 fn left_in(alloc: Global, files: &Files<Fuse<Memory>>) -> Option<i64> {
     let again = copied_files(alloc, files, MANY, MANY)?;
     if !again.may_be_used() {
         return None;
     }
-    if !are_all(&loaded(alloc, again)?) {
+    if !are_all(&loaded(alloc, again)?) || !is_begun(alloc, files)? {
         return None;
     }
     version_in(alloc, copied_files(alloc, files, MANY, MANY)?)

@@ -1,11 +1,13 @@
 //! A ledger is kept over disks in memory that stop after so many calls, for each number of calls. What is opened again then has all
-//! records that were acknowledged, or those and the next one, and covers what was acknowledged last, or what comes next.
+//! records that were acknowledged, or those and the next one, and covers what was acknowledged last, or what comes next; and a book
+//! begins with them.
 ghost use Rattle.std.specs.Prelude.{IsTrue};
-ghost use Rattle.stock_keeper.specs.Keeping.{HoldsOfNone};
+ghost use Rattle.stock_keeper.specs.Keeping.{HoldsOfNone, Within};
 ghost use Rattle.sqlite_tables.specs.Stored.{TellsTables};
 
 use crate::sqlite_keepers::{adds, publishes, untold};
 use keeper_sqlite::sqlite_keeper::SqliteKeeper;
+use repost_worker::revalued_book::RevaluedBook;
 use sqlite::{Alter, Connection, FileStore, Files, Options};
 use sqlite_disk::{Crash, Disk, Fuse, Memory};
 use std::alloc::Global;
@@ -156,6 +158,35 @@ fn run<D: Disk + Drop>(alloc: Global, files: Files<D>) -> (Acknowledged, Files<D
     (told, files_of(keeper))
 }
 
+// Whether a book begins over this keeper.
+fn begins<K: Keeper + Drop>(alloc: Global, keeper: K) -> bool
+    requires { Within (K.tells keeper) (K.may_leave keeper) }
+{
+    match RevaluedBook::begin(alloc, keeper) {
+        Ok(_) => true,
+        Err(_) => false,
+    }
+}
+
+// Whether one begins with the tables of this database.
+fn begins_over<S: Alter + Drop>(alloc: Global, conn: Connection<S>) -> bool {
+    match SqliteKeeper::prepared(alloc, conn) {
+        Ok(keeper) => begins(alloc, keeper),
+        Err(_) => false,
+    }
+}
+
+// Whether one begins with those in these files.
+fn begins_in<D: Disk + Drop>(alloc: Global, files: Files<D>) -> bool
+    requires log { IsTrue (D.Disk.is_usable files.log) }
+    requires db { IsTrue (D.Disk.is_usable files.db) }
+{
+    match Connection::open_files(alloc, files, Options::new(7)) {
+        Ok(conn) => begins_over(alloc, conn),
+        Err(_) => false,
+    }
+}
+
 /// The tables in these files.
 pub(crate) fn loaded<D: Disk + Drop>(alloc: Global, files: Files<D>) -> Option<Tables>
     requires log { IsTrue (D.Disk.is_usable files.log) }
@@ -220,13 +251,6 @@ fn is_left<D: Disk + Drop>(alloc: Global, files: Files<D>, told: Acknowledged) -
     }
 }
 
-// The same, once all that was not synced is lost.
-fn is_left_synced<D: Crash + Drop>(alloc: Global, mut files: Files<D>, told: Acknowledged) -> bool {
-    files.log.crash();
-    files.db.crash();
-    is_left(alloc, files, told)
-}
-
 // What a file has, synced, in one that stops after so many calls.
 fn copied(alloc: Global, file: &Fuse<Memory>, calls: u64) -> Option<Fuse<Memory>> {
     let mut copy = Memory::new(alloc);
@@ -251,13 +275,34 @@ pub(crate) fn copied_files(
     })
 }
 
-// The same of both files, as they stand: all that was written is there.
+// Whether such tables are loaded from a copy of these files, as they stand.
 fn is_left_written(alloc: Global, files: &Files<Fuse<Memory>>, told: Acknowledged) -> Option<bool> {
     let files = copied_files(alloc, files, MANY, MANY)?;
     if !files.may_be_used() {
         return None;
     }
     Some(is_left(alloc, files, told))
+}
+
+/// Whether a book begins with the tables in a copy of these files, as they stand.
+pub(crate) fn is_begun(alloc: Global, files: &Files<Fuse<Memory>>) -> Option<bool> {
+    let files = copied_files(alloc, files, MANY, MANY)?;
+    if !files.may_be_used() {
+        return None;
+    }
+    Some(begins_in(alloc, files))
+}
+
+// Whether these files have what a stop may leave, and a book begins with it: all that was written is there.
+fn opens_written(alloc: Global, files: &Files<Fuse<Memory>>, told: Acknowledged) -> bool {
+    is_left_written(alloc, files, told) == Some(true) && is_begun(alloc, files) == Some(true)
+}
+
+// The same, once all that was not synced is lost.
+fn opens_synced(alloc: Global, mut files: Files<Fuse<Memory>>, told: Acknowledged) -> bool {
+    files.log.crash();
+    files.db.crash();
+    is_begun(alloc, &files) == Some(true) && is_left(alloc, files, told)
 }
 
 /// Files in memory that stop after so many calls of each.
@@ -283,7 +328,8 @@ pub(crate) fn are_all(tables: &Tables) -> bool {
     are_of(tables, 7, true)
 }
 
-// What is left of a run over these files: none where it was not stopped, else whether it is what a stop may leave.
+// What is left of a run over these files: none where it was not stopped, else whether it is what a stop may leave, and a book
+// begins with it.
 fn stopped(alloc: Global, files: Files<Fuse<Memory>>) -> Option<bool> {
     if !files.may_be_used() {
         return Some(false);
@@ -292,9 +338,7 @@ fn stopped(alloc: Global, files: Files<Fuse<Memory>>) -> Option<bool> {
     if told.records == 7 {
         return None;
     }
-    let is_left = is_left_written(alloc, &files, told) == Some(true)
-        && is_left_synced(alloc, files, told);
-    Some(is_left)
+    Some(opens_written(alloc, &files, told) && opens_synced(alloc, files, told))
 }
 
 // How many calls of the log a run makes, where each stop of it leaves what it may; or after how many calls one does not.

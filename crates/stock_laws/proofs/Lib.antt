@@ -19,6 +19,7 @@ pub mod Received
 pub mod LandedSums
 pub mod Valuation
 pub mod Until
+pub mod Walks
 pub mod LayersLeft
 pub mod ReturnedUnits
 pub mod Legality

@@ -2,6 +2,7 @@
 ghost use Rattle.std.specs.Prelude.{◌≡◌};
 ghost use Rattle.stock_model.specs.Reports.{need_of};
 
+use shared_list::blocks::SharedBlocks;
 use shared_list::list::SharedList;
 use stock_nums::code::Code;
 use stock_nums::entry::Row;
@@ -100,6 +101,6 @@ pub enum SelectFault {
 #[derive(Drop)]
 pub struct Selected {
     pub covered: RecordNo,
-    pub rows: SharedList<Row>,
+    pub rows: SharedBlocks<Row>,
     pub heads: SharedList<Head>,
 }

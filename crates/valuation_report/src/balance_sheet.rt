@@ -15,6 +15,7 @@ use crate::balance_texts::push_balance;
 use crate::framing::{close, opening};
 use crate::grouping::{asks_for_all, is_wanted};
 use crate::holdings::Holding;
+use shared_list::blocks::SharedBlocks;
 use std::alloc::Global;
 use std::collections::BTreeMap;
 use stock_model::queries::{Query, Selected};
@@ -46,7 +47,7 @@ pub(crate) fn holdings_by_key(
     alloc: Global,
     query: &Query,
     heads: &[Head],
-    rows: &[Row],
+    rows: &SharedBlocks<Row>,
 ) -> Result<BTreeMap<Key, Holding>, NoMemory>
     requires heads { AreHeads heads.now }
     requires held { AreHeldByKey rows.now }
@@ -54,7 +55,7 @@ pub(crate) fn holdings_by_key(
 {
     let mut by_key = BTreeMap::new(alloc);
     let all = asks_for_all(query);
-    for row in rows {
+    for row in rows.items() {
         let key = entry_key(&row.entry);
         if is_wanted(all, query, heads, &key) {
             add_row(&mut by_key, key, row)?;
@@ -74,7 +75,7 @@ pub(crate) fn push_balances(
     ensures { OnOk result (Adds text.old.items text.new.items (sheet_pieces query.now.format Balance query.now selected.now)) }
 {
     let heads = selected.heads.as_slice();
-    let by_key = holdings_by_key(alloc, query, heads, selected.rows.as_slice())?;
+    let by_key = holdings_by_key(alloc, query, heads, &selected.rows)?;
     for (key, holding) in by_key {
         push_balance(text, query.format, heads, key, holding)?;
     }

@@ -62,7 +62,7 @@ fn sums_of(alloc: Global, selected: &Selected, query: &Query) -> Result<BalanceS
     ensures { IfOk result (λ sums. sums ≡ sums_of (balance query.now selected.now)) }
 {
     let heads = selected.heads.as_slice();
-    let by_key = holdings_by_key(alloc, query, heads, selected.rows.as_slice())?;
+    let by_key = holdings_by_key(alloc, query, heads, &selected.rows)?;
     let mut sums = BalanceSums { stock: 0, worth: 0 };
     for (_key, holding) in by_key {
         sums.add(holding);

@@ -11,6 +11,7 @@ ghost use Rattle.valuation_report.specs.Grouping.{key_cmp, IsByKey, is_asked_row
 ghost use Rattle.valuation_report.specs.Groups.{groups_of};
 
 use crate::code_texts::code_text;
+use shared_list::blocks::SharedBlocks;
 use std::alloc::Global;
 use std::collections::BTreeMap;
 use stock_model::queries::{Query, Selected};
@@ -92,14 +93,14 @@ fn rows_by_key(
     alloc: Global,
     query: &Query,
     heads: &[Head],
-    rows: &[Row],
+    rows: &SharedBlocks<Row>,
 ) -> Result<BTreeMap<Key, Lines<Row>>, NoMemory>
     requires { AreHeads heads.now }
     ensures { IfOk result (λ by_key. IsByKey by_key (filter (is_asked_row query.now heads.now) rows.now)) }
 {
     let mut by_key = BTreeMap::new(alloc);
     let all = asks_for_all(query);
-    for row in rows {
+    for row in rows.items() {
         let key = entry_key(&row.entry);
         if is_wanted(all, query, heads, &key) {
             add_row(alloc, &mut by_key, key, row)?;
@@ -118,12 +119,7 @@ pub(crate) fn groups(
     requires { AreHeads selected.now.heads }
     ensures { IfOk result (λ groups. groups ≡ groups_of query.now selected.now) }
 {
-    let by_key = rows_by_key(
-        alloc,
-        query,
-        selected.heads.as_slice(),
-        selected.rows.as_slice(),
-    )?;
+    let by_key = rows_by_key(alloc, query, selected.heads.as_slice(), &selected.rows)?;
     let mut groups = Lines::new(alloc);
     for (key, rows) in by_key {
         groups.push(Group { key, rows })?;

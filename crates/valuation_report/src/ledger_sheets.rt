@@ -27,9 +27,8 @@ pub(crate) fn accounts_text(
     ensures { IfOk result (λ text. text.items ≡ report_text query.now selected.now) }
 {
     let heads = selected.heads.as_slice();
-    let rows = selected.rows.as_slice();
     let mut text = opening(alloc, query, selected.covered)?;
-    push_accounts(alloc, &mut text, query.format, heads, rows)?;
+    push_accounts(alloc, &mut text, query.format, heads, &selected.rows)?;
     close(&mut text, query)?;
     Ok(text)
 }
@@ -50,9 +49,8 @@ pub(crate) fn voucher_text(
     ensures { IfOk result (λ text. text.items ≡ report_text query.now selected.now) }
 {
     let heads = selected.heads.as_slice();
-    let rows = selected.rows.as_slice();
     let mut text = opening(alloc, query, selected.covered)?;
-    push_voucher(&mut text, query.format, heads, rows, number)?;
+    push_voucher(&mut text, query.format, heads, &selected.rows, number)?;
     close(&mut text, query)?;
     Ok(text)
 }

@@ -14,8 +14,9 @@ use stock_nums::lines::Lines;
 use stock_nums::memory::NoMemory;
 
 /// The text of the sheet that a query asks for, in its format, with how many records it covers. It is made in one pass over
-/// what was selected. It shows amounts in minor units and quantities in smallest units. The ledger keeps the stock that the
-/// report is made from: the accounts of warehouses are what they hold (IAS 2), and all balances sum to nothing.
+/// what was selected, that of the accounts in two. It shows amounts in minor units and quantities in smallest units. The
+/// ledger keeps the stock that the report is made from: the accounts of warehouses are what they hold (IAS 2), and all
+/// balances sum to nothing.
 ///
 /// # Errors
 ///

@@ -10,6 +10,7 @@ ghost use Rattle.valuation_report.specs.declared.voucher_sheet.TheConstants.{MAX
 use crate::store_accounts::account_of;
 use crate::voucher_rows::push_voucher_row;
 use gl_lines::lines::{GlLines, lines_of};
+use shared_list::blocks::SharedBlocks;
 use stock_model::queries::Format;
 use stock_nums::entry::Row;
 use stock_nums::head::Head;
@@ -58,14 +59,14 @@ pub(crate) fn push_voucher(
     text: &mut Vec<u8>,
     format: Format,
     heads: &[Head],
-    rows: &[Row],
+    rows: &SharedBlocks<Row>,
     number: RecordNo,
 ) -> Result<(), NoMemory>
     requires heads { AreHeads heads.now }
     requires lines { list_all has_lines rows.now ≡ true }
     ensures { OnOk result (Adds text.old.items text.new.items (flat_map (voucher_piece format) (record_rows number.0 heads.now rows.now))) }
 {
-    for row in rows {
+    for row in rows.items() {
         if row.entry.place.voucher.0 == number.0 {
             push_movement(text, format, heads, row)?;
         }

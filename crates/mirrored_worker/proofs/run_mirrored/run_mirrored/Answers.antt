@@ -3,7 +3,7 @@ use Rattle.std.proofs.Common.{◌^◌, ◌<◌, [], ◌∷◌, length, refl, ◌
 use Rattle.turn_lock.proofs.Lists.{begins_self, begins_through}
 use Rattle.locked_worker.specs.GatedRuns.{Answered}
 use Rattle.locked_worker.specs.declared.gate.Go.{Go}
-use Rattle.locked_worker.proofs.UnderWay.{rest-through, not-stopped}
+use Rattle.locked_worker.proofs.AfterTurns.{rest-through, not-stopped}
 use Rattle.mirrored_worker.proofs.Looking.{shown-rest}
 use Rattle.mirrored_worker.proofs.MirroredRuns.{starts, goes-on}
 use Rattle.mirrored_worker.proofs.run_mirrored.run_mirrored.Goals as goal

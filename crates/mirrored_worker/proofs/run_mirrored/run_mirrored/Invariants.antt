@@ -4,7 +4,7 @@ use Rattle.stock_model.specs.History.{covered_records}
 use Rattle.turn_lock.specs.Histories.{BeginsWith}
 use Rattle.session_laws.specs.Makers.{without_makers}
 use Rattle.repost_worker.specs.Turns.{IsWorkOf}
-use Rattle.locked_worker.proofs.UnderWay.{after_turns}
+use Rattle.locked_worker.proofs.AfterTurns.{after_turns}
 use Rattle.mirrored_worker.proofs.MirroredRuns.{IsUnderWay}
 use Rattle.mirrored_worker.proofs.run_mirrored.run_mirrored.Given as goal
 

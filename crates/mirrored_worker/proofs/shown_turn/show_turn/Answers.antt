@@ -5,7 +5,7 @@ use Rattle.std.proofs.lemmas.Bool.{false≢true}
 use Rattle.stock_model.specs.History.{covered_records}
 use Rattle.session_laws.specs.Makers.{without_makers}
 use Rattle.locked_worker.specs.GatedRuns.{PublishesNothing}
-use Rattle.locked_worker.proofs.UnderWay.{turn-with}
+use Rattle.locked_worker.proofs.AfterTurns.{turn-with}
 use Rattle.mirrored_worker.proofs.Looking.{covers-worked, work-look, shows-nothing, shows-published, shows-one}
 use Rattle.mirrored_worker.proofs.shown_turn.show_turn.Goals as goal
 use Rattle.mirrored_worker.proofs.shown_turn.show_turn.Goals.{then-publishes_nothing-via-then-publishes_nothing, then-publishes_nothing-via-else-publishes_nothing+then-gives-ge-MAX_TURNS}

@@ -1,11 +1,9 @@
 -- The entries are what is held, and their rows are the balance's.
 use Rattle.std.proofs.Common.{◌<◌, ◌^◌, List, length, sym, ap, ◌∙◌, subst, map}
 use Rattle.stock_nums.specs.declared.entry.Key.{Key}
-use Rattle.stock_nums.specs.declared.entry.Row.{Row}
 use Rattle.stock_nums.specs.declared.head.Head.{Head}
 use Rattle.valuation_report.specs.declared.holdings.Holding.{Holding}
 use Rattle.valuation_report.specs.BalanceSums.{sums_of}
-use Rattle.valuation_report.specs.Grouping.{AreHeldByKey}
 use Rattle.valuation_report.proofs.GroupLists.{holdings_of, holdings-are}
 use Rattle.valuation_report.proofs.OwnRows.{AreHeld-own}
 use Rattle.valuation_report.proofs.SummedRows.{AreSumsSoFar, entry_row, entry_rows-are, sums-start, sums-more, sums-room, sums-all}
@@ -13,7 +11,7 @@ use Rattle.valuation_report.proofs.balance_sums.sums_of.Goals as goal
 
 pub holdings_by_key-requires-clause-held : goal.holdings_by_key-requires-clause-held
 holdings_by_key-requires-clause-held c =
-    subst AreHeldByKey (sym c.as_slice.ensures) (record { at = λ key. AreHeld-own key c.args.selected.now.rows c.requires.bounded })
+    record { at = λ key. AreHeld-own key c.args.selected.now.rows c.requires.bounded }
 
 pub loop-key-init : goal.loop-key-init
 loop-key-init c =
@@ -37,12 +35,11 @@ returns c =
     let query = c.args.query.now in
     let chosen = c.args.selected.now in
     let heads = c.as_slice-heads.result.now in
-    let rows = c.as_slice.result.now in
+    let rows = chosen.rows in
     let all = c.into_iter-key-iterator.result in
     let gives = c.into_iter-key-iterator.ensures.into_iter_gives in
     let entries = gives.0 ∙ holdings-are query heads c.in_ok-by_key.by_key rows gives.5 c.in_ok-by_key.ensures
-    ∙ ap (λ (them : List Head). holdings_of query them rows) c.as_slice-heads.ensures
-    ∙ ap (λ (them : List Row). holdings_of query chosen.heads them) c.as_slice.ensures in
+    ∙ ap (λ (them : List Head). holdings_of query them rows) c.as_slice-heads.ensures in
     let made = subst (λ (rest : List (Key × Holding)). AreSumsSoFar chosen.heads all rest c.loop-key.sums) c.in-None.ensures.steps.0
     c.loop-key.invariant in
     sums-all chosen.heads all c.loop-key.sums made

@@ -16,6 +16,5 @@ returns c =
     let none : c.loop-key.groups ++ map entry_group c.loop-key.key-iterator ≡ c.loop-key.groups =
     ap (λ (entries : List (Key × List Row)). c.loop-key.groups ++ map entry_group entries) c.in-None.ensures.steps.0 ∙ append-nil c.loop-key.groups in
     sym none ∙ c.loop-key.invariant ∙ ap (map entry_group) gives.0
-    ∙ entries-are c.args.query.now c.as_slice.result.now c.in_ok-by_key.by_key c.as_slice-2.result.now gives.5 c.in_ok-by_key.ensures
-    ∙ ap (λ (heads : List Head). map (group_of c.as_slice-2.result.now) (filter (is_asked_key c.args.query.now heads) (keys_of c.as_slice-2.result.now))) c.as_slice.ensures
-    ∙ ap (λ (rows : List Row). map (group_of rows) (filter (is_asked_key c.args.query.now chosen.heads) (keys_of rows))) c.as_slice-2.ensures
+    ∙ entries-are c.args.query.now c.as_slice.result.now c.in_ok-by_key.by_key chosen.rows gives.5 c.in_ok-by_key.ensures
+    ∙ ap (λ (heads : List Head). map (group_of chosen.rows) (filter (is_asked_key c.args.query.now heads) (keys_of chosen.rows))) c.as_slice.ensures

@@ -1,28 +1,45 @@
 -- A row that is asked for is added to those of its key.
-use Rattle.std.proofs.Common.{List, filter, take, ◌+◌, sym, ap, ◌∙◌, subst}
-use Rattle.std.specs.BTreeMap.{BTreeMap}
-use Rattle.stock_nums.specs.declared.entry.Key.{Key}
+use Rattle.std.proofs.Common.{List, filter, ◌+◌, sym, ap, ◌∙◌, subst}
+use Rattle.std.proofs.lemmas.List.{take_all}
 use Rattle.stock_nums.specs.declared.entry.Row.{Row}
 use Rattle.stock_model.specs.Sheets.{is_asked_key}
 use Rattle.valuation_report.specs.Grouping.{IsByKey, is_asked_row}
 use Rattle.valuation_report.proofs.RowsByKey.{IsByKey-more, IsByKey-same}
+use Rattle.stock_laws.proofs.Walks.{at_next, at_end}
 use Rattle.valuation_report.proofs.grouping.rows_by_key.Goals as goal
-use Rattle.valuation_report.proofs.grouping.rows_by_key.Goals.{then-is_wanted+in_ok-add_row, else-is_wanted}
+
+pub loop-row-preserved-in-Continue-1 : goal.loop-row-preserved-in-Continue-1
+loop-row-preserved-in-Continue-1 c =
+    let query = c.args.query.now in
+    let heads = c.args.heads.now in
+    let rows = c.args.rows.now in
+    let seen = c.loop-row.invariant.0 in
+    let row = c.in-Some.row.now in
+    let next = at_next rows c.loop-row.row-iterator c.next.new.self seen row c.loop-row.invariant.1 c.in-Some.ensures.steps in
+    let tested = sym (c.is_wanted.ensures ∙ ap (is_asked_key query heads) c.entry_key-key.ensures) in (
+      seen + 1,
+      next.2,
+      IsByKey-more (is_asked_row query heads) c.loop-row.by_key _ rows seen row c.entry_key-key.result next.0 next.1 (tested ∙ c.if-is_wanted.true)
+          c.entry_key-key.ensures c.loop-row.invariant.2 c.in_ok-add_row.ensures,
+    )
 
 pub loop-row-preserved : goal.loop-row-preserved
 loop-row-preserved c =
     let query = c.args.query.now in
     let heads = c.args.heads.now in
     let rows = c.args.rows.now in
-    let i = c.loop-row.row-index in
-    let row = c.row-item.result in
-    let asked = is_asked_row query heads in
-    let tested = sym (c.is_wanted.ensures ∙ ap (is_asked_key query heads) c.entry_key-key.ensures) in
-    elim c.if-is_wanted.branch [
-      | then-is_wanted+in_ok-add_row w ↦
-          subst (λ (by_key : BTreeMap Key (List Row)). IsByKey by_key (filter asked (take (i + 1) rows))) (sym w.by_key-is)
-          (IsByKey-more asked c.loop-row.by_key _ rows i row c.entry_key-key.result c.loop-row-test.true c.row-item.is (tested ∙ w.if-is_wanted.true) c.entry_key-key.ensures c.loop-row.invariant w.in_ok-add_row.ensures)
-      | else-is_wanted w ↦
-          subst (λ (by_key : BTreeMap Key (List Row)). IsByKey by_key (filter asked (take (i + 1) rows))) (sym w.by_key-is)
-          (IsByKey-same asked c.loop-row.by_key rows i row c.loop-row-test.true c.row-item.is (tested ∙ w.if-is_wanted.false) c.loop-row.invariant)
-    ]
+    let seen = c.loop-row.invariant.0 in
+    let row = c.in-Some.row.now in
+    let next = at_next rows c.loop-row.row-iterator c.next.new.self seen row c.loop-row.invariant.1 c.in-Some.ensures.steps in
+    let tested = sym (c.is_wanted.ensures ∙ ap (is_asked_key query heads) c.entry_key-key.ensures) in (
+      seen + 1,
+      next.2,
+      IsByKey-same (is_asked_row query heads) c.loop-row.by_key rows seen row next.0 next.1 (tested ∙ c.if-is_wanted.false) c.loop-row.invariant.2,
+    )
+
+pub returns : goal.returns
+returns c =
+    let rows = c.args.rows.now in
+    let seen = c.loop-row.invariant.0 in
+    subst (λ (all : List Row). IsByKey c.loop-row.by_key (filter (is_asked_row c.args.query.now c.args.heads.now) all))
+    (take_all seen rows (at_end rows c.loop-row.row-iterator seen c.loop-row.invariant.1 c.in-None.ensures.steps.0)) c.loop-row.invariant.2

@@ -1,7 +1,9 @@
 -- The map has the rows so far that are asked for.
-use Rattle.std.proofs.Common.{filter, take}
+use Rattle.std.proofs.Common.{◌≡◌, ℕ, filter, take, drop}
 use Rattle.valuation_report.specs.Grouping.{IsByKey, is_asked_row}
 use Rattle.valuation_report.proofs.grouping.rows_by_key.Given as goal
 
 abbrev pub invariant-loop-row : goal.invariant-loop-row
-invariant-loop-row l = IsByKey l.by_key (filter (is_asked_row l.query l.heads) (take l.row-index l.rows))
+invariant-loop-row l =
+    (seen : ℕ) × (l.row-iterator ≡ drop seen l.rows)
+    × IsByKey l.by_key (filter (is_asked_row l.query l.heads) (take seen l.rows))

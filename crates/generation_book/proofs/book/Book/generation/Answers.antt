@@ -1,6 +1,5 @@
 -- The rows of the generation are the replay of the covered records, of which those up to a moment come first.
-use Rattle.std.proofs.Common.{◌≡◌, ℕ, length, take, filter, ap, ◌∙◌, sym, subst, refl, arith}
-use Rattle.std.proofs.lemmas.List.{take_all}
+use Rattle.std.proofs.Common.{◌≡◌, filter, ap, ◌∙◌, subst, refl}
 use Rattle.generation_book.specs.State.{BookState}
 use Rattle.generation_book.specs.Book.{deeds}
 use Rattle.stock_model.specs.Reports.{is_until, selected}
@@ -18,8 +17,7 @@ returns-clause-selected g c query asked =
     let held = history-records _ _ _ _ _ c.args.self.now.history c.self.invariant.0 told in
     let covers = history-covered _ _ _ _ _ c.args.self.now.history c.self.invariant.0 told in
     let rows = c.in_ok-rows_until.ensures ∙ ap (filter (is_until c.args.until)) c.self.invariant.0.valued in
-    let whole = ap (λ (n : ℕ). take n c.self.inside.heads) c.len.ensures ∙ take_all (length c.self.inside.heads) c.self.inside.heads (omega arith) in
-    let heads = c.in_ok-front.ensures ∙ whole ∙ c.self.invariant.3 in
+    let heads = c.in_ok-share.ensures ∙ c.self.invariant.3 in
     rw (asked, held, covers, rows, heads) refl
 
 pub returns-clause-of_book : goal.returns-clause-of_book

@@ -220,7 +220,7 @@ returns-clause-found g c e held =
     let are = fetched-so front rest c.args.fetched.now comes gone charges uncharged c.requires.1.0 c.as_slice-coming.ensures c.as_slice-gone.ensures
     c.as_slice-charges.ensures c.as_slice-uncharged.ensures in
     let legal = all-legal g.journal n c.requires.1.1.1 in
-    let made : Build = record { movements = c.remove.new.self; base = old.base; target = c.args.fetched.now.upto; gone = c.in_ok-spots.spots; fetches = old.fetches + 1; turns = old.turns + 1 } in
+    let made : Build = record { movements = c.remove.new.self; base = old.base; target = c.args.fetched.now.upto; gone = c.in_ok-spots.spots; fetches = old.fetches + 1; turns = old.turns + 1; published = old.published } in
     let whole : front ++ rest ≡ g.journal = take-append-drop n g.journal in
     found-is front rest old comes gone charges uncharged c.requires.0 are legal c.add.new.self c.in_ok-add.ensures.line
     c.touch.new.self c.in_ok-add.ensures.kept c.in_ok-add.ensures.slots c.touch.ensures c.in_ok-add.ensures.charged
@@ -240,7 +240,7 @@ returns-clause-valued g c e held =
     let are = fetched-so front rest c.args.fetched.now comes gone charges uncharged c.requires.1.0 c.as_slice-coming.ensures c.as_slice-gone.ensures
     c.as_slice-charges.ensures c.as_slice-uncharged.ensures in
     let legal = all-legal g.journal n c.requires.1.1.1 in
-    let made : Build = record { movements = c.remove.new.self; base = old.base; target = c.args.fetched.now.upto; gone = c.in_ok-spots.spots; fetches = old.fetches + 1; turns = old.turns + 1 } in
+    let made : Build = record { movements = c.remove.new.self; base = old.base; target = c.args.fetched.now.upto; gone = c.in_ok-spots.spots; fetches = old.fetches + 1; turns = old.turns + 1; published = old.published } in
     let whole : front ++ rest ≡ g.journal = take-append-drop n g.journal in
     valued-is front rest old comes gone charges uncharged c.requires.0 are legal c.add.new.self c.in_ok-add.ensures.line
     c.touch.new.self c.in_ok-add.ensures.kept c.in_ok-add.ensures.slots c.touch.ensures c.in_ok-add.ensures.charged
@@ -260,7 +260,7 @@ returns-clause-touched g c e held =
     let are = fetched-so front rest c.args.fetched.now comes gone charges uncharged c.requires.1.0 c.as_slice-coming.ensures c.as_slice-gone.ensures
     c.as_slice-charges.ensures c.as_slice-uncharged.ensures in
     let legal = all-legal g.journal n c.requires.1.1.1 in
-    let made : Build = record { movements = c.remove.new.self; base = old.base; target = c.args.fetched.now.upto; gone = c.in_ok-spots.spots; fetches = old.fetches + 1; turns = old.turns + 1 } in
+    let made : Build = record { movements = c.remove.new.self; base = old.base; target = c.args.fetched.now.upto; gone = c.in_ok-spots.spots; fetches = old.fetches + 1; turns = old.turns + 1; published = old.published } in
     let whole : front ++ rest ≡ g.journal = take-append-drop n g.journal in
     touched-is front rest old comes gone charges uncharged c.requires.0 are legal c.add.new.self c.in_ok-add.ensures.line
     c.touch.new.self c.in_ok-add.ensures.kept c.in_ok-add.ensures.slots c.touch.ensures c.in_ok-add.ensures.charged
@@ -280,7 +280,7 @@ returns-clause-of g c =
     let are = fetched-so front rest c.args.fetched.now comes gone charges uncharged c.requires.1.0 c.as_slice-coming.ensures c.as_slice-gone.ensures
     c.as_slice-charges.ensures c.as_slice-uncharged.ensures in
     let legal = all-legal g.journal n c.requires.1.1.1 in
-    let made : Build = record { movements = c.remove.new.self; base = old.base; target = c.args.fetched.now.upto; gone = c.in_ok-spots.spots; fetches = old.fetches + 1; turns = old.turns + 1 } in
+    let made : Build = record { movements = c.remove.new.self; base = old.base; target = c.args.fetched.now.upto; gone = c.in_ok-spots.spots; fetches = old.fetches + 1; turns = old.turns + 1; published = old.published } in
     let whole : front ++ rest ≡ g.journal = take-append-drop n g.journal in
     let spots : made.gone.items ≡ old.gone.items ++ map spot_of_entry (filter (is_old (base_of old)) gone) =
     c.in_ok-spots.ensures ∙ ap (λ (s : List Spot). s ++ map spot_of_entry (filter (is_old (base_of old)) gone)) c.deref.ensures.value in

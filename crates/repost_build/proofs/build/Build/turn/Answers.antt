@@ -47,7 +47,7 @@ pub returns-clause-of : goal.returns-clause-of
 returns-clause-of g c =
     let old = c.args.self.now in
     let s = c.in_ok-entry.field-0.now in
-    let new : Build = record { movements = c.value.new.self; base = old.base; target = old.target; gone = old.gone; fetches = old.fetches; turns = old.turns + 1 } in
+    let new : Build = record { movements = c.value.new.self; base = old.base; target = old.target; gone = old.gone; fetches = old.fetches; turns = old.turns + 1; published = old.published } in
     let is = sym c.in_ok-entry.ensures.first in
     let v = c.value_entry-valued.result in
     let t = taken_of c.taken_over-taken.result in
@@ -62,7 +62,7 @@ pub returns-clause-turned : goal.returns-clause-turned
 returns-clause-turned g c =
     let old = c.args.self.now in
     let s = c.in_ok-entry.field-0.now in
-    let new : Build = record { movements = c.value.new.self; base = old.base; target = old.target; gone = old.gone; fetches = old.fetches; turns = old.turns + 1 } in
+    let new : Build = record { movements = c.value.new.self; base = old.base; target = old.target; gone = old.gone; fetches = old.fetches; turns = old.turns + 1; published = old.published } in
     turned-build g.journal old new s c.value_entry-valued.result (taken_of c.taken_over-taken.result) c.spread.new.self c.requires.1
     (sym c.in_ok-entry.ensures.first) c.taken_over-taken.ensures.taken
     (found-with c.value_entry-valued.result (taken_of c.taken_over-taken.result) s.entry c.value_entry-valued.ensures.value
