@@ -157,11 +157,11 @@ fn waits<K: Keeper>(alloc: Global, book: &Book<K>) -> bool {
 type Sizes = (RecordNo, usize, usize);
 
 fn sizes(chosen: &Selected) -> Sizes {
-    (
-        chosen.covered,
-        chosen.rows.items().count(),
-        chosen.heads.len(),
-    )
+    let mut rows: usize = 0;
+    for _ in chosen.rows.items() {
+        rows = rows.saturating_add(1);
+    }
+    (chosen.covered, rows, chosen.heads.len())
 }
 
 // The record of each movement, and its value.

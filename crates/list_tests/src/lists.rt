@@ -100,10 +100,11 @@ fn digits(list: &SharedBlocks<u32>) -> u32 {
 
 // The first four items as digits, or none where there are fewer.
 fn first_four(list: &SharedBlocks<u32>) -> Result<u32, NoMemory> {
-    if list.items().count() < 4 {
-        return Ok(0);
+    let mut items = list.items();
+    match (items.next(), items.next(), items.next(), items.next()) {
+        (Some(_), Some(_), Some(_), Some(_)) => Ok(digits(&list.front(4)?)),
+        _ => Ok(0),
     }
-    Ok(digits(&list.front(4)?))
 }
 
 #[test]
