@@ -71,7 +71,7 @@ publish-requires-clause-changed c =
     let all : take accepted journal ≡ journal = take_all accepted journal (omega (arith, count)) in
     let gone : spots ≡ map spot_of_entry (going (take covered journal) (drop covered journal)) =
     c.as_slice-2.ensures ∙ c.in_ok-gone.ensures ∙ ap (map spot_of_entry) (c.as_slice.ensures ∙ c.in_ok-fetched.ensures.gone) in
-    let are = AreChanges-all journal covered rows spots (omega (arith, count, c.if-covered-accepted.false)) (c.as_slice-changed.ensures ∙ c.in_ok-rows.ensures ∙ c.in_ok-replayed.ensures) gone in
+    let are = AreChanges-all journal covered rows spots (omega (arith, count, c.if-covered-accepted.false)) (c.as_slice-changed.ensures ∙ c.in_ok-block.ensures ∙ c.in_ok-replayed.ensures) gone in
     subst (λ (first : List Record). AreChanges first (history.covered told) rows spots) (sym all)
     (subst (λ (n : ℕ). AreChanges journal n rows spots) c.covered-covered.ensures.covered are)
 
@@ -80,4 +80,4 @@ publish-requires-clause-rows c =
     let journal : List Record = history.records c.args.book.now.history in
     let accepted = c.accepted-accepted.result.0 in
     let all : take accepted journal ≡ journal = take_all accepted journal (omega (arith, c.accepted-accepted.ensures.accepted)) in
-    c.in_ok-rows.ensures ∙ c.in_ok-replayed.ensures ∙ ap replay (sym all)
+    c.in_ok-rows.ensures ∙ c.in_ok-block.ensures ∙ c.in_ok-replayed.ensures ∙ ap replay (sym all)
