@@ -64,7 +64,7 @@ impl<'a, R: Wait> EndingWriter<'a, R> {
 
     /// Who shows.
     pub fn into_writer(self) -> MirrorWriter
-        ensures { result ≡ self.writer }
+        ensures { result ≡ self.entry.writer }
     {
         let Self { rt: _, writer } = self;
         writer

@@ -163,10 +163,10 @@ fn work<'a, L: Ledger, R: Wait>(
     requires name { blank.name ≡ L.name }
     requires parts { blank.parts ≡ L.parts }
     requires some_parts { 0 < L.parts }
-    ensures same_lock { result.0.lock ≡ worker.pass.lock }
+    ensures same_lock { result.0.lock ≡ worker.entry.pass.lock }
     ensures zero { result.0.view.number ≡ 0 }
-    ensures split { result.0.view.split ≡ worker.pass.view.split }
-    ensures joined { result.0.view.joined ≡ worker.pass.view.joined }
+    ensures split { result.0.view.split ≡ worker.entry.pass.view.split }
+    ensures joined { result.0.view.joined ≡ worker.entry.pass.view.joined }
 {
     let Worker {
         pass,
@@ -248,10 +248,10 @@ fn in_threads<'a, L: Ledger + Send, R: Threads + Wait + Sync>(
     requires name { blank.name ≡ L.name }
     requires parts { blank.parts ≡ L.parts }
     requires some_parts { 0 < L.parts }
-    ensures same_lock { (result.0.0.lock ≡ worker.pass.lock) × (result.1.0.lock ≡ desk.pass.lock) }
+    ensures same_lock { (result.0.0.lock ≡ worker.entry.pass.lock) × (result.1.0.lock ≡ desk.pass.lock) }
     ensures zero { result.0.0.view.number ≡ 0 }
-    ensures split { result.0.0.view.split ≡ worker.pass.view.split }
-    ensures joined { result.0.0.view.joined ≡ worker.pass.view.joined }
+    ensures split { result.0.0.view.split ≡ worker.entry.pass.view.split }
+    ensures joined { result.0.0.view.joined ≡ worker.entry.pass.view.joined }
 {
     thread::join(
         rt,

@@ -17,3 +17,11 @@ run_mirrored-pass-requires-clause-work g c =
     subst (λ (h : List Deed). IsWorkOf h parts.result.1)
     (sym (ap (λ (v : View Deed). without_makers v.seen) c.in-Ok.ensures.pass ∙ without_makers-with_makers parts.result.0.history))
     parts.ensures.work
+
+pub run_mirrored-pass-requires-clause-shown : goal.run_mirrored-pass-requires-clause-shown
+run_mirrored-pass-requires-clause-shown g c =
+    let held : List Deed = c.into_parts-book.result.0.history in
+    let records : List Record = covered_records held in
+    subst (λ (h : List Deed). BeginsWith (covered_records h) c.in-Some.field-0.writer)
+    (sym (ap (λ (v : View Deed). without_makers v.seen) c.in-Ok.ensures.pass ∙ without_makers-with_makers held))
+    (subst (BeginsWith records) (sym c.in-Some.ensures) (begins_self records))
