@@ -1,5 +1,5 @@
 -- A pass that a lock is made with has seen the history of its book, of which the mirror shows what is covered.
-use Rattle.std.proofs.Common.{◌≡◌, List, sym, ap, ◌∙◌, subst}
+use Rattle.std.proofs.Common.{List, sym, ap, ◌∙◌, subst}
 use Rattle.stock_model.specs.History.{covered_records}
 use Rattle.stock_model.specs.declared.deeds.Deed.{Deed}
 use Rattle.stock_model.specs.declared.records.Record.{Record}
