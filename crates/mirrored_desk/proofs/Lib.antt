@@ -1,1 +1,3 @@
 pub mod InSteps
+pub mod Repeating
+pub mod SameQueries

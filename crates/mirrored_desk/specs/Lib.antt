@@ -1,2 +1,3 @@
 pub mod Exchanging
+pub mod Kept
 pub mod Served

@@ -12,14 +12,14 @@ ghost use Rattle.desk_server.specs.Exchanging.{LeavesRest, IsAskedAs};
 ghost use Rattle.desk_server.specs.Responding.{bytes_of};
 ghost use Rattle.mirrored_desk.specs.Exchanging.{known, RespondsInStep};
 
+use crate::report_reader::{Found, ReportReader, Responded};
 use desk_server::exchanging::answer_read;
-use desk_server::responding::{Response, response_to};
+use desk_server::responding::Response;
 use generation_book::book::Book;
-use report_mirror::reader::{Looked, MirrorReader, Mirrored};
+use report_mirror::reader::Mirrored;
 use std::alloc::Global;
 use std::sync::Wait;
 use stock_keeper::keeper::Keeper;
-use stock_model::answers::Answer;
 use stock_model::queries::{Query, Selected};
 use stock_model::read_faults::ReadFault;
 use stock_model::requests::Request;
@@ -34,7 +34,7 @@ use voucher_json::reading::read_request;
 #[derive(Drop)]
 pub struct SessionState<K: Keeper> {
     pub pass: Pass<Book<K>>,
-    pub reader: MirrorReader,
+    pub reader: ReportReader,
     pub printed: RecordNo,
 }
 
@@ -125,7 +125,7 @@ fn report<K: Keeper, R: Wait>(
         reader,
         printed,
     } = state;
-    let Looked { reader, found } = reader.report(rt, &query, printed);
+    let Found { reader, found } = reader.look(rt, &query, printed);
     let state = SessionState {
         pass,
         reader,
@@ -156,12 +156,13 @@ fn show<K: Keeper>(
         (IsAskedAs (Ok (request.Report query))) close (bytes_of result.response) }
 {
     let covered = selected.covered;
-    let answer = Answer::Shown { query, selected };
-    let response = response_to(alloc, &state.pass, &answer, close);
+    let Responded { reader, response } = state
+        .reader
+        .respond(alloc, &state.pass, query, selected, close);
     Exchanged {
         state: SessionState {
             pass: state.pass,
-            reader: state.reader,
+            reader,
             printed: covered,
         },
         response,

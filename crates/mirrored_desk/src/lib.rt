@@ -2,5 +2,7 @@
 #![tactic(auto)]
 
 pub mod exchanging;
+mod last_report;
+pub mod report_reader;
 mod serving;
 pub mod session;

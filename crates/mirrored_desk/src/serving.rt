@@ -12,13 +12,12 @@ ghost use Rattle.mirrored_desk.specs.Exchanging.{known, RespondsInStep};
 ghost use Rattle.mirrored_desk.specs.Served.{ServesMirrored};
 
 use crate::exchanging::{SessionState, exchange};
-use crate::session::Left;
+use crate::report_reader::ReportReader;
 use desk_server::session::{BYTE_LIMIT, End};
 use desk_server::writing::{end_at, write_response};
 use desk_wire::heard::{Heard, Request};
 use desk_wire::inbox::Inbox;
 use generation_book::book::Book;
-use report_mirror::reader::MirrorReader;
 use std::alloc::Global;
 use std::sync::Wait;
 use stock_io::link::Link;
@@ -26,6 +25,14 @@ use stock_keeper::keeper::Keeper;
 use stock_nums::numbers::{DeskNo, RecordNo};
 use turn_lock::lock::TurnLock;
 use turn_lock::pass::Pass;
+
+/// What the requests of a peer leave: the desk's pass, its reader of the mirror, and the session's end.
+#[derive(Drop)]
+pub struct Served<K: Keeper> {
+    pub pass: Pass<Book<K>>,
+    pub reader: ReportReader,
+    pub end: End,
+}
 
 // What one more request leaves: where the session stands, and its end if it has come.
 #[derive(Drop)]
@@ -40,11 +47,11 @@ pub fn serve_requests<K: Keeper, P: Link, R: Wait>(
     alloc: Global,
     lock: &TurnLock<Book<K>>,
     pass: Pass<Book<K>>,
-    reader: MirrorReader,
+    reader: ReportReader,
     desk: DeskNo,
     mut inbox: Inbox,
     link: &mut P,
-) -> Left<K>
+) -> Served<K>
     requires same_lock { pass.lock ≡ lock.now.lock }
     requires number { desk.0 ≡ pass.view.number }
     requires desk { desk.0 ≤ MAX_DESK }
@@ -64,7 +71,7 @@ pub fn serve_requests<K: Keeper, P: Link, R: Wait>(
     for _ in rt.forever() {
         match inbox.hear(link) {
             Err(_) => {
-                return Left {
+                return Served {
                     pass: state.pass,
                     reader: state.reader,
                     end: End::ReadFault,
@@ -72,7 +79,7 @@ pub fn serve_requests<K: Keeper, P: Link, R: Wait>(
             }
             Ok(Heard::Last(stop)) => {
                 let end = end_at(link, stop, inbox.bytes().len());
-                return Left {
+                return Served {
                     pass: state.pass,
                     reader: state.reader,
                     end,
@@ -81,7 +88,7 @@ pub fn serve_requests<K: Keeper, P: Link, R: Wait>(
             Ok(Heard::Next(request)) => {
                 let answered = answer_next(rt, alloc, lock, state, desk, &mut inbox, request, link);
                 if let Some(end) = answered.end {
-                    return Left {
+                    return Served {
                         pass: answered.state.pass,
                         reader: answered.state.reader,
                         end,

@@ -1,10 +1,12 @@
 //! A session with a mirror: what a peer asks over its connection, answered until one of both ends it.
 ghost use Rattle.std.specs.Prelude.{◌≡◌, ◌^◌, ◌≤◌, true, length};
 ghost use Rattle.stock_nums.specs.declared.limits.TheConstants.{MAX_DESK};
+ghost use Rattle.desk_wire.specs.Waiting.{nothing_waits};
 ghost use Rattle.desk_server.specs.Exchanging.{LeavesRest};
 ghost use Rattle.desk_server.specs.Served.{IsServedOpen};
 ghost use Rattle.mirrored_desk.specs.Served.{ServesMirrored};
 
+use crate::report_reader::ReportReader;
 use crate::serving::serve_requests;
 use desk_server::session::{BYTE_LIMIT, End};
 use desk_wire::inbox::Inbox;
@@ -82,11 +84,42 @@ fn serve<K: Keeper, P: Link, R: Wait>(
         link.old link.new result.end }
 {
     match Inbox::new(alloc, BYTE_LIMIT) {
-        Ok(inbox) => serve_requests(rt, alloc, lock, pass, reader, desk, inbox, link),
+        Ok(inbox) => serve_with(rt, alloc, lock, pass, reader, desk, inbox, link),
         Err(NoMemory) => Left {
             pass,
             reader,
             end: End::NoMemory,
         },
+    }
+}
+
+// Serves a peer of whom nothing waits, with a reader that showed it nothing yet.
+fn serve_with<K: Keeper, P: Link, R: Wait>(
+    rt: &R,
+    alloc: Global,
+    lock: &TurnLock<Book<K>>,
+    pass: Pass<Book<K>>,
+    reader: MirrorReader,
+    desk: DeskNo,
+    inbox: Inbox,
+    link: &mut P,
+) -> Left<K>
+    requires same_lock { pass.lock ≡ lock.now.lock }
+    requires number { desk.0 ≡ pass.view.number }
+    requires desk { desk.0 ≤ MAX_DESK }
+    requires few_turns { length pass.view.stops ≤ 2 ^ 56 }
+    requires new { inbox ≡ nothing_waits BYTE_LIMIT }
+    ensures same_lock { result.pass.lock ≡ pass.lock }
+    ensures rest { LeavesRest pass.view result.pass.view }
+    ensures still_open { P.ended link.new ≡ P.ended link.old }
+    ensures serves { ServesMirrored P.left P.taken P.written P.Source.faults desk.0 pass.view result.pass.view reader result.reader
+        link.old link.new result.end }
+{
+    let reader = ReportReader::new(reader);
+    let served = serve_requests(rt, alloc, lock, pass, reader, desk, inbox, link);
+    Left {
+        pass: served.pass,
+        reader: served.reader.into_reader(),
+        end: served.end,
     }
 }
